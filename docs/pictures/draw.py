@@ -1,11 +1,13 @@
 #!/usr/bin/env python3
-"""Draws the pictures of this folder: five answers, from the scripts and reports of examples/ and of the guide, and the architecture.
+"""Draws the pictures of this folder: five answers, from the scripts and reports of examples/ and of the guide, the architecture, and the floors
+of crates.txt.
 
 With --check nothing is written: it tells which pictures aren't what it would draw, and ends with status 1 if there is one.
 """
 
 import ast
 import math
+import re
 import sys
 from fractions import Fraction
 from pathlib import Path
@@ -395,7 +397,59 @@ def architecture():
     return picture
 
 
-PICTURES = {"architecture": architecture, "flow": flow, "quantiles": quantiles, "region": region, "spans": spans, "trajectory": trajectory}
+# ---- the floors
+def floors():
+    """The floors of crates.txt as rows, with their crates, and which floors each one's crates name: arrows go down only."""
+    rows, below = [], {}
+    for line in (HERE.parent.parent / "crates.txt").read_text().splitlines():
+        heading = re.match(r"# (\w+): (.*)", line)
+        if heading:
+            rows.append((heading.group(1), heading.group(2).rstrip("."), []))
+        elif line.startswith("dcx"):
+            crate, _, named = line.partition(":")
+            rows[-1][2].append(crate)
+            below[crate] = named.split()
+    rows.reverse()
+    row_of = {crate: i for i, (_, _, crates) in enumerate(rows) for crate in crates}
+    # The crates of a floor, without their common front, in lines that fit.
+    told = []
+    for name, does, crates in rows:
+        lines = [""]
+        for crate in crates:
+            short = crate.removeprefix("dcx_")
+            lines = lines + [short] if len(lines[-1]) + len(short) > 96 else lines[:-1] + [f"{lines[-1]}   {short}".strip()]
+        told.append((name, does, lines))
+    tops, y = [], 40
+    for _, _, lines in told:
+        tops.append(y)
+        y += 52 + 17 * len(lines)
+    picture = Picture("The floors of the crates, and which floors each one stands on", 800, y + 2)
+    picture.words(16, 24, "crates of each floor, without dcx_", "start", 12, GREY)
+    picture.words(784, 24, "stands on", "end", 12, GREY)
+    right, step = 606, 17
+    lane_of = [right + step * (len(rows) - 1 - i) for i in range(len(rows))]
+    for i, (name, does, lines) in enumerate(told):
+        height = 38 + 17 * len(lines)
+        picture.put("rect", x=16, y=tops[i], width=right - 16, height=height, rx=5, fill="#f6f8fa", stroke=INK)
+        picture.words(28, tops[i] + 19, name, "start", 13, INK, font_weight="bold")
+        picture.words(118, tops[i] + 19, does, "start", 11, GREY)
+        for k, line in enumerate(lines):
+            picture.words(28, tops[i] + 39 + 17 * k, line, "start", 12, COLOURS[0], style="white-space:pre")
+    for i, (_, _, crates) in enumerate(rows):
+        named = sorted({row_of[one] for crate in crates for one in below[crate] if one in row_of} - {i})
+        if named:
+            start = tops[i] + 38
+            picture.path([(right, start), (lane_of[i], start), (lane_of[i], tops[named[-1]] + 15)], GREY, stroke_width=1.2)
+        for j in named:
+            picture.put("circle", cx=lane_of[i], cy=tops[j] + 15, r=2.6, fill=COLOURS[2])
+    for j in range(len(rows)):
+        from_lanes = [lane_of[i] for i, (_, _, crates) in enumerate(rows) if i != j and any(row_of.get(one) == j for crate in crates for one in below[crate])]
+        if from_lanes:
+            picture.arrow((max(from_lanes), tops[j] + 15), (right, tops[j] + 15), COLOURS[2])
+    return picture
+
+
+PICTURES = {"architecture": architecture, "floors": floors, "flow": flow, "quantiles": quantiles, "region": region, "spans": spans, "trajectory": trajectory}
 
 
 def main():

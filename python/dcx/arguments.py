@@ -10,7 +10,7 @@ from .errors import SolverError, UnsupportedError
 from .numbers import exact
 from .sites import Site
 
-__all__ = ["Arguments", "SOLVERS", "box", "pivots"]
+__all__ = ["Arguments", "SOLVERS", "box", "pivots", "seconds_of", "trust_of"]
 
 # the names of solvers are the words of CVXPY that say their own name
 SOLVERS = frozenset(word for word in statuses.__all__ if getattr(statuses, word) == word)
@@ -80,23 +80,17 @@ class Arguments:
         elif name in _PIVOTS:
             self.options += pivots(value)
         elif name in _SECONDS:
-            if value is not None and not value > 0:
-                raise ValueError(f"{name} is a number of seconds above 0, and not {value!r}")
-            self.time_limit = value
+            self.time_limit = seconds_of(value, name)
         elif name == "enforce_dpp":
             self.enforce_dpp = bool(value)
         elif name == "exact":
             self.exact = bool(value)
         elif name == "trust":
-            if value not in (None, "python"):
-                raise ValueError(f'trust is "python" or None, and not {value!r}')
-            self.trust = value
+            self.trust = trust_of(value)
         elif name == "box":
             self.box = box(value)
         elif name == "program_seconds":
-            if not value > 0:
-                raise ValueError(f"program_seconds is a number of seconds above 0, and not {value!r}")
-            self.program_seconds = value
+            self.program_seconds = seconds_of(value, name)
         elif name in _NODES:
             if value is not None and (isinstance(value, bool) or int(value) != value or value < 1):
                 raise ValueError(f"{name} is a whole number from 1, and not {value!r}")
@@ -121,6 +115,20 @@ def box(value: Any) -> Optional[Fraction]:
     if found is not None and found <= 0:
         raise ValueError(f"box is a number above 0, and not {value!r}")
     return found
+
+
+def trust_of(value: Optional[str]) -> Optional[str]:
+    """Whose word is enough. Raises `ValueError` where it is neither "python" nor None."""
+    if value not in (None, "python"):
+        raise ValueError(f'trust is "python" or None, and not {value!r}')
+    return value
+
+
+def seconds_of(value: Optional[float], name: str = "time_limit") -> Optional[float]:
+    """A limit of time. Raises `ValueError` where it is no number of seconds above 0."""
+    if value is not None and not value > 0:
+        raise ValueError(f"{name} is a number of seconds above 0, and not {value!r}")
+    return value
 
 
 def pivots(value: Optional[int]) -> list[str]:

@@ -6,13 +6,14 @@ from fractions import Fraction
 from . import arrays, evaluation, shapes, sites
 from .arrays import Array
 from .errors import UnsupportedError
-from .expressions import Expression, as_expression, leaves_of, next_number
+from .expressions import Expression, as_expression, next_number
+from .trees import Made, Sided
 
 _TRUTH = ("Cannot evaluate the truth value of a constraint or chain constraints, e.g., 1 >= x >= 0: write two "
           "constraints, [x >= 0, x <= 1]")
 
 
-class Constraint:
+class Constraint(Sided, Made):
     """`args[0] <= args[1]` or `args[0] == args[1]`, entry by entry: `op` is the sign between them.
 
     `a >= b` is recorded as `b <= a`; `is_turned` tells so, and texts show what the user wrote. `dual_value` has the
@@ -38,31 +39,12 @@ class Constraint:
     # ---- shapes and parts
 
     @property
-    def size(self) -> int:
-        """How many entries there are."""
-        return arrays.size_of(self.shape)
-
-    @property
-    def ndim(self) -> int:
-        """How many sides there are."""
-        return len(self.shape)
-
-    @property
     def expr(self) -> Expression:
         """The left side less the right one: what is to be 0, or at most 0."""
         return self.args[0] - self.args[1]
 
-    def variables(self) -> list:
-        """The variables of both sides."""
-        return leaves_of(self.args, "variable")
-
-    def parameters(self) -> list:
-        """The parameters of both sides."""
-        return leaves_of(self.args, "parameter")
-
-    def constants(self) -> list:
-        """The constants of both sides."""
-        return leaves_of(self.args, "constant")
+    def _roots(self) -> list:
+        return list(self.args)
 
     def name(self) -> str:
         """The constraint as text, as it was written."""

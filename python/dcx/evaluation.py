@@ -7,6 +7,7 @@ from typing import Callable, Sequence
 
 from . import indices, shapes
 from .arrays import ZERO, Array, Sparse, size_of, transposed
+from .trees import postorder
 
 # beyond so many bits a common denominator costs more than it saves
 _COMMON_BITS = 2048
@@ -14,7 +15,6 @@ _COMMON_BITS = 2048
 
 def value_of(root) -> Array | Sparse | None:
     """The value, or None where a variable or a parameter has none. ZeroDivisionError where a divisor is 0."""
-    from .expressions import postorder
     values: dict = {}
     for item in postorder([root]):
         if not item.args:

@@ -8,13 +8,14 @@ from . import arrays, shapes, sites
 from .arrays import Array, Sparse
 from .errors import UnsupportedError
 from .questions import Questions
+from .trees import Made, Sided
 
 _numbers = itertools.count(1)
 _COMPARED = ("Python's own max, min and sorted compare so: in their place stand cp.maximum(a, b), cp.minimum(a, b), "
              "cp.max(x), cp.min(x)")
 
 
-class Expression(Questions):
+class Expression(Questions, Sided, Made):
     """A node of the tree.
 
     `kind` names a form of the program's language, `args` are the expressions that it is made of, `options` what else it
@@ -36,16 +37,6 @@ class Expression(Questions):
         self._known = None
 
     # ---- shapes
-
-    @property
-    def size(self) -> int:
-        """How many entries there are."""
-        return arrays.size_of(self.shape)
-
-    @property
-    def ndim(self) -> int:
-        """How many sides there are."""
-        return len(self.shape)
 
     def is_scalar(self) -> bool:
         """Whether there is one entry."""
@@ -78,21 +69,8 @@ class Expression(Questions):
 
     # ---- what it is made of
 
-    def variables(self) -> list:
-        """The variables that stand in it, each once, in the order in which they are met."""
-        return leaves_of([self], "variable")
-
-    def parameters(self) -> list:
-        """The parameters that stand in it, each once, in the order in which they are met."""
-        return leaves_of([self], "parameter")
-
-    def constants(self) -> list:
-        """The constants that stand in it, each once, in the order in which they are met."""
-        return leaves_of([self], "constant")
-
-    def atoms(self) -> list:
-        """The kinds of what it is made of, each once, as the program's language names them."""
-        return list(dict.fromkeys(node.kind for node in postorder([self]) if node.args))
+    def _roots(self) -> list:
+        return [self]
 
     def name(self) -> str:
         """The expression as text, shortened where it is long."""
@@ -342,15 +320,16 @@ class Constant(Expression):
 def refuse_lists_of_expressions(value) -> None:
     """ValueError where a list or an array of objects holds an expression, where one expression is wanted."""
     if isinstance(value, (list, tuple)):
-        items = value
+        items, hint = value, ""
     elif getattr(getattr(value, "dtype", None), "kind", "") == "O" and getattr(value, "shape", ()):
         items = arrays.numpy().asarray(value).reshape(-1)
+        hint = " An array's own A.dot(x) makes an array of expressions: write A @ x."
     else:
         return
     for item in items:
         if isinstance(item, Expression):
             raise ValueError("The input must be a single expression, not a list. Combine expressions using atoms such "
-                             "as bmat, hstack, and vstack.")
+                             f"as bmat, hstack, and vstack.{hint}")
         if isinstance(item, (list, tuple)):
             refuse_lists_of_expressions(item)
 
@@ -383,29 +362,6 @@ def node(kind: str, args: Sequence[Expression], options: tuple, shape: Sequence[
     if 0 in shape:
         return Constant(Array(shape, ()))
     return Compound(kind, args, options, shape)
-
-
-def postorder(roots: Sequence[Expression]) -> Iterator[Expression]:
-    """Every node under these, each object once, behind what it is made of. Trees may be deeper than Python's stack."""
-    seen: set = set()
-    for root in roots:
-        stack = [(root, False)]
-        while stack:
-            item, is_open = stack.pop()
-            if is_open:
-                yield item
-            elif id(item) not in seen:
-                seen.add(id(item))
-                if not item.args:
-                    yield item
-                    continue
-                stack.append((item, True))
-                stack.extend((arg, False) for arg in reversed(item.args))
-
-
-def leaves_of(roots: Sequence[Expression], kind: str) -> list:
-    """The leaves of a kind under these, each once, in the order in which they are met."""
-    return [item for item in postorder(roots) if item.kind == kind]
 
 
 def next_number() -> int:

@@ -12,13 +12,13 @@ from typing import Any, Iterable, Optional, Union
 
 from .arrays import ZERO, Array, Sparse, size_of, transposed
 
-__all__ = ["Graph", "Part", "MOST"]
+__all__ = ["Graph", "Part", "MOST", "PLAIN"]
 
 MOST = 20_000  # of nodes, and of entries over all nodes (docs/LANGUAGE.md, "Limits")
 _WIDE = 1_000  # a matrix that isn't stored as a sparse one is looked at for zeros from so many entries on
 
 # what gives a plain value of plain values
-_PLAIN = {"+", "-", "*", "/", "@", "minus", "T", "index"}
+PLAIN = {"+", "-", "*", "/", "@", "minus", "T", "index"}
 
 
 class Part:
@@ -35,7 +35,7 @@ class Part:
         self.shape = shape
         self.source = source
         self.uses = 0
-        self.plain = kind == "constant" or (kind in _PLAIN and all(arg.plain for arg in args))
+        self.plain = kind == "constant" or (kind in PLAIN and all(arg.plain for arg in args))
 
     @property
     def size(self) -> int:

@@ -8,11 +8,12 @@ from typing import Any, Optional
 from . import sites
 from .errors import DCPError
 from .expressions import Expression, as_expression
+from .trees import Made
 
 __all__ = ["Maximize", "Minimize", "Objective"]
 
 
-class Objective:
+class Objective(Made):
     """An expression of one entry that is to be least or greatest. `args` holds the expression, `site` the user's
     line.
 
@@ -52,21 +53,8 @@ class Objective:
         array = self.expr._array()
         return None if array is None else array.dense().entries[0]
 
-    def variables(self) -> list:
-        """The variables of the expression."""
-        return self.expr.variables()
-
-    def parameters(self) -> list:
-        """The parameters of the expression."""
-        return self.expr.parameters()
-
-    def constants(self) -> list:
-        """The constants of the expression."""
-        return self.expr.constants()
-
-    def atoms(self) -> list:
-        """The calls of the expression."""
-        return self.expr.atoms()
+    def _roots(self) -> list:
+        return [self.expr]
 
     def is_dcp(self, dpp: bool = False) -> bool:
         """Whether the rules accept the objective; with `dpp` also where its parameters may vary."""

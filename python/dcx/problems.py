@@ -2,52 +2,26 @@
 
 from __future__ import annotations
 
-import time
 import warnings
-from fractions import Fraction
 from typing import Any, Callable, Iterable, Mapping, NamedTuple, Optional
 
-from . import program, sites
+from . import sites
+from .answered import Answered, Solution, SolverStats
 from .arguments import Arguments
-from .certificates import CertificateError
 from .constraints import Constraint
-from .errors import DCPError, DPPError, SolverError, UnsupportedError
-from .expressions import Constant, leaves_of, postorder
+from .errors import DCPError, UnsupportedError
+from .expressions import Constant
 from .objectives import Maximize, Objective
-from .refusals import read, stopped
-from .reports import Verdict, read_report
-from .results import Farkas, Ray, Result
+from .results import Result
 from .scripts import Script, written
-from .shown import fallback
-from .shown.intervals import Interval
+from .trees import Made
 
 __all__ = ["Problem", "SizeMetrics", "Solution", "SolverStats"]
 
 _NEVER = (
     "One of the constraints is False, so nothing is feasible. NumPy says False where an array of expressions stands "
-    "beside `==`: write cp.hstack(array) == numbers."
+    "beside `==`: write cp.hstack(array) == numbers. An array's own A.dot(x) makes such an array: write A @ x."
 )
-
-
-class SolverStats(NamedTuple):
-    """How a solve went: the name of the one solver there is, the seconds that its run took, and of a search for whole
-    numbers `extra_stats["nodes"]`. What a run doesn't count is None."""
-
-    solver_name: str
-    solve_time: Optional[float] = None
-    setup_time: Optional[float] = None
-    num_iters: Optional[int] = None
-    extra_stats: Optional[dict] = None
-
-
-class Solution(NamedTuple):
-    """An answer, with the values of the variables and the multipliers of the constraints by their `id`."""
-
-    status: str
-    opt_val: Optional[float]
-    primal_vars: dict[int, Any]
-    dual_vars: dict[int, Any]
-    attr: dict
 
 
 class SizeMetrics(NamedTuple):
@@ -59,7 +33,7 @@ class SizeMetrics(NamedTuple):
     num_scalar_leq_constr: int
 
 
-class Problem:
+class Problem(Answered, Made):
     """An objective, `Minimize(..)` or `Maximize(..)`, and a list of constraints. Neither changes once the problem is
     made.
 
@@ -72,6 +46,7 @@ class Problem:
     """
 
     def __init__(self, objective: Objective, constraints: Optional[Iterable[Any]] = None):
+        super().__init__()
         self.site = sites.here()
         if not isinstance(objective, Objective):
             raise DCPError("Problem objective must be Minimize or Maximize.", self.site)
@@ -80,11 +55,7 @@ class Problem:
         self._objective = objective
         self._constraints = [_constraint(item) for item in (() if constraints is None else constraints)]
         self._script: Optional[Script] = None
-        self._verdict: Optional[tuple[bool, Optional[Verdict]]] = None
-        self._result: Optional[Result] = None
-        self._report: Optional[bytes] = None
-        self._asked: Optional[str] = None
-        self._progress: Any = None
+        self._verdict: Any = None
         self._arguments_told = False
 
     # -- what the problem is made of
@@ -98,22 +69,6 @@ class Problem:
     def constraints(self) -> list[Constraint]:
         """The constraints, in a list of its own: a longer list makes no longer problem."""
         return list(self._constraints)
-
-    def variables(self) -> list:
-        """The variables, each once, in the order in which they are met."""
-        return leaves_of(self._roots(), "variable")
-
-    def parameters(self) -> list:
-        """The parameters, each once, in the order in which they are met."""
-        return leaves_of(self._roots(), "parameter")
-
-    def constants(self) -> list:
-        """The constants, each once, in the order in which they are met."""
-        return leaves_of(self._roots(), "constant")
-
-    def atoms(self) -> list:
-        """The kinds of expressions that stand in it, each once, as the program's language names them."""
-        return list(dict.fromkeys(node.kind for node in postorder(self._roots()) if node.args))
 
     @property
     def var_dict(self) -> dict[str, Any]:
@@ -141,8 +96,11 @@ class Problem:
     def is_dcp(self, dpp: bool = False) -> bool:
         """Whether the rules accept the problem; with `dpp` also where its parameters may vary, so that a new value is
         put in fast."""
-        accepted, verdict = self._checked()
-        return accepted and (verdict.dpp or not dpp)
+        from . import verdicts
+
+        if self._verdict is None:
+            self._verdict = verdicts.of_problem(self)
+        return self._verdict.is_dpp if dpp else self._verdict.is_dcp
 
     def is_dpp(self, context: str = "dcp") -> bool:
         """Whether the rules accept the problem also where its parameters may vary."""
@@ -155,17 +113,6 @@ class Problem:
         return self.is_dcp()
 
     is_lp = is_qp
-
-    def _checked(self) -> tuple[bool, Optional[Verdict]]:
-        """Whether the rules accept the problem, and what is found of it then."""
-        if self._verdict is None:
-            run = program.run("check", self.written.text)
-            report = read_report(run.report)
-            if report.refusal is not None and report.refusal.name == "NotDcp":
-                self._verdict = (False, None)
-            else:
-                self._verdict = (True, read(run, self.written).verdict)
-        return self._verdict
 
     # -- what is handed over
 
@@ -215,100 +162,9 @@ class Problem:
         it can't be run, `UnsupportedError` where an argument asks for what isn't offered, `TypeError` where one isn't
         known.
         """
-        given = Arguments(solver, arguments)
-        script = self.written
-        settings = script.settings_line()
-        if given.enforce_dpp and not self.is_dpp():
-            reason = "The problem is not DPP: the rules don't accept it where its parameters may vary."
-            raise DPPError(reason, self.site)
-        if verbose:
-            self._say(given)
-        start = time.perf_counter()
-        try:
-            answer, shown = self._answered(settings, given, verbose)
-        except (program.ProgramError, SolverError, CertificateError) as cause:
-            error = given.too_late(cause, self.site) if isinstance(cause, program.TimedOut) else cause
-            self._keep(Result(script, None, self._maximized, error=error))
-            raise error from None
-        except KeyboardInterrupt:
-            error = SolverError("the solve was interrupted", self.site)
-            self._keep(Result(script, None, self._maximized, error=error))
-            raise
-        answer = answer if shown is None else shown.answer
-        self._keep(Result(script, answer, self._maximized, seconds=time.perf_counter() - start, shown=shown))
-        if verbose:
-            value = "" if self.exact is None else f", value {self.value:.10g}, exactly {self.exact}"
-            value = value if self.interval is None else f", {self.interval}"
-            print(f"dcx: {self.status}{value}" + ("" if shown is None else f"; shown by {self.shown_by}"))
-        if self._result.error is not None:
-            raise self._result.error
-        if getattr(shown, "why", None) == "interrupted":
-            raise KeyboardInterrupt
-        return self._result.value
+        from . import solving
 
-    def _answered(self, settings: str, given: Arguments, verbose: bool) -> tuple[Any, Any]:
-        """The program's answer, None where its time passed, and what is shown behind it, None where nothing is."""
-        is_searched = given.exact and self.is_mixed_integer()
-        seconds = given.time_limit
-        if is_searched:
-            from .whole import answering
-
-            seconds = given.program_seconds or min(answering.FIRST, (seconds or 2 * answering.FIRST) / 2)
-        start = time.monotonic()
-        self._report, self._asked, self._progress = None, settings, None
-        why = f"has no answer after {seconds:g} s" if is_searched else ""
-        answer = None
-        try:
-            run = program.run("resolve", self.written.text, settings, options=given.options, timeout=seconds)
-            self._report = run.report
-            answer = read(run, self.written).answers[0]
-            if not is_searched:
-                return answer, self._shown(answer, settings, given, verbose)
-            if not answering.helps(answer.stop, bool(given.options)):
-                return answer, None
-            why = f"stops ({answer.stop.number} {answer.stop.name})"
-        except program.TimedOut:
-            if not is_searched:
-                raise
-        left = answering.SECONDS if given.time_limit is None else given.time_limit - (time.monotonic() - start)
-        if verbose:
-            print(f"dcx: the program {why}; the search for whole numbers has {left:.0f} s")
-
-        def told(progress: Any) -> None:
-            self._progress = progress
-            if verbose:
-                print(f"dcx: {progress}")
-            if given.progress is not None:
-                given.progress(progress)
-
-        try:
-            shown = answering.shown(self.written.text, settings, left, given.max_nodes, told)
-        except SolverError as cause:
-            raise SolverError(f"the program {why}; behind that, {cause.reason}", self.site, cause.stop) from None
-        self._progress = shown.progress
-        return answer, shown
-
-    def _shown(self, answer: Any, settings: str, given: Arguments, verbose: bool) -> Any:
-        """What is shown behind a stop, where the exact solver is asked; None where it isn't.
-
-        Raises `SolverError`, with the program's stop, where there is nothing, and `CertificateError`."""
-        is_limited = bool(given.options)
-        if not given.exact or not fallback.helps(answer.stop, is_limited):
-            return None
-        wishes = fallback.Wishes(True, given.trust, given.box, given.time_limit)
-        if verbose:
-            print(
-                f"dcx: the program stops ({answer.stop.number} {answer.stop.name}); the exact solver has at most "
-                f"{fallback.seconds_of(wishes):g} s, and the program checks what it finds"
-            )
-        try:
-            return fallback.shown(self.written.text, settings, self._maximized, wishes)
-        except SolverError as cause:
-            stop = stopped(answer.stop, self.written)
-            raise SolverError(f"{stop.reason} Behind that, {cause.reason}", stop.site, answer.stop) from None
-        except CertificateError as cause:
-            reason = f"what the exact solver found for the problem is wrong, as the program says: {cause.reason}"
-            raise CertificateError(reason, cause.fault) from None
+        return solving.solve(self, Arguments(solver, arguments), verbose)
 
     def verify(
         self,
@@ -331,12 +187,13 @@ class Problem:
         progress: Optional[Callable[[int, int], object]] = None,
         chunk: Optional[int] = None,
         max_iters: Optional[int] = None,
+        **wishes: Any,
     ) -> list[Result]:
         """Answers the problem at each of these settings, and returns a `Result` for each, in order; see
-        `dcx.runs.solve_at`."""
+        `dcx.runs.solve_at`. `exact`, `trust`, `box` and `time_limit` are those of `solve`."""
         from . import runs
 
-        return runs.solve_at(self, settings, warm, executor, progress, chunk, max_iters)
+        return runs.solve_at(self, settings, warm, executor, progress, chunk, max_iters, **wishes)
 
     def certificate(self, max_iters: Optional[int] = None) -> Any:
         """A certificate of the answer at the parameters' values, as a `dcx.certificates.Certificate`."""
@@ -370,90 +227,9 @@ class Problem:
 
         return notebook.fragment(self)
 
-    def _keep(self, result: Result) -> None:
-        """Keeps a result, and sets the values of variables and constraints by it."""
-        self._result = result
-        result.save()
-
     @property
     def _maximized(self) -> bool:
         return isinstance(self._objective, Maximize)
-
-    @property
-    def status(self) -> Optional[str]:
-        """`optimal`, `infeasible`, `unbounded`, `optimal_inaccurate` where an interval is shown, or `solver_error`
-        where there is no answer; None before one."""
-        return None if self._result is None else self._result.status
-
-    @property
-    def value(self) -> Optional[float]:
-        """The value of the last answer as a float, infinite where the problem was infeasible or unbounded; None where
-        there is none."""
-        return None if self._result is None else self._result.value
-
-    @property
-    def exact(self) -> Optional[Fraction]:
-        """The value of the last answer as a fraction; None where the problem wasn't optimal."""
-        return None if self._result is None else self._result.exact
-
-    @property
-    def ray(self) -> Optional[Ray]:
-        """Where the objective goes on for ever, in fractions; None where the last answer wasn't `unbounded`."""
-        return None if self._result is None else self._result.ray
-
-    @property
-    def farkas(self) -> Optional[Farkas]:
-        """The multipliers that show that no point is feasible, in fractions; None where the last answer wasn't
-        `infeasible`."""
-        return None if self._result is None else self._result.farkas
-
-    @property
-    def shown_by(self) -> Optional[str]:
-        """On what the last answer stands: `the program`, `a certificate that the program accepted`, `an interval`,
-        `python`, where its word was enough for the user, or one of the words of `dcx.whole`; None where there is no
-        answer."""
-        return None if self._result is None else self._result.shown_by
-
-    @property
-    def interval(self) -> Optional[Interval]:
-        """The interval that holds the best value, where the last answer stands on one, as a
-        `dcx.shown.intervals.Interval`."""
-        return None if self._result is None else self._result.interval
-
-    @property
-    def evidence(self) -> Any:
-        """The evidence of the last answer in whole numbers, where it stands on boxes, as a
-        `dcx.whole.evidence.Evidence`; its `write(folder)` writes the files, and `python3 -m dcx whole-check` checks
-        them."""
-        return None if self._result is None else getattr(self._result.shown, "evidence", None)
-
-    @property
-    def progress(self) -> Any:
-        """How far the last search for whole numbers came, or this one, while it runs, as a
-        `dcx.whole.search.Progress` with `best`, `bound`, `gap` and `nodes`; None where there was none."""
-        return self._progress
-
-    @property
-    def report(self) -> Optional[bytes]:
-        """What the program printed at the last solve."""
-        return self._report
-
-    @property
-    def solver_stats(self) -> Optional[SolverStats]:
-        """How the last solve went."""
-        if self._result is None:
-            return None
-        nodes = self._result.nodes
-        return SolverStats("DCX", self._result.seconds, extra_stats=None if nodes is None else {"nodes": nodes})
-
-    @property
-    def solution(self) -> Optional[Solution]:
-        """The last answer, by the numbers of variables and constraints."""
-        if self._result is None:
-            return None
-        primal = {item.id: item.value for item in self.written.variables.values() if item.value is not None}
-        dual = {item.id: item.dual_value for item in self._constraints if item.dual_value is not None}
-        return Solution(self.status, self.value, primal, dual, {})
 
     # -- problems as terms
 
@@ -488,19 +264,7 @@ class Problem:
         return f"Problem({self._objective!r}, {self._constraints!r})"
 
     def _roots(self) -> list:
-        """The expressions that the problem is made of."""
         return [self._objective.expr, *(side for item in self._constraints for side in item.args)]
-
-    def _say(self, given: Arguments) -> None:
-        """Says what is handed over, and, once, which arguments have no meaning."""
-        script = self.written
-        print(
-            f"dcx: {len(script.variables)} variables, {len(script.parameters)} parameters, "
-            f"{len(script.constraints)} constraints; problem.script() shows what is handed over"
-        )
-        if given.meaningless and not self._arguments_told:
-            print(f"dcx: of no meaning here, where one solver gives exact answers: {', '.join(given.meaningless)}")
-            self._arguments_told = True
 
 
 # what a problem of CVXPY has and this one doesn't, with the reason

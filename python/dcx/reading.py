@@ -103,12 +103,8 @@ class Reader:
             raise Misread(f"section {index} with its kind")
         fields = {"params": self.named("param") if form == 2 else {}}
         fields.update(self.numbers(NUMBERS_BEHIND[status]))
-        if status != "infeasible":
-            fields["variables"] = self.named("var")
-        if status == "unbounded":
-            fields["ray"] = self.named("ray")
-        else:
-            fields["duals"] = self.numbered()
+        fields.update(self.points(status))
+        if status != "unbounded":
             fields["weights"] = self.weights()
         self.take_form("end")
         return Section(index, status, **fields)
@@ -198,13 +194,13 @@ class Reader:
 
     def solved(self, word: str, index: int, status: str) -> Answer:
         fields = self.numbers(NUMBERS_BEHIND[status], above_zero=("gap", "slope"))
-        if status != "infeasible":
-            fields["variables"] = self.named("var")
-        if status == "unbounded":
-            fields["ray"] = self.named("ray")
-        else:
-            fields["duals"] = self.numbered()
-        return Answer(word, index, status, **fields)
+        return Answer(word, index, status, **fields, **self.points(status))
+
+    def points(self, status: str) -> dict[str, object]:
+        """The point, and the ray or the multipliers, that stand behind the numbers of an answer."""
+        fields: dict[str, object] = {} if status == "infeasible" else {"variables": self.named("var")}
+        fields.update({"ray": self.named("ray")} if status == "unbounded" else {"duals": self.numbered()})
+        return fields
 
     def span(self, fields: dict[str, object]) -> Range:
         span = Range(**fields)

@@ -7,16 +7,19 @@ import os
 from concurrent.futures import FIRST_COMPLETED, Future, ThreadPoolExecutor, wait
 from typing import Any, Callable, Iterable, Iterator, Mapping, NamedTuple, Optional, Union
 
-from . import program
-from .arguments import pivots
+from . import program, solving
+from .arguments import box as box_of
+from .arguments import pivots, seconds_of, trust_of
+from .certificates import CertificateError
 from .errors import ParameterError, SolverError
 from .expressions import Expression
 from .refusals import taken
 from .reports import Report, read_report
 from .results import Result
 from .scripts import Script
+from .shown.fallback import Wishes
 
-__all__ = ["MOST_SETTINGS", "run_part", "solve_at"]
+__all__ = ["MOST_SETTINGS", "ask_behind", "run_part", "solve_at"]
 
 MOST_SETTINGS = 1_000  # of one run
 _BYTES = 1_048_576  # of a settings file
@@ -42,6 +45,11 @@ def run_part(script: str, lines: str, options: tuple[str, ...]) -> program.Run:
     return program.run("resolve", script, lines, options=options)
 
 
+def ask_behind(question: solving.Question) -> Any:
+    """Asks what is shown behind a stop: the other function that an executor is handed."""
+    return solving.asked(question)
+
+
 def solve_at(
     problem: Any,
     settings: Iterable[Mapping[Any, Any]],
@@ -50,6 +58,10 @@ def solve_at(
     progress: Optional[Callable[[int, int], object]] = None,
     chunk: Optional[int] = None,
     max_iters: Optional[int] = None,
+    exact: bool = True,
+    trust: Optional[str] = None,
+    box: Any = None,
+    time_limit: Optional[float] = None,
 ) -> list[Result]:
     """Answers a problem at each of the settings, and returns a `Result` for each, in order, with the setting in it.
 
@@ -61,11 +73,15 @@ def solve_at(
     value is the same, and of several best points another may be told. With an `executor`, of the kind of
     `concurrent.futures.Executor`, it carries the parts: a pool of processes, `Client.get_executor()` of
     dask.distributed, an MPI pool. Its workers need the package, and the program where `dcx.program.find` finds it.
-    `progress(done, total)` is called here whenever a part is done.
+    `progress(done, total)` is called here whenever a part is done, or a setting behind whose stop others are asked.
+
+    Where the program stops at a setting, the exact solver is asked, or the search for whole numbers, as by `solve`,
+    each setting by itself: by the executor too, where there is one. `exact=False` leaves that out; `trust`, `box` and
+    `time_limit`, the seconds of each, are those of `solve`. The program's own time has no limit here.
 
     A part whose worker dies, or fails in another way, is asked again once: by the executor, or, where that takes
     nothing any more, by this process. Where it fails again each of its results has the status `solver_error`, and an
-    `error` that names the part; the others stay. A setting at which the program stops has such a result as well.
+    `error` that names the part; the others stay. A setting that has no answer has such a result as well.
 
     Raises `DCPError`, `LimitError` as `Problem.solve`; `ParameterError` where a setting leaves a parameter without a
     value; `KeyError` where it names what is no parameter of the problem, `ValueError` where a value doesn't fit.
@@ -75,16 +91,76 @@ def solve_at(
     lines = [_line(script, setting, number) for number, setting in enumerate(settings)]
     options = [*pivots(max_iters), *(["--warm"] if warm and not problem.is_mixed_integer() else [])]
     parts = list(_cut(lines, _chunk(chunk, len(lines), executor)))
+    wishes = Wishes(bool(exact), trust_of(trust), box_of(box), seconds_of(time_limit))
+    is_whole = problem.is_mixed_integer()
     carrier = _Carrier(script.text, tuple(options), executor)
     results: list[Optional[Result]] = [None] * len(settings)
+    stops: list[tuple[Result, solving.Question]] = []
     done = 0
-    for part, outcome in carrier.all(parts):
-        for result in _results(problem, script, settings, part, outcome):
-            results[result.index] = result
-        done += part.count
-        if progress is not None:
+
+    def kept(result: Result) -> None:
+        results[result.index] = result
+
+    def told(count: int) -> None:
+        nonlocal done
+        done += count
+        if count and progress is not None:
             progress(done, len(settings))
+
+    for part, outcome in carrier.all(parts):
+        before = len(stops)
+        for result in _results(problem, script, settings, part, outcome):
+            kept(result)
+            stop = None if result.answer is None else result.answer.stop
+            if exact and solving.helps(stop, is_whole, max_iters is not None):
+                line = lines[result.index]
+                stops.append((result, solving.Question(script.text, line, problem._maximized, is_whole, wishes)))
+        told(part.count - (len(stops) - before))
+    for result in _behind(problem, script, stops, executor):
+        kept(result)
+        told(1)
     return results
+
+
+def _behind(
+    problem: Any, script: Script, stops: list[tuple[Result, solving.Question]], executor: Any
+) -> Iterator[Result]:
+    """The results of settings at which the program stopped, in order, by what is shown behind that."""
+    futures = [_submitted(executor, question) for _, question in stops]
+    try:
+        for (result, question), future in zip(stops, futures):
+            shown, error = None, None
+            try:
+                shown = solving.behind(result.answer.stop, script, lambda: _asked(question, future))
+            except (SolverError, CertificateError) as cause:
+                error = cause
+            if getattr(shown, "why", None) == "interrupted":
+                raise KeyboardInterrupt
+            answer = None if shown is None else shown.answer
+            yield Result(script, answer, problem._maximized, result.setting, result.index, error, shown=shown)
+    finally:
+        for future in filter(None, futures):
+            future.cancel()
+
+
+def _submitted(executor: Any, question: solving.Question) -> Optional[Future]:
+    """The future of a question; None where no executor takes it."""
+    try:
+        return None if executor is None else executor.submit(ask_behind, question)
+    except Exception:  # the executor takes nothing any more
+        return None
+
+
+def _asked(question: solving.Question, future: Optional[Future]) -> Any:
+    """What is shown: what a worker says, or, where that died or failed in another way, what this process finds."""
+    if future is not None:
+        try:
+            return future.result()
+        except (KeyboardInterrupt, SystemExit, SolverError, CertificateError):
+            raise
+        except BaseException:  # some libraries tell of a cancelled future by what is no Exception
+            pass
+    return ask_behind(question)
 
 
 def _results(

@@ -2,8 +2,9 @@
 from __future__ import annotations
 
 from .errors import LimitError
-from .expressions import Expression, postorder
+from .expressions import Expression
 from .numbers import text
+from .trees import postorder
 
 _LONGEST = 120
 _SIGNS = {"+": 1, "-": 1, "*": 2, "/": 2, "@": 2}

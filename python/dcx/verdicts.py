@@ -1,9 +1,11 @@
-"""What the rules of convexity find of an expression or a constraint. The program is asked, whose rules are the only
-ones: of the sum of an expression's entries, which has the expression's curvature and sign, whether it may be minimized
-or maximized."""
+"""What the rules of convexity find of an expression, a constraint or a problem. The program is asked: of an expression
+whether the sum of its entries, which has its curvature and sign, may be minimized or maximized. Where a model passes
+what the program's language holds, the same rules are read in Python, which have no limits."""
 from __future__ import annotations
 
-from typing import NamedTuple
+from typing import Any, NamedTuple, Optional
+
+from .errors import LimitError
 
 _CURVATURES = {"constant": "CONSTANT", "affine": "AFFINE", "convex": "CONVEX", "concave": "CONCAVE"}
 _SIGNS = {"nonneg": "NONNEGATIVE", "nonpos": "NONPOSITIVE", "zero": "ZERO", "unknown": "UNKNOWN"}
@@ -50,42 +52,57 @@ class Verdict(NamedTuple):
 UNKNOWN = Verdict("UNKNOWN", "UNKNOWN", False)
 
 
-def of(expression) -> Verdict:
-    """The verdict on an expression, asked once. Errors are those of `Problem.is_dcp`."""
+def of(expression: Any) -> Verdict:
+    """The verdict on an expression, asked once."""
     if expression._known is None:
         expression._known = _asked(expression)
     return expression._known
 
 
-def _asked(expression) -> Verdict:
+def _asked(expression: Any) -> Verdict:
     from .atoms import sum
     from .objectives import Maximize, Minimize
+    from .problems import Problem
+
     total = expression if expression.size == 1 else sum(expression)
-    for sense in (Minimize, Maximize):
-        accepted, found = _checked(sense(total), [])
-        if accepted:
-            return Verdict(_CURVATURES[found.curvature], _SIGNS[found.sign], found.dpp)
-    return UNKNOWN
+    verdicts = (of_problem(Problem(sense(total))) for sense in (Minimize, Maximize))
+    return next((verdict for verdict in verdicts if verdict.is_dcp), UNKNOWN)
 
 
-def of_constraint(constraint) -> Verdict:
+def of_constraint(constraint: Any) -> Verdict:
     """The verdict on a constraint, asked once: one that the rules accept counts as convex."""
     if constraint._known is None:
         from .objectives import Minimize
-        accepted, found = _checked(Minimize(0), [constraint])
-        constraint._known = Verdict("CONVEX", "UNKNOWN", found.dpp) if accepted else UNKNOWN
+        from .problems import Problem
+
+        found = of_problem(Problem(Minimize(0), [constraint]))
+        constraint._known = Verdict("CONVEX", "UNKNOWN", found.is_dpp) if found.is_dcp else UNKNOWN
     return constraint._known
 
 
-def _checked(objective, constraints: list) -> tuple:
-    """Whether the rules accept a problem, and what the program tells of it then."""
+def of_problem(problem: Any) -> Verdict:
+    """The verdict on a problem: the curvature and the sign of its objective where the rules accept it."""
+    try:
+        found = _of_program(problem.written)
+    except LimitError:
+        from . import judging
+
+        found = judging.verdict(problem)
+    if found is None:
+        return UNKNOWN
+    sign, curvature, is_dpp = found
+    return Verdict(_CURVATURES[curvature], _SIGNS[sign], is_dpp)
+
+
+def _of_program(script: Any) -> Optional[tuple[str, str, bool]]:
+    """The sign, the curvature and whether parameters may vary, as the program finds it; None where it refuses."""
     from . import program
     from .refusals import read
     from .reports import read_report
-    from .scripts import written
-    script = written(objective, constraints)
+
     run = program.run("check", script.text)
     refusal = read_report(run.report).refusal
     if refusal is not None and refusal.name == "NotDcp":
-        return False, None
-    return True, read(run, script).verdict
+        return None
+    verdict = read(run, script).verdict
+    return verdict.sign, verdict.curvature, verdict.dpp

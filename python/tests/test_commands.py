@@ -117,12 +117,15 @@ class Run(Folder):
         self.assertNotIn(os.path.join("python", "dcx"), told)
 
     def test_what_lies_below_cvxpy(self):
-        for line in ("import cvxpy.atoms", "from cvxpy.atoms.affine import hstack", "import cvxpy.settings as s"):
+        for line in ("import cvxpy.atoms", "from cvxpy.atoms.affine import hstack", "import cvxpy.reductions"):
             out, told, status = run("run", self.script(line + "\n"))
             self.assertEqual(status, 1)
             self.assertRegex(told, r"ModuleNotFoundError: dcx has no cvxpy\.\w+: take the names from cvxpy itself")
-        text = "import cvxpy as cp\nfrom cvxpy.error import DCPError\nprint(DCPError is cp.error.DCPError)\n"
-        self.assertEqual(run("run", self.script(text))[::2], ("True\n", 0))
+        text = (
+            "import cvxpy as cp\nimport cvxpy.settings as s\nfrom cvxpy.error import DCPError\n"
+            "print(DCPError is cp.error.DCPError, s is cp.settings, s.OPTIMAL)\n"
+        )
+        self.assertEqual(run("run", self.script(text))[::2], ("True True optimal\n", 0))
 
     def test_processes_that_a_script_starts(self):
         text = """\

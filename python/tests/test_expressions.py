@@ -17,7 +17,8 @@ from scipy import sparse
 import dcx.cvxpy as cp
 from dcx.constraints import Constraint
 from dcx.errors import UnsupportedError
-from dcx.expressions import Expression, postorder
+from dcx.expressions import Expression
+from dcx.trees import postorder
 
 from .recorded import program_value, variable, weights_of
 

@@ -10,6 +10,7 @@ import subprocess
 import sys
 import tempfile
 import unittest
+import warnings
 from fractions import Fraction
 from pathlib import Path
 from unittest import mock
@@ -221,6 +222,20 @@ class Answers(unittest.TestCase):
         with self.assertWarnsRegex(UserWarning, "One of the constraints is False") as caught:
             self.assertEqual(cp.Problem(cp.Minimize(x), [x >= 1, False]).solve(), INFINITY)
         self.assertEqual(caught.filename, __file__)
+
+    def test_an_array_s_own_product(self):
+        """NumPy makes an array of expressions of `A.dot(x)`; what is told names what to write."""
+        A, x = np.eye(3), cp.Variable(3)
+        for ask in (lambda: cp.Minimize(np.ones(3).dot(x)), lambda: cp.sum(A.dot(x)), lambda: A.dot(x) + x):
+            with self.assertRaisesRegex(ValueError, "single expression, .* write A @ x"):
+                ask()
+        with self.assertRaises(UnsupportedError):
+            A.dot(x) <= 1
+        with warnings.catch_warnings():
+            warnings.simplefilter("ignore", DeprecationWarning)
+            equal = A.dot(x) == np.ones(3)
+        with self.assertWarnsRegex(UserWarning, "write A @ x"):
+            cp.Problem(cp.Minimize(x[0]), [equal])
 
     def test_what_is_multiplied_by_zeros_alone(self):
         """It doesn't stand in the script, and has the value 0, or one within its bounds."""

@@ -20,8 +20,11 @@ import numpy as np
 from scipy.optimize import linprog
 
 import dcx.cvxpy as cp
-from dcx import program, runs
+from dcx import program, runs, shown
 from dcx.errors import DCPError, ParameterError, SolverError
+from dcx.whole import EVIDENCE
+
+from . import wide
 
 PROGRAM = program.find()
 
@@ -205,6 +208,90 @@ class Here(Case):
         self.assertEqual((self.folder / "runs").read_text(), "run\n" * 4)
 
 
+class BehindStops(unittest.TestCase):
+    """Settings at which the program stops are answered as `solve` answers them."""
+
+    def setUp(self):
+        problem, self.x, self.found = wide.fit(3)
+        self.A, self.b = (item.array for item in problem.constants())
+        self.p = cp.Parameter(12, name="p")
+        A = cp.Constant(self.A)
+        self.problem = cp.Problem(cp.Minimize(cp.norm1(A @ self.x - self.p)))
+
+    def settings(self):
+        """The observations, which stop the program, and a few that don't."""
+        return [{self.p: self.b}, {self.p: [0] * 12}, {"p": [2 * entry for entry in self.b.entries]}]
+
+    def check(self, results, counts):
+        self.assertEqual([result.status for result in results], ["optimal"] * 3)
+        for result, value in zip(results, (self.found.fun, 0, 2 * self.found.fun)):
+            self.assertAlmostEqual(result.value, value, places=7)
+        self.assertEqual([result.shown_by for result in results], [shown.CERTIFICATE, shown.PROGRAM, shown.CERTIFICATE])
+        self.assertEqual([result.index for result in results], [0, 1, 2])
+        self.assertEqual(counts, [(1, 3), (2, 3), (3, 3)])
+        results[2].save()
+        A, b = (np.array(array.entries, dtype=float).reshape(array.shape) for array in (self.A, self.b))
+        self.assertAlmostEqual(np.abs(A @ self.x.value - 2 * b).sum(), 2 * self.found.fun, places=7)
+
+    def test_here_and_by_executors(self):
+        seen = []
+
+        def gives(executor, function, args):
+            function, args = pickle.loads(pickle.dumps((function, args)))
+            seen.append(function)
+            return pickle.loads(pickle.dumps(function(*args)))
+
+        with ProcessPoolExecutor(2) as pool:
+            for executor in (None, pool, Odd(gives)):
+                counts = []
+                more = {"executor": executor, "progress": lambda *count: counts.append(count), "chunk": 1000}
+                self.check(self.problem.solve_at(self.settings(), **more), counts)
+        self.assertEqual(seen, [runs.run_part, runs.ask_behind, runs.ask_behind])
+
+    def test_a_worker_that_fails_there_is_asked_here(self):
+        def gives(executor, function, args):
+            if function is runs.ask_behind:
+                raise RuntimeError("a worker died")
+            return function(*args)
+
+        counts = []
+        more = {"executor": Odd(gives), "progress": lambda *count: counts.append(count), "chunk": 1000}
+        self.check(self.problem.solve_at(self.settings(), **more), counts)
+
+    def test_what_is_left_out(self):
+        first, second, _ = self.problem.solve_at(self.settings(), exact=False)
+        self.assertEqual((first.status, first.error.stop.name, first.shown_by), ("solver_error", "Wide", None))
+        self.assertEqual((second.status, second.shown_by), ("optimal", shown.PROGRAM))
+        # a limit of pivots that the user sets is the user's
+        (first,) = self.problem.solve_at([{self.p: self.b}], max_iters=2)
+        self.assertEqual((first.status, first.error.stop.name), ("solver_error", "PivotLimit"))
+
+    def test_no_answer_behind_a_stop(self):
+        told = "26 Wide.* Behind that, the exact solver had no answer after 0.001 s"
+        (first,) = self.problem.solve_at([{self.p: self.b}], time_limit=0.001)
+        self.assertEqual((first.status, first.value, first[self.x]), ("solver_error", None, None))
+        self.assertRegex(str(first.error), told)
+        for wrong in ({"trust": "me"}, {"box": -1}, {"time_limit": 0}):
+            with self.assertRaises(ValueError):
+                self.problem.solve_at([], **wrong)
+        with self.assertRaises(TypeError):
+            self.problem.solve_at([], tolerance=1)
+
+    def test_python_s_word(self):
+        (first,) = self.problem.solve_at([{self.p: self.b}], trust="python")
+        self.assertAlmostEqual(first.value, self.found.fun, places=7)
+
+    def test_whole_numbers(self):
+        """Bounds of 650 entries pass the program's rows; the search has them as boxes."""
+        cost = np.arange(650) % 17 + 1
+        take, p = cp.Variable(650, boolean=True, name="take"), cp.Parameter(name="p")
+        problem = cp.Problem(cp.Minimize(cost @ take), [cp.sum(take) >= p])
+        first, second = problem.solve_at([{p: 41}, {p: 651}])
+        self.assertEqual((first.status, first.value), ("optimal", sum(sorted(cost)[:41])))
+        self.assertEqual((second.status, second.shown_by), ("infeasible", EVIDENCE))
+        self.assertEqual(problem.solve_at([{p: 41}], exact=False)[0].error.stop.name, "Branch")
+
+
 class Odd(Executor):
     """An executor that runs each part at once, and gives for some what no worker should."""
 
@@ -212,7 +299,7 @@ class Odd(Executor):
         self.gives, self.asked = gives, []
 
     def submit(self, function, *args, **more):
-        self.asked.append(args[1])
+        self.asked.append(args[1] if function is runs.run_part else args[0])
         future = Future()
         try:
             future.set_result(self.gives(self, function, args))

@@ -44,6 +44,16 @@ def lying(change):
     return mock.patch.object(asking, "asked", lie)
 
 
+def with_another(text, start, place, word, instead):
+    """The text with another word at a place of the first line that begins so: `word`, or `instead` where that stands
+    there."""
+    lines = text.split("\n")
+    at = next(i for i, line in enumerate(lines) if line.startswith(start))
+    words = lines[at].split(" ")
+    words[place] = word if words[place] != word else instead
+    return "\n".join([*lines[:at], " ".join(words), *lines[at + 1 :]])
+
+
 def not_asked():
     return mock.patch.object(asking, "asked", side_effect=AssertionError("the exact solver is asked"))
 
@@ -154,6 +164,28 @@ class Stops(unittest.TestCase):
 
 
 class Limits(unittest.TestCase):
+    def test_long_numbers_are_told_in_short(self):
+        """Equalities of random floats, which no point of few digits keeps."""
+        draw = np.random.RandomState(3)
+        A, x = draw.randn(3, 6), cp.Variable(6, nonneg=True)
+        rule = A @ x == A @ np.abs(draw.randn(6))
+        with self.assertRaises(SolverError) as error:
+            cp.Problem(cp.Minimize(draw.rand(6) @ x), [rule]).solve()
+        self.assertRegex(str(error.exception), r"pass 128 bits \(number \d{6}\.\. of \d\d digits/\d{6}\.\. of \d\d digits\)")
+        self.assertNotRegex(str(error.exception), r"\d{40}")
+        self.assertRegex(str(error.exception), r"it breaks constraint 1 by \d\.\d+e-1\d")
+
+    def test_an_interval_next_to_0(self):
+        """The least sum is 0, at a point whose numbers have sixty digits."""
+        A, x = np.random.RandomState(0).rand(4, 4), cp.Variable(4)
+        problem = cp.Problem(cp.Minimize(cp.norm1(A @ x - 1)))
+        problem.solve()
+        self.assertEqual((problem.status, problem.shown_by), ("optimal_inaccurate", INTERVAL))
+        self.assertLessEqual(problem.interval.low, 0)
+        self.assertLess(problem.interval.high - problem.interval.low, Fraction(1, 10**12))
+        np.testing.assert_allclose(A @ x.value, np.ones(4), atol=1e-12)
+        self.assertRegex(str(problem.interval), r"from -\S+ to \S+, \d\.\de-1\d wide")
+
     def test_limits_of_the_user_stay(self):
         problem, x, _ = wide.fit(1)
         with not_asked(), self.assertRaises(SolverError) as stop:
@@ -220,24 +252,10 @@ class Lies(unittest.TestCase):
         self.assertIsNone(problem.shown_by)
 
     def test_a_wrong_multiplier(self):
-        def change(text):
-            lines = text.split("\n")
-            at = next(i for i, line in enumerate(lines) if line.startswith("node "))
-            words = lines[at].split(" ")
-            words[3] = "1/3" if words[3] != "1/3" else "1/4"
-            return "\n".join([*lines[:at], " ".join(words), *lines[at + 1 :]])
-
-        self.refused(change, "section 1 ")
+        self.refused(lambda text: with_another(text, "node ", 3, "1/3", "1/4"), "section 1 ")
 
     def test_a_wrong_point_and_a_wrong_value(self):
-        def moved(text):
-            lines = text.split("\n")
-            at = next(i for i, line in enumerate(lines) if line.startswith("var x (5) = "))
-            words = lines[at].split(" ")
-            words[4] = "7" if words[4] != "7" else "8"
-            return "\n".join([*lines[:at], " ".join(words), *lines[at + 1 :]])
-
-        self.refused(moved, "section 1 Value")
+        self.refused(lambda text: with_another(text, "var x (5) = ", 4, "7", "8"), "section 1 Value")
         self.refused(lambda text: re.sub("\nvalue .*", "\nvalue 1", text), "section 1 Value")
 
     def test_what_breaks_off(self):

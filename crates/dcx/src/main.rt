@@ -5,7 +5,7 @@ ghost use Rattle.std.specs.Prelude.{◌≡◌, ◌<◌};
 
 use dcx_host::{FileLibrary, OutSink};
 use dcx_steps::Steps;
-use dcx_top::{Ended, run};
+use dcx_top::{Ended, run, without_words};
 use std::alloc::AllocError;
 use std::marker::Brand;
 use std::process::ExitCode;
@@ -47,9 +47,19 @@ fn counted<R: Files + Print + AllocGlobal, S: Ledger>(rt: &R, words: &[String], 
     status
 }
 
+/// Tells that there is no memory for the words.
+fn told<R: Print>(rt: &R) -> u8
+    ensures { result ≡ 5 }
+{
+    let mut sink = OutSink::new(io::writer(rt));
+    let Ended { status, run } = without_words(&mut sink);
+    drop(run);
+    status
+}
+
 fn main(rt: HostRuntime) -> ExitCode {
     match words(&rt) {
         Ok(words) => ExitCode::from(counted::<HostRuntime, Brand>(&rt, &words, Blank::new(1))),
-        Err(_) => ExitCode::from(5),
+        Err(_) => ExitCode::from(told(&rt)),
     }
 }

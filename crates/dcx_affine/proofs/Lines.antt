@@ -42,16 +42,19 @@ all_lines-take line [] (suc i) = omega arith
 all_lines-take line (a ∷ args) zero = omega arith
 all_lines-take line (a ∷ args) (suc i) =
     let sum : all_lines line (sides_list (a ∷ args)) ≡ lines_of line (sides_of a) + all_lines line (sides_list args) = sum_by-cons (lines_of line) (sides_of a) (sides_list args) in
-    let first : all_lines line (sides_list (take (suc i) (a ∷ args))) ≡ lines_of line (sides_of a) + all_lines line (sides_list (take i args)) = sum_by-cons (lines_of line) (sides_of a) (sides_list (take i args)) in
+    let first : all_lines line (sides_list (take (suc i) (a ∷ args))) ≡ lines_of line (sides_of a) + all_lines line (sides_list (take i args)) =
+    sum_by-cons (lines_of line) (sides_of a) (sides_list (take i args)) in
     omega (arith, sum, first, all_lines-take line args i)
 
 -- the lines of one more argument
-lined_up-append : (line : Line) (k : ℕ) (xs : List Sides) (s : Sides) → lined_up line k (xs ++ s ∷ []) ≡ lined_up line k xs ++ list_below (lines_of line s) (λ e. record { argument = k + length xs; place = e })
+lined_up-append : (line : Line) (k : ℕ) (xs : List Sides) (s : Sides)
+    → lined_up line k (xs ++ s ∷ []) ≡ lined_up line k xs ++ list_below (lines_of line s) (λ e. record { argument = k + length xs; place = e })
 lined_up-append line k [] s = let e : k + 0 ≡ k = omega arith in rw e (append-nil (list_below (lines_of line s) (λ e. record { argument = k; place = e })))
 lined_up-append line k (x ∷ xs) s =
     let e : suc k + length xs ≡ k + length (x ∷ xs) = omega arith in
     ap (λ r. list_below (lines_of line x) (λ e. record { argument = k; place = e }) ++ r) (lined_up-append line (suc k) xs s)
-    ∙ sym (append_assoc (list_below (lines_of line x) (λ e. record { argument = k; place = e })) (lined_up line (suc k) xs) (list_below (lines_of line s) (λ e. record { argument = suc k + length xs; place = e })))
+    ∙ sym (append_assoc (list_below (lines_of line x) (λ e. record { argument = k; place = e })) (lined_up line (suc k) xs)
+    (list_below (lines_of line s) (λ e. record { argument = suc k + length xs; place = e })))
     ∙ ap (λ i. (list_below (lines_of line x) (λ e. record { argument = k; place = e }) ++ lined_up line (suc k) xs) ++ list_below (lines_of line s) (λ e. record { argument = i; place = e })) e
 
 -- the lines of one more argument of a list of shapes

@@ -1,5 +1,6 @@
 -- The shape that a matrix product has is the defined one.
-use Rattle.std.proofs.Common.{◌≡◌, ◌↔◌, ℕ, zero, suc, ◌<◌, ◌≤◌, Bool, true, false, nat_eq, nat_le, ◌&&◌, if◌then◌else◌, refl, sym, ap, ◌∙◌, subst, Option, Some, None, IsSome, IfSome, option_map, arith}
+use Rattle.std.proofs.Common.{◌≡◌, ◌↔◌, ℕ, zero, suc, ◌<◌, ◌≤◌, Bool, true, false, nat_eq, nat_le, ◌&&◌, if◌then◌else◌}
+use Rattle.std.proofs.Common.{refl, sym, ap, ◌∙◌, subst, Option, Some, None, IsSome, IfSome, option_map, arith}
 use Rattle.std.proofs.lemmas.Bool.{eqb-true, eq-eqb}
 use Rattle.dcx_shape.specs.declared.shape.Shape.{Shape}
 use Rattle.dcx_shape.specs.declared.shape.Sides.{Sides}

@@ -1,5 +1,6 @@
 -- The shapes of joined arrays.
-use Rattle.std.proofs.Common.{◌≡◌, ◌↔◌, ◌<◌, ◌≤◌, ◌*◌, ◌&&◌, Bool, true, false, nat_le, List, [], ◌∷◌, map, get_or, if◌then◌else◌, refl, sym, ap, ◌∙◌, subst, Option, Some, None, IsSome, IfSome, option_map, arith, mod-lt}
+use Rattle.std.proofs.Common.{◌≡◌, ◌↔◌, ◌<◌, ◌≤◌, ◌*◌, ◌&&◌, Bool, true, false, nat_le, List, [], ◌∷◌, map, get_or, if◌then◌else◌}
+use Rattle.std.proofs.Common.{refl, sym, ap, ◌∙◌, subst, Option, Some, None, IsSome, IfSome, option_map, arith, mod-lt}
 use Rattle.std.specs.Prelude.{slice_get}
 use Rattle.std.specs.List.{list_all}
 use Rattle.std.proofs.lemmas.List.Folds.{list_all-map}
@@ -87,7 +88,8 @@ hstack_few (s ∷ rest) e = by (list_all is_flat (s ∷ rest)) (list_all (has_ro
     by false false e = cc
 
 -- arrays one below the other have the rows of all, and the columns of the first
-pub vstack_is : (args : List Sides) → IsSome (vstack_sides args) → (vstack_sides args ≡ Some (Matrix (all_lines Row args) (cols_of (sides_at args 0)))) × HasFewEntries (Matrix (all_lines Row args) (cols_of (sides_at args 0)))
+pub vstack_is : (args : List Sides) → IsSome (vstack_sides args)
+    → (vstack_sides args ≡ Some (Matrix (all_lines Row args) (cols_of (sides_at args 0)))) × HasFewEntries (Matrix (all_lines Row args) (cols_of (sides_at args 0)))
 vstack_is [] e = cc
 vstack_is (s ∷ rest) e = by (list_all (has_columns (cols_of s)) (s ∷ rest)) e
   where
@@ -104,7 +106,8 @@ vstack_is (s ∷ rest) e = by (list_all (has_columns (cols_of s)) (s ∷ rest)) 
 
 -- ---- the terms
 pub hstack_term_is : (args : List Sides) (xs : List Slot) (k : ℕ) → xs ≡ lined_up Column 0 args →
-    term (get_or xs (k % length xs) no_line).argument (row_place (sides_at args (get_or xs (k % length xs) no_line).argument) (k / length xs) (get_or xs (k % length xs) no_line).place) (whole (pos 1)) ≡ hstack_term args k
+    term (get_or xs (k % length xs) no_line).argument (row_place (sides_at args (get_or xs (k % length xs) no_line).argument) (k / length xs)
+    (get_or xs (k % length xs) no_line).place) (whole (pos 1)) ≡ hstack_term args k
 hstack_term_is args xs k e = rw (e, length-lined_up Column 0 args) refl
 
 pub below_length : (k n : ℕ) → 0 < n → k % n < n
@@ -113,7 +116,8 @@ below_length k (suc n) h = mod-lt k (omega arith)
 
 -- the terms of all rows are those of the value
 pub vstack_terms_are : {E : Type 0} (args : List Sides) (n : ℕ) (r : Result (List (List Triple)) E) → vstack_sides args ≡ Some (Matrix n (cols_of (sides_at args 0)))
-    → IfOk r (λ t. map (map linear_term) t ≡ list_below (n * cols_of (sides_at args 0)) (vstack_meaning.terms args)) → IfOk r (λ t. IfSome (vstack_sides args) (λ s. AreTermsOf vstack_meaning args (entries_of s) t))
+    → IfOk r (λ t. map (map linear_term) t ≡ list_below (n * cols_of (sides_at args 0)) (vstack_meaning.terms args))
+    → IfOk r (λ t. IfSome (vstack_sides args) (λ s. AreTermsOf vstack_meaning args (entries_of s) t))
 vstack_terms_are args n (Ok t) e h = rw e h
 vstack_terms_are args n (Err x) e h = tt
 

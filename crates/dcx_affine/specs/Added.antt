@@ -6,7 +6,7 @@ use Rattle.dcx_shape.specs.declared.shape.Sides.TheVariants.{Scalar, Vector, Mat
 use Rattle.dcx_atom.specs.Arrays.{same_sides}
 use Rattle.dcx_atom.specs.Signs.{sign_at, rises, falls, no_trend, common_sign, flipped, zero_or_unknown}
 use Rattle.dcx_atom.specs.Linear.{LinearTerm, LinearMeaning}
-use Rattle.dcx_affine.specs.Strided.{only}
+use Rattle.dcx_atom.specs.Bounding.{only}
 
 -- entry p of argument i, times a number
 abbrev pub term : ℕ → ℕ → ℚ → LinearTerm

@@ -1,4 +1,4 @@
--- What the contracts of this crate cite.
+-- What contracts cite: calls that sum, place, add and join entries, pairs of entries, and their laws.
 pub mod Strided
 pub mod StridedLaws
 pub mod Folds

@@ -8,7 +8,20 @@ use Rattle.dcx_shape.specs.Sides.{cols_of}
 use Rattle.dcx_shape.specs.Places.{place_of}
 use Rattle.dcx_affine.specs.Strided.{stride_sum, one_entry, no_entry, IsStrided}
 use Rattle.dcx_affine.specs.StridedLaws.{once, one_nonneg, one_entry_is}
-use Rattle.dcx_affine.specs.Places.{index_call, entry_in_order, place_in_order, reshape_call, transposed, transposed_place, transpose_call, diagonal, diagonal_stride, diag_call, promoted_place, promote_call}
+use Rattle.dcx_affine.specs.Places.{
+  index_call,
+  entry_in_order,
+  place_in_order,
+  reshape_call,
+  transposed,
+  transposed_place,
+  transpose_call,
+  diagonal,
+  diagonal_stride,
+  diag_call,
+  promoted_place,
+  promote_call,
+}
 
 pub index_is : (from to : Sides) (places : List ℕ) → IsStrided (index_call from to places)
 index_is from to places = record { nonneg = λ s r e. one_nonneg; sums = λ s r e x k b. one_entry_is (slice_index places k) x }

@@ -1,5 +1,5 @@
 -- Calls of one argument, each of whose entries is a number times the sum of a stride of the argument's entries.
-use Rattle.std.specs.Prelude.{◌≡◌, ℕ, ◌<◌, List, [], ◌∷◌, Option, Some, None, option_and_then, pos}
+use Rattle.std.specs.Prelude.{◌≡◌, ℕ, ◌<◌, List, Option, Some, option_and_then, pos}
 use Rattle.dcx_math.specs.Rational.{ℚ, whole, ◌*ℚ◌}
 use Rattle.dcx_math.specs.Sums.{IsNonnegative, rat_sum_below}
 use Rattle.dcx_shape.specs.declared.shape.Sides.{Sides}
@@ -8,13 +8,8 @@ use Rattle.dcx_atom.specs.declared.axis.Stride.{Stride}
 use Rattle.dcx_atom.specs.Arrays.{list_below, sides_at}
 use Rattle.dcx_atom.specs.Signs.{sign_at, rises}
 use Rattle.dcx_atom.specs.Axis.{stride_entry}
+use Rattle.dcx_atom.specs.Bounding.{only}
 use Rattle.dcx_atom.specs.Linear.{LinearTerm, LinearMeaning}
-
--- the sides of the only argument
-abbrev pub only : List Sides → Option Sides
-only [] = None
-only (s ∷ []) = Some s
-only (s ∷ r ∷ rs) = None
 
 -- the entries of a stride, each times a coefficient
 abbrev pub stride_terms : ℚ → Stride → List LinearTerm

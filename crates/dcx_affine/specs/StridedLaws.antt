@@ -11,7 +11,8 @@ use Rattle.dcx_atom.specs.Arrays.{Entries, sides_at}
 use Rattle.dcx_atom.specs.Axis.{stride_entry}
 use Rattle.dcx_atom.specs.Linear.{terms_at, IsLinear, KeepsSign, KeepsTrend}
 use Rattle.dcx_atom.proofs.LinearSums.{HasNoNegative, HasOnlyFirst, rising_trend, first_sign, All-list_below, terms_at-list_below}
-use Rattle.dcx_affine.specs.Strided.{only, stride_terms, stride_sum, one_entry, StridedCall, strided_meaning, IsStrided}
+use Rattle.dcx_atom.specs.Bounding.{only}
+use Rattle.dcx_affine.specs.Strided.{stride_terms, stride_sum, one_entry, StridedCall, strided_meaning, IsStrided}
 
 -- the terms of a stride are its sum times the coefficient
 pub stride_terms_are : (c : ℚ) (s : Stride) (a : Entries) → terms_at (stride_terms c s) a ≡ c *ℚ stride_sum s (a 0)

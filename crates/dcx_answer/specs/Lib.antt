@@ -1,2 +1,2 @@
--- What the types of this crate cite.
+-- What the types cite: which stops name a node of the problem.
 pub mod NodeStops

@@ -9,7 +9,8 @@
 //!
 //! | what must hold | where |
 //! |---|---|
-//! | multipliers are a list of arrays, one for each constraint, made and given back without taking memory; so are lists of constraints, of points, of outcomes and of a tree's nodes | `Duals`, `Members`, `Points`, `Outcomes`, `BranchTree` |
+//! | multipliers are a list of arrays, one for each constraint, made and given back without taking memory | `Duals` |
+//! | so are lists of constraints, of points, of outcomes and of a tree's nodes | `Members`, `Points`, `Outcomes`, `BranchTree` |
 //! | an outcome has a place exactly where its stop names a node of the problem | `Outcome`, `FilterOutcome`, `WholeOutcome`, `RangeOutcome`, `specs/NodeStops.antt` |
 //! | of the stops and faults, the empty allocation is want of memory | `FilterStop`, `RangeStop`, `BranchStop`, `CertFault` |
 #![tactic(auto)]

@@ -72,9 +72,12 @@ all_cells cells old args i le e = e ∙ ap (λ (xs : List ℕ). old ++ cells_fro
 pub next_cells : (cells now old : List Cell) (args : List ℕ) (i at : ℕ) → i < length args → cells ≡ old ++ cells_from (length old) (take i args) → at ≡ length cells
     → now ≡ cells ++ record { node = get_or args i 0; next = at + 1 } ∷ [] → now ≡ old ++ cells_from (length old) (take (i + 1) args)
 next_cells cells now old args i at lt so_far here added =
-    let n : at ≡ length old + length (take i args) = here ∙ ap length so_far ∙ length-append old (cells_from (length old) (take i args)) ∙ ap (λ k. length old + k) (length-cells_from (length old) (take i args)) in
-    let front : old ++ cells_from (length old) (take (i + 1) args) ≡ (old ++ cells_from (length old) (take i args)) ++ record { node = get_or args i 0; next = length old + length (take i args) + 1 } ∷ []
-    = rw (take_more args i 0 lt, cells_from-push (length old) (take i args) (get_or args i 0)) (sym (append_assoc old (cells_from (length old) (take i args)) (record { node = get_or args i 0; next = length old + length (take i args) + 1 } ∷ []))) in
+    let n : at ≡ length old + length (take i args) =
+    here ∙ ap length so_far ∙ length-append old (cells_from (length old) (take i args)) ∙ ap (λ k. length old + k) (length-cells_from (length old) (take i args)) in
+    let front : old ++ cells_from (length old) (take (i + 1) args)
+    ≡ (old ++ cells_from (length old) (take i args)) ++ record { node = get_or args i 0; next = length old + length (take i args) + 1 } ∷ []
+    = rw (take_more args i 0 lt, cells_from-push (length old) (take i args) (get_or args i 0))
+    (sym (append_assoc old (cells_from (length old) (take i args)) (record { node = get_or args i 0; next = length old + length (take i args) + 1 } ∷ []))) in
     added ∙ rw (so_far, n) (sym front)
 
 -- a cell that was read

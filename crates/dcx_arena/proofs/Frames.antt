@@ -30,16 +30,19 @@ module _ {C : Type 0} (cells : List Cell) (nodes : List (Node C)) where
 
   pub ready_more : (before now : List ℕ) (fs : List Frame) → ((x : ℕ) → has before x ≡ true → has now x ≡ true) → AreReady cells nodes before fs → AreReady cells nodes now fs
   ready_more before now [] more h = tt
-  ready_more before now (f ∷ fs) more h = (is_ready_more (before ++ todo cells nodes fs) (now ++ todo cells nodes fs) f (has_more before now (todo cells nodes fs) more) h.0, ready_more before now fs more h.1)
+  ready_more before now (f ∷ fs) more h =
+      (is_ready_more (before ++ todo cells nodes fs) (now ++ todo cells nodes fs) f (has_more before now (todo cells nodes fs) more) h.0, ready_more before now fs more h.1)
 
   above_is : (before : List ℕ) (fs : List Frame) (f : Frame) → (before ++ rest_of cells nodes f) ++ todo cells nodes fs ≡ before ++ todo cells nodes (fs ++ f ∷ [])
   above_is before fs f = append_assoc before (rest_of cells nodes f) (todo cells nodes fs) ∙ ap (λ xs. before ++ xs) (sym (todo_push fs f))
 
-  pub ready_push : (before : List ℕ) (fs : List Frame) (f : Frame) → AreReady cells nodes (before ++ rest_of cells nodes f) fs → IsReady cells nodes before f → AreReady cells nodes before (fs ++ f ∷ [])
+  pub ready_push : (before : List ℕ) (fs : List Frame) (f : Frame) → AreReady cells nodes (before ++ rest_of cells nodes f) fs → IsReady cells nodes before f
+      → AreReady cells nodes before (fs ++ f ∷ [])
   ready_push before [] f h k = (subst (λ xs. IsReady cells nodes xs f) (sym (append-nil before)) k, tt)
   ready_push before (g ∷ fs) f h k = (subst (λ xs. IsReady cells nodes xs g) (above_is before fs f) h.0, ready_push before fs f h.1 k)
 
-  pub ready_pop : (before : List ℕ) (fs : List Frame) (f : Frame) → AreReady cells nodes before (fs ++ f ∷ []) → AreReady cells nodes (before ++ rest_of cells nodes f) fs × IsReady cells nodes before f
+  pub ready_pop : (before : List ℕ) (fs : List Frame) (f : Frame) → AreReady cells nodes before (fs ++ f ∷ [])
+      → AreReady cells nodes (before ++ rest_of cells nodes f) fs × IsReady cells nodes before f
   ready_pop before [] f h = (tt, subst (λ xs. IsReady cells nodes xs f) (append-nil before) h.0)
   ready_pop before (g ∷ fs) f h =
       let r = ready_pop before fs f h.1 in
@@ -55,7 +58,8 @@ module _ {C : Type 0} (cells : List Cell) (nodes : List (Node C)) where
       omega (arith, e, k)
 
 -- node i isn't finished, or is it, as it is entered
-module _ {C : Type 0} (gives : C → List Sides → Option Sides) (hash : C → ℕ) (cells : List Cell) (stored : List (Stored C)) (kept : IsKept hash cells stored) (are : AreNodes gives (nodes_of cells stored)) (order : List ℕ) (fs now : List Frame) (i : ℕ) where
+module _ {C : Type 0} (gives : C → List Sides → Option Sides) (hash : C → ℕ) (cells : List Cell) (stored : List (Stored C)) (kept : IsKept hash cells stored)
+    (are : AreNodes gives (nodes_of cells stored)) (order : List ℕ) (fs now : List Frame) (i : ℕ) where
   pub long_postorder : length (postorder (nodes_of cells stored) i) ≡ length (flat_map (postorder (nodes_of cells stored)) (args_at (nodes_of cells stored) i)) + 1
   long_postorder = ap length (postorder_is gives (nodes_of cells stored) are i) ∙ length-append (flat_map (postorder (nodes_of cells stored)) (args_at (nodes_of cells stored) i)) (i ∷ [])
 
@@ -66,7 +70,8 @@ module _ {C : Type 0} (gives : C → List Sides → Option Sides) (hash : C → 
 
     pub there_order : with_all order (todo cells (nodes_of cells stored) now) ≡ with_all order (postorder (nodes_of cells stored) i ++ todo cells (nodes_of cells stored) fs)
     there_order = rw same (sym (with_all-append order (postorder (nodes_of cells stored) i) (todo cells (nodes_of cells stored) fs)
-        ∙ ap (λ xs. with_all xs (todo cells (nodes_of cells stored) fs)) (with_all_there order (postorder (nodes_of cells stored) i) (λ x k. closed_has gives (nodes_of cells stored) are order closed i x here k))))
+        ∙ ap (λ xs. with_all xs (todo cells (nodes_of cells stored) fs))
+        (with_all_there order (postorder (nodes_of cells stored) i) (λ x k. closed_has gives (nodes_of cells stored) are order closed i x here k))))
 
     pub there_steps : steps_of cells (nodes_of cells stored) now < steps_of cells (nodes_of cells stored) fs + 2 * length (postorder (nodes_of cells stored) i)
     there_steps = let n = long_postorder in rw same (omega (arith, n))
@@ -97,7 +102,8 @@ module _ {C : Type 0} (gives : C → List Sides → Option Sides) (hash : C → 
         omega (arith, n, p, l)
 
 -- the last frame goes on or is done
-module _ {C : Type 0} (gives : C → List Sides → Option Sides) (cells : List Cell) (nodes : List (Node C)) (are : AreNodes gives nodes) (order : List ℕ) (fs : List Frame) (f : Frame) (ready : AreReady cells nodes order (fs ++ f ∷ [])) where
+module _ {C : Type 0} (gives : C → List Sides → Option Sides) (cells : List Cell) (nodes : List (Node C)) (are : AreNodes gives nodes) (order : List ℕ) (fs : List Frame)
+    (f : Frame) (ready : AreReady cells nodes order (fs ++ f ∷ [])) where
   pub frame_ready : IsReady cells nodes order f
   frame_ready = (ready_pop cells nodes order fs f ready).1
 
@@ -114,7 +120,8 @@ module _ {C : Type 0} (gives : C → List Sides → Option Sides) (cells : List 
     done_rest = ap (λ xs. flat_map (postorder nodes) xs ++ f.node ∷ []) none_left
 
     pub done_ready : AreReady cells nodes (with_new order f.node) fs
-    done_ready = ready_more cells nodes (order ++ f.node ∷ []) (with_new order f.node) fs (λ x. with_has order f.node x) (subst (λ xs. AreReady cells nodes (order ++ xs) fs) done_rest (ready_pop cells nodes order fs f ready).0)
+    done_ready = ready_more cells nodes (order ++ f.node ∷ []) (with_new order f.node) fs (λ x. with_has order f.node x)
+        (subst (λ xs. AreReady cells nodes (order ++ xs) fs) done_rest (ready_pop cells nodes order fs f ready).0)
 
     pub done_order : with_all (with_new order f.node) (todo cells nodes fs) ≡ with_all order (todo cells nodes (fs ++ f ∷ []))
     done_order = sym (ap (with_all order) (todo_push cells nodes fs f ∙ ap (λ xs. xs ++ todo cells nodes fs) done_rest))
@@ -159,7 +166,9 @@ module _ {C : Type 0} (gives : C → List Sides → Option Sides) (cells : List 
         })
 
     pub next_order : with_all order (postorder nodes a ++ todo cells nodes (fs ++ g ∷ [])) ≡ with_all order (todo cells nodes (fs ++ f ∷ []))
-    next_order = ap (with_all order) (ap (λ xs. postorder nodes a ++ xs) (todo_push cells nodes fs g) ∙ sym (append_assoc (postorder nodes a) (rest_of cells nodes g) (todo cells nodes fs)) ∙ ap (λ xs. xs ++ todo cells nodes fs) (sym next_rest) ∙ sym (todo_push cells nodes fs f))
+    next_order = ap (with_all order)
+        (ap (λ xs. postorder nodes a ++ xs) (todo_push cells nodes fs g) ∙ sym (append_assoc (postorder nodes a) (rest_of cells nodes g) (todo cells nodes fs))
+        ∙ ap (λ xs. xs ++ todo cells nodes fs) (sym next_rest) ∙ sym (todo_push cells nodes fs f))
 
     pub next_steps : steps_of cells nodes (fs ++ g ∷ []) + 2 * length (postorder nodes a) ≡ steps_of cells nodes (fs ++ f ∷ [])
     next_steps =

@@ -43,9 +43,6 @@ module _ {C : Type 0} where
         nodes,
       )
 
-  in_kept : (stored : List (Stored C)) (s : Stored C) (b i : ℕ) → i < length stored → IsIn (stored ++ s ∷ []) b i ≡ IsIn stored b i
-  in_kept stored s b i lt = ap (λ (o : Option (Stored C)). option_map (λ x. x.bucket) o ≡ Some b) (in_front stored (s ∷ []) i lt)
-
   within_kept : (stored : List (Stored C)) (s : Stored C) (m n b : ℕ) (at : Option ℕ) → m ≤ length stored → m ≤ n → IfSome at (λ i. (i < m) × IsIn stored b i) → IfSome at (λ i. (i < n) × IsIn (stored ++ s ∷ []) b i)
   within_kept stored s m n b None le wide h = tt
   within_kept stored s m n b (Some i) le wide h = (omega (arith, h.0), rw (in_front stored (s ∷ []) i (omega (arith, h.0))) h.1)

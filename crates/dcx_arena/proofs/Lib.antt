@@ -1,4 +1,4 @@
--- The lemmas by which the functions and the laws of this crate are proved.
+-- The lemmas on the chains of the store, on the order and the part that is gathered, and on what nodes stand for.
 pub mod Nodes
 pub mod Positions
 mod Cells

@@ -54,7 +54,8 @@ module _ {C : Type 0} where
         (push_each (λ j' k'. IsOf n k'.call k'.args → length nodes ≡ j') nodes n (λ j' k' there' of. absurd (new j' (k', there', swapped n k' of))) (λ of. refl))
         i m at j k there;
     shaped = push_each (λ i m. gives m.call (map (sides_at (nodes ++ n ∷ [])) m.args) ≡ Some m.sides) nodes n
-        (λ i m at. let lt = slice_get_within nodes i m at in ap (gives m.call) (sides_more nodes (n ∷ []) m.args (λ k d below. let b = h.earlier i m at k d below in omega (arith, b, lt))) ∙ h.shaped i m at)
+        (λ i m at. let lt = slice_get_within nodes i m at in
+        ap (gives m.call) (sides_more nodes (n ∷ []) m.args (λ k d below. let b = h.earlier i m at k d below in omega (arith, b, lt))) ∙ h.shaped i m at)
         (ap (gives n.call) (sides_more nodes (n ∷ []) n.args args) ∙ shaped);
     room = record { few_nodes = let e = length-append nodes (n ∷ []) in omega (arith, e, room.few_nodes); few_entries = let e = entries_more nodes n in omega (arith, e, room.few_entries) };
   }

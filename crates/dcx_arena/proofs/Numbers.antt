@@ -65,7 +65,8 @@ module _ (order : List ℕ) (numbers : List (Option ℕ)) (i : ℕ) (h : IsNumbe
 
   listed_push : (k j : ℕ) → slice_get (order ++ i ∷ []) k ≡ Some j → get_or (set numbers i (Some (length order))) j None ≡ Some k
   listed_push = push_each (λ k j. get_or (set numbers i (Some (length order))) j None ≡ Some k) order i
-      (λ k j at. let other : j ≢ i = λ same. none-some k (sym e ∙ ap (λ z. get_or numbers z None) (sym same) ∙ h.listed k j at) in get_or-set_other numbers i j (Some (length order)) None other ∙ h.listed k j at)
+      (λ k j at. let other : j ≢ i = λ same. none-some k (sym e ∙ ap (λ z. get_or numbers z None) (sym same) ∙ h.listed k j at) in
+      get_or-set_other numbers i j (Some (length order)) None other ∙ h.listed k j at)
       (get_or-set_same numbers i (Some (length order)) None lt)
 
   pub numbering_push : IsNumbering (order ++ i ∷ []) (set numbers i (Some (length order)))

@@ -41,7 +41,8 @@ module _ {C : Type 0} where
     place = (h.same_place ∙ sym k.same_place) i;
   }
 
-  pub one_gathering : (nodes : List (Node C)) (roots : List ℕ) (part other : List (Node C)) (ends others : List ℕ) → IsGathered nodes roots part ends → IsGathered nodes roots other others → (part ≡ other) × (ends ≡ others)
+  pub one_gathering : (nodes : List (Node C)) (roots : List ℕ) (part other : List (Node C)) (ends others : List ℕ) → IsGathered nodes roots part ends
+      → IsGathered nodes roots other others → (part ≡ other) × (ends ≡ others)
   one_gathering nodes roots part other ends others g h =
       (one_list part other (g.count ∙ sym h.count) same_node, one_name order once ends others roots g.roots_stand h.roots_stand)
     where

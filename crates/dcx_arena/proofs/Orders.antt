@@ -1,5 +1,6 @@
 -- Numbers in the order in which they first stand, and postorders.
-use Rattle.std.proofs.Common.{◌≡◌, ℕ, zero, suc, ◌<◌, ◌==◌, ◌⊎◌, Bool, true, false, if◌then◌else◌, List, [], ◌∷◌, ◌++◌, Option, Some, None, option_map, refl, sym, ap, ap₂, subst, ◌∙◌, arith, All, append_assoc, append-nil}
+use Rattle.std.proofs.Common.{◌≡◌, ℕ, zero, suc, ◌<◌, ◌==◌, ◌⊎◌, Bool, true, false, if◌then◌else◌, List, [], ◌∷◌, ◌++◌, Option}
+use Rattle.std.proofs.Common.{Some, None, option_map, refl, sym, ap, ap₂, subst, ◌∙◌, arith, All, append_assoc, append-nil}
 use Rattle.std.specs.List.{slice_get, flat_map}
 use Rattle.std.specs.Option.{unwrap_or}
 use Rattle.std.proofs.lemmas.Bool.Decides.{Decides-eqb}
@@ -119,7 +120,7 @@ has_flat f (y ∷ xs) x h = elim (has_split (f y) (flat_map f xs) x h) [
   | inr q ↦ let r = has_flat f xs x q in (r.0, tail_has y r.0 xs r.1, r.2)
 ]
 
-flat_same : (f g : ℕ → List ℕ) (xs : List ℕ) → ((a : ℕ) → has xs a ≡ true → f a ≡ g a) → flat_map f xs ≡ flat_map g xs
+pub flat_same : (f g : ℕ → List ℕ) (xs : List ℕ) → ((a : ℕ) → has xs a ≡ true → f a ≡ g a) → flat_map f xs ≡ flat_map g xs
 flat_same f g [] h = refl
 flat_same f g (x ∷ xs) h = ap₂ (λ a b. a ++ b) (h x (has_one x xs)) (flat_same f g xs (λ a k. h a (tail_has x a xs k)))
 
@@ -135,7 +136,8 @@ module _ {C : Type 0} (gives : C → List Sides → Option Sides) (nodes : List 
   post_same : (n m i : ℕ) → i < n → i < m → postorder_below n nodes i ≡ postorder_below m nodes i
   post_same zero m i a b = absurd (omega arith)
   post_same (suc n) zero i a b = absurd (omega arith)
-  post_same (suc n) (suc m) i a b = ap (λ xs. xs ++ i ∷ []) (flat_same (postorder_below n nodes) (postorder_below m nodes) (args_at nodes i) (λ k h. let lt = arg_below i k h in post_same n m k (omega arith) (omega arith)))
+  post_same (suc n) (suc m) i a b = ap (λ xs. xs ++ i ∷ [])
+      (flat_same (postorder_below n nodes) (postorder_below m nodes) (args_at nodes i) (λ k h. let lt = arg_below i k h in post_same n m k (omega arith) (omega arith)))
 
   -- the arguments' postorders, and then the node
   pub postorder_is : (i : ℕ) → postorder nodes i ≡ flat_map (postorder nodes) (args_at nodes i) ++ i ∷ []

@@ -1,5 +1,6 @@
 -- The part of a list of nodes that is finished.
-use Rattle.std.proofs.Common.{◌≡◌, Result, Ok, Err, ℕ, suc, ◌+◌, ◌<◌, ◌≤◌, true, List, [], ◌∷◌, ◌++◌, length, take, get_or, map, Option, Some, None, option_map, refl, sym, ap, ap₂, subst, ◌∙◌, arith, All, length-append}
+use Rattle.std.proofs.Common.{◌≡◌, Result, Ok, Err, ℕ, suc, ◌+◌, ◌<◌, ◌≤◌, true, List, [], ◌∷◌, ◌++◌, length, take, get_or}
+use Rattle.std.proofs.Common.{map, Option, Some, None, option_map, refl, sym, ap, ap₂, subst, ◌∙◌, arith, All, length-append}
 use Rattle.std.specs.List.{slice_get, sum_by, AllByRecursion}
 use Rattle.std.specs.Option.{unwrap_or}
 use Rattle.std.proofs.lemmas.List.{take_more, map-append}
@@ -27,7 +28,8 @@ use Rattle.dcx_arena.proofs.Orders.{has_one, tail_has}
 use Rattle.dcx_arena.proofs.Numbers.{listed_below, few_numbered}
 
 -- one more name
-pub stand_more : (order names here : List ℕ) (i k : ℕ) → i < length here → StandFor order names (take i here) → slice_get order k ≡ Some (get_or here i 0) → StandFor order (names ++ k ∷ []) (take (i + 1) here)
+pub stand_more : (order names here : List ℕ) (i k : ℕ) → i < length here → StandFor order names (take i here) → slice_get order k ≡ Some (get_or here i 0)
+    → StandFor order (names ++ k ∷ []) (take (i + 1) here)
 stand_more order names here i k lt so_far e =
     rw (map-append (slice_get order) names (k ∷ []), so_far, e, take_more here i 0 lt, map-append Some (take i here) (get_or here i 0 ∷ [])) refl
 
@@ -58,7 +60,8 @@ same_here (x ∷ xs) (y ∷ ys) e =
     let rest : map Some xs ≡ map Some ys = cc in
     ap₂ (λ z zs. z ∷ zs) (same_Some x y at) (same_here xs ys rest)
 
-weigh_nodes : {X : Type 0} (g : X → ℕ) (f : ℕ → ℕ) (i : ℕ) (numbers : List (Option ℕ)) (xs : List X) → length numbers ≡ length xs → ((k : ℕ) (x : X) → slice_get xs k ≡ Some x → f (i + k) ≡ g x) → weigh f i numbers ≤ sum_by g xs
+weigh_nodes : {X : Type 0} (g : X → ℕ) (f : ℕ → ℕ) (i : ℕ) (numbers : List (Option ℕ)) (xs : List X) → length numbers ≡ length xs
+    → ((k : ℕ) (x : X) → slice_get xs k ≡ Some x → f (i + k) ≡ g x) → weigh f i numbers ≤ sum_by g xs
 weigh_nodes g f i [] xs n h = omega arith
 weigh_nodes g f i (o ∷ numbers) [] n h = absurd (omega arith)
 weigh_nodes g f i (None ∷ numbers) (x ∷ xs) n h =
@@ -71,7 +74,8 @@ weigh_nodes g f i (Some j ∷ numbers) (x ∷ xs) n h =
     let r = weigh_nodes g f (suc i) numbers xs (omega arith) (λ k y e. let z : suc i + k ≡ i + suc k = omega arith in rw z (h (suc k) y e)) in
     omega (arith, s, r, here)
 
-sum_part : {X : Type 0} (g : X → ℕ) (f : ℕ → ℕ) (part : List X) (order : List ℕ) → ((k : ℕ) (x : X) → slice_get part k ≡ Some x → (i : ℕ) × (slice_get order k ≡ Some i) × (f i ≡ g x)) → sum_by g part ≤ sum_by f order
+sum_part : {X : Type 0} (g : X → ℕ) (f : ℕ → ℕ) (part : List X) (order : List ℕ)
+    → ((k : ℕ) (x : X) → slice_get part k ≡ Some x → (i : ℕ) × (slice_get order k ≡ Some i) × (f i ≡ g x)) → sum_by g part ≤ sum_by f order
 sum_part g f [] order h = omega arith
 sum_part g f (x ∷ part) [] h = let (i, at, e) = h 0 x refl in absurd (none-some i at)
 sum_part g f (x ∷ part) (o ∷ order) h =
@@ -90,10 +94,12 @@ not_over nodes entries Steps count h o = o
 not_over nodes entries Events count h o = o
 
 -- a node of the order is there
-pub stored_below : {C : Type 0} (cells : List Cell) (stored : List (Stored C)) (order : List ℕ) (numbers : List (Option ℕ)) (k i : ℕ) → length numbers ≡ length (nodes_of cells stored) → IsNumbering order numbers → slice_get order k ≡ Some i → i < length stored
+pub stored_below : {C : Type 0} (cells : List Cell) (stored : List (Stored C)) (order : List ℕ) (numbers : List (Option ℕ)) (k i : ℕ)
+    → length numbers ≡ length (nodes_of cells stored) → IsNumbering order numbers → slice_get order k ≡ Some i → i < length stored
 stored_below cells stored order numbers k i long numbering e = let lt = listed_below order numbers k i numbering e in let n = count_nodes cells stored in omega (arith, lt, n, long)
 
-module _ {C : Type 0} (gives : C → List Sides → Option Sides) (nodes : List (Node C)) (are : AreNodes gives nodes) (order : List ℕ) (numbers : List (Option ℕ)) (long : length numbers ≡ length nodes) (numbering : IsNumbering order numbers) where
+module _ {C : Type 0} (gives : C → List Sides → Option Sides) (nodes : List (Node C)) (are : AreNodes gives nodes) (order : List ℕ) (numbers : List (Option ℕ))
+    (long : length numbers ≡ length nodes) (numbering : IsNumbering order numbers) where
   same_place_in : (j k i : ℕ) → slice_get order j ≡ Some i → slice_get order k ≡ Some i → j ≡ k
   same_place_in j k i a b = same_Some j k (sym (numbering.listed j i a) ∙ numbering.listed k i b)
 
@@ -115,7 +121,8 @@ module _ {C : Type 0} (gives : C → List Sides → Option Sides) (nodes : List 
       let d = weigh_nodes (λ (n : Node C). entries_of n.sides) entries_at 0 numbers nodes long (λ k n at. let z : 0 + k ≡ k = omega arith in rw z (ap entries_of (sides_of_node k n at))) in
       record { few_nodes = omega (arith, few, le, long, are.room.few_nodes); few_entries = omega (arith, a, b, d, are.room.few_entries) }
 
-  module _ (closed : IsClosed nodes order) (part : List (Node C)) (renamed : AreRenamed nodes order part) (i : ℕ) (m : Node C) (at_i : IsNode nodes i m) (next : slice_get order (length part) ≡ Some i) (names : List ℕ) (stand : StandFor order names m.args) where
+  module _ (closed : IsClosed nodes order) (part : List (Node C)) (renamed : AreRenamed nodes order part) (i : ℕ) (m : Node C) (at_i : IsNode nodes i m)
+      (next : slice_get order (length part) ≡ Some i) (names : List ℕ) (stand : StandFor order names m.args) where
     args_is : args_at nodes i ≡ m.args
     args_is = ap (λ (o : Option (Node C)). unwrap_or (option_map (λ n. n.args) o) []) at_i
 

@@ -8,7 +8,8 @@ use Rattle.dcx_arena.specs.Nodes.{Node, IsNode, AreNodes, args_at}
 use Rattle.dcx_arena.specs.Gather.{has, with_new, with_all, postorder, order_of, StandFor, IsRenamed, AreRenamed}
 use Rattle.dcx_arena.specs.Unfold.{Expressions, none, one, Unfold, Leads, IsReached}
 use Rattle.dcx_arena.proofs.Nodes.{push_each}
-use Rattle.dcx_arena.proofs.Orders.{either, has_left, has_split, has_more, has_one, tail_has, one_is, has_from, has_flat, flat_has, with_there, with_added, with_all_has, not_true, all_has, arg_below, postorder_is, postorder_has}
+use Rattle.dcx_arena.proofs.Orders.{either, has_left, has_split, has_more, has_one, tail_has, one_is, has_from, has_flat, flat_has}
+use Rattle.dcx_arena.proofs.Orders.{with_there, with_added, with_all_has, not_true, all_has, arg_below, postorder_is, postorder_has}
 
 new_from : (xs : List ℕ) (y x : ℕ) → has (with_new xs y) x ≡ true → has (xs ++ y ∷ []) x ≡ true
 new_from xs y x h = elim (either (has xs y)) [
@@ -30,8 +31,10 @@ IsOnce xs = (h k i : ℕ) → slice_get xs h ≡ Some i → slice_get xs k ≡ S
 once_push : (xs : List ℕ) (y : ℕ) → has xs y ≡ false → IsOnce xs → IsOnce (xs ++ y ∷ [])
 once_push xs y new once h k i a b =
     push_each (λ h' i'. (k' : ℕ) → slice_get (xs ++ y ∷ []) k' ≡ Some i' → h' ≡ k') xs y
-    (λ h' i' a' k' b'. push_each (λ k'' j''. j'' ≡ i' → h' ≡ k'') xs y (λ k'' j'' b'' e. once h' k'' i' a' (b'' ∙ ap Some e)) (λ e. absurd (not_true (has xs y) new (subst (λ z. has xs z ≡ true) (sym e) (has_from xs h' i' a')))) k' i' b' refl)
-    (λ k' b'. push_each (λ k'' j''. j'' ≡ y → length xs ≡ k'') xs y (λ k'' j'' b'' e. absurd (not_true (has xs y) new (subst (λ z. has xs z ≡ true) e (has_from xs k'' j'' b'')))) (λ e. refl) k' y b' refl)
+    (λ h' i' a' k' b'. push_each (λ k'' j''. j'' ≡ i' → h' ≡ k'') xs y (λ k'' j'' b'' e. once h' k'' i' a' (b'' ∙ ap Some e))
+    (λ e. absurd (not_true (has xs y) new (subst (λ z. has xs z ≡ true) (sym e) (has_from xs h' i' a')))) k' i' b' refl)
+    (λ k' b'. push_each (λ k'' j''. j'' ≡ y → length xs ≡ k'') xs y
+    (λ k'' j'' b'' e. absurd (not_true (has xs y) new (subst (λ z. has xs z ≡ true) e (has_from xs k'' j'' b'')))) (λ e. refl) k' y b' refl)
     h i a k b
 
 once_new : (xs : List ℕ) (y : ℕ) → IsOnce xs → IsOnce (with_new xs y)
@@ -97,11 +100,6 @@ module _ {C : Type 0} where
     -- each node stands for an expression
     pub unfold_one : (i : ℕ) → i < length nodes → (t : Expressions C) × Unfold nodes (i ∷ []) t
     unfold_one i lt = unfold_below (suc i) (i ∷ []) (λ a h. let e = one_is i a h in (omega (arith, e), omega (arith, e, lt)))
-
-    -- a path, and one argument more
-    leads_more : (i : ℕ) (path : List ℕ) (j a : ℕ) → Leads nodes i path j → has (args_at nodes j) a ≡ true → Leads nodes i (path ++ a ∷ []) a
-    leads_more i [] j a e h = (subst (λ z. has (args_at nodes z) a ≡ true) (sym e) h, refl)
-    leads_more i (b ∷ path) j a l h = (l.0, leads_more b path j a l.1 h)
 
     lead_in : (n i : ℕ) → i < n → (j : ℕ) → has (postorder nodes i) j ≡ true → (path : List ℕ) × Leads nodes i path j
     lead_in zero i lt j h = absurd (omega arith)

@@ -1,5 +1,6 @@
 -- Walking the chains of the store.
-use Rattle.std.proofs.Common.{◌≡◌, ◌≢◌, ℕ, zero, suc, ◌+◌, ◌-◌, ◌<◌, ◌≤◌, List, ◌∷◌, length, get_or, drop, drop-cons, add-one, add-zero, Option, Some, None, IfSome, option_map, refl, sym, subst, ap, ap₂, ◌∙◌, ◌↔◌, arith}
+use Rattle.std.proofs.Common.{◌≡◌, ◌≢◌, ℕ, zero, suc, ◌+◌, ◌-◌, ◌<◌, ◌≤◌, List, ◌∷◌, length, get_or, drop, drop-cons, add-one}
+use Rattle.std.proofs.Common.{add-zero, Option, Some, None, IfSome, option_map, refl, sym, subst, ap, ap₂, ◌∙◌, ◌↔◌, arith}
 use Rattle.std.specs.List.{slice_get}
 use Rattle.std.proofs.lemmas.Option.{slice_get-map, slice_get_within}
 use Rattle.dcx_arena.specs.declared.store.Cell.{Cell}
@@ -50,9 +51,6 @@ next_cell cells count i at lt there =
 -- cell i of a chain, of which `whole` are the nodes
 module _ (cells : List Cell) (count i at : ℕ) (whole : List ℕ) (lt : i < count) (there : IsChain cells (count - i) at)
     (rest : (j : ℕ) → slice_get (chain cells (count - i) at) j ≡ slice_get whole (i + j)) where
-  pub cell_there : at < length cells
-  cell_there = (next_cell cells count i at lt there).0
-
   pub cell_is : slice_get whole i ≡ Some (cell_at cells at).node
   cell_is = let n = next_cell cells count i at lt there in sym (rw (n.2, add-zero) at (rest 0))
 
@@ -92,7 +90,8 @@ module _ {C : Type 0} where
   bucket_is stored i b s e k = let h = is_in stored i s.bucket s e refl in cc
 
   -- the node that is looked for isn't above the last one of its bucket
-  pub head_up : (hash : C → ℕ) (cells : List Cell) (stored : List (Stored C)) (call : C) (args : List ℕ) (at : Option ℕ) → IsKept hash cells stored → IsLast stored (length stored) (bucket_for hash call args) at
+  pub head_up : (hash : C → ℕ) (cells : List Cell) (stored : List (Stored C)) (call : C) (args : List ℕ) (at : Option ℕ) → IsKept hash cells stored
+      → IsLast stored (length stored) (bucket_for hash call args) at
       → (j : ℕ) → Holds (nodes_of cells stored) call args j → IsUpTo j at
   head_up hash cells stored call args at kept h j (n, there, of) =
       let (t, f) = node_stored cells stored j n there in

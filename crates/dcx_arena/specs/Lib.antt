@@ -1,4 +1,4 @@
--- What the contracts of this crate cite.
+-- What contracts cite: nodes, how the store keeps and gathers them, what they stand for, and the laws.
 pub mod Nodes
 pub mod Chains
 pub mod Gather

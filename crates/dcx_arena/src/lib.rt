@@ -7,7 +7,8 @@
 //! |---|---|
 //! | `push` answers the node that is there and leaves the tree as it was, or adds one at the end | `Tree::push`, `IsPushed` of `specs/Nodes.antt` |
 //! | a fault comes exactly from its cause, nodes named before entries, and leaves the tree as it was | the same |
-//! | arguments stand before their node, no two nodes are alike, shapes are those that the calls give, nodes and entries are at most 20,000 | `Tree::push`, `Tree::nodes`, `Tree::gathered`, `AreNodes` of `specs/Nodes.antt` |
+//! | arguments stand before their node, no two nodes are alike, shapes are those that the calls give | `Tree::push`, `Tree::nodes`, `Tree::gathered`, `AreNodes` of `specs/Nodes.antt` |
+//! | nodes and entries are at most 20,000 | the same, by `AreNodes` |
 //! | call, arguments, shape and place of a node | the readers of `Tree` |
 //! | a part has the nodes that its roots reach, in the order of first finishing, with their calls, shapes and places | `Tree::gathered`, `IsGathered` of `specs/Gather.antt` |
 //! | a node stands for one finite expression, and no other node for that one | `laws::sharing` |

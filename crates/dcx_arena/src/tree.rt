@@ -88,14 +88,6 @@ impl<C: Operator> Tree<C> {
         self.store.stored[node.0 as usize].place
     }
 
-    /// How many arguments a node has.
-    pub fn arg_count(&self, node: NodeId) -> usize
-        requires { node.0 < length self.now }
-        ensures { result ≡ length (args_at self.now node.0) }
-    {
-        self.store.stored[node.0 as usize].count
-    }
-
     /// Argument `i` of a node, from 0; `None` where the tree doesn't have the node, or the node so many arguments.
     pub fn arg(&self, node: NodeId, i: u32) -> Option<NodeId>
         ensures { option_map (λ a. a.0) result ≡ slice_get (args_at self.now node.0) i }

@@ -56,8 +56,10 @@ fn enter<C: Operator>(
     requires finished { IsFinished (nodes_in store.now) finished.now }
     requires ready { AreReady store.now.cells.items (nodes_in store.now) (finished.now.order.items ++ postorder (nodes_in store.now) node) frames.old.items }
     ensures ready { OnOk result (AreReady store.now.cells.items (nodes_in store.now) finished.now.order.items frames.new.items) }
-    ensures order { OnOk result (with_all finished.now.order.items (todo store.now.cells.items (nodes_in store.now) frames.new.items) ≡ with_all finished.now.order.items (postorder (nodes_in store.now) node ++ todo store.now.cells.items (nodes_in store.now) frames.old.items)) }
-    ensures steps { OnOk result (steps_of store.now.cells.items (nodes_in store.now) frames.new.items < steps_of store.now.cells.items (nodes_in store.now) frames.old.items + 2 * length (postorder (nodes_in store.now) node)) }
+    ensures order { OnOk result (with_all finished.now.order.items (todo store.now.cells.items (nodes_in store.now) frames.new.items)
+        ≡ with_all finished.now.order.items (postorder (nodes_in store.now) node ++ todo store.now.cells.items (nodes_in store.now) frames.old.items)) }
+    ensures steps { OnOk result (steps_of store.now.cells.items (nodes_in store.now) frames.new.items
+        < steps_of store.now.cells.items (nodes_in store.now) frames.old.items + 2 * length (postorder (nodes_in store.now) node)) }
 {
     if finished.numbers[node as usize].is_none() {
         let entered = &store.stored[node as usize];
@@ -82,7 +84,8 @@ fn step<C: Operator>(
     requires ready { AreReady store.now.cells.items (nodes_in store.now) finished.old.order.items (frames.old.items ++ frame ∷ []) }
     ensures finished { OnOk result (IsFinished (nodes_in store.now) finished.new) }
     ensures ready { OnOk result (AreReady store.now.cells.items (nodes_in store.now) finished.new.order.items frames.new.items) }
-    ensures order { OnOk result (with_all finished.new.order.items (todo store.now.cells.items (nodes_in store.now) frames.new.items) ≡ with_all finished.old.order.items (todo store.now.cells.items (nodes_in store.now) (frames.old.items ++ frame ∷ []))) }
+    ensures order { OnOk result (with_all finished.new.order.items (todo store.now.cells.items (nodes_in store.now) frames.new.items)
+        ≡ with_all finished.old.order.items (todo store.now.cells.items (nodes_in store.now) (frames.old.items ++ frame ∷ []))) }
     ensures steps { OnOk result (steps_of store.now.cells.items (nodes_in store.now) frames.new.items < steps_of store.now.cells.items (nodes_in store.now) (frames.old.items ++ frame ∷ [])) }
 {
     if frame.left == 0 {

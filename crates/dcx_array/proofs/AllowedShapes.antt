@@ -11,7 +11,7 @@ use Rattle.dcx_shape.specs.Sides.{entries_of, HasFewEntries}
 use Rattle.dcx_shape.specs.Product.{IsProduct}
 use Rattle.dcx_array.specs.declared.fault.ArrayFault.{ArrayFault}
 use Rattle.dcx_array.specs.Shapes.{dec_few, shape_with, told, size_fault, allowed_shape, multiplied_sides}
-use Rattle.dcx_array.proofs.Equals.{shape_from_sides}
+use Rattle.dcx_shape.proofs.OneShape.{shape_from_sides}
 
 -- the sides of a shape have that shape
 pub shape_with-sides : (c : Shape) → shape_with (sides_of c) ≡ Some c

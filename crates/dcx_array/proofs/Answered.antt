@@ -1,22 +1,13 @@
 -- What one call after another answers.
-use Rattle.std.specs.Prelude.{◌≡◌, Result, Ok, Err}
-use Rattle.std.proofs.Common.{sym, ap, ◌∙◌, subst, inl, inr}
+use Rattle.std.specs.Prelude.{◌≡◌, Result, Ok}
+use Rattle.std.proofs.Common.{sym, subst}
 use Rattle.dcx_array.specs.declared.fault.ArrayFault.{ArrayFault}
-use Rattle.dcx_array.specs.declared.fault.ArrayFault.TheVariants.{Memory}
 use Rattle.dcx_array.specs.Answers.{Gives, and_then}
-
--- a fault ends what would follow
-pub gives_fault : {A B : Type 0} (r : Result A ArrayFault) (next : A → Result B ArrayFault) (fault : ArrayFault) → r ≡ Err fault → Gives (Err fault) (and_then r next)
-gives_fault r next fault e = inr (sym (ap (λ t. and_then t next) e))
 
 -- what is there is gone on with
 pub gives_next : {A B : Type 0} (r : Result A ArrayFault) (next : A → Result B ArrayFault) (x : A) (answered : Result B ArrayFault) → r ≡ Ok x → Gives answered (next x) →
     Gives answered (and_then r next)
 gives_next r next x answered e h = subst (λ t. Gives answered (and_then t next)) (sym e) h
-
--- want of memory
-pub gives_memory : {A : Type 0} (answered meant : Result A ArrayFault) (fault : ArrayFault) → answered ≡ Err fault → fault ≡ Memory → Gives answered meant
-gives_memory answered meant fault e m = inl (e ∙ ap Err m)
 
 -- what is meant by another name
 pub gives_same : {A : Type 0} (answered meant other : Result A ArrayFault) → Gives answered meant → meant ≡ other → Gives answered other

@@ -10,7 +10,7 @@ use Rattle.dcx_shape.specs.declared.shape.Shape.{Shape}
 use Rattle.dcx_shape.specs.Shape.{sides_of}
 use Rattle.dcx_shape.specs.Sides.{rank_of, rows_of, cols_of, entries_of, HasFewEntries}
 use Rattle.dcx_shape.specs.Broadcast.{IsJoinedSide, IsBroadcast, HasForm}
-use Rattle.dcx_shape.proofs.Broadcasts.{broadcast_from_form}
+use Rattle.dcx_shape.proofs.Broadcasts.{broadcast_from_form, some_sides}
 use Rattle.dcx_shape.proofs.Entries.{entries_are, factor_pos, place_below}
 use Rattle.dcx_affine.specs.Places.{stretched, promoted_place}
 use Rattle.dcx_array.specs.Shapes.{shape_with, joined_side, with_rank, with_sides, broadcast_of, common_with}
@@ -90,9 +90,6 @@ common_grows a c (b ∷ bs) e = by (λ x p. common_grows x c bs p) (broadcast_of
         let first : IsBroadcast a b x = broadcast_back a b x s in
         let last : Grows x c = rest x p in
         record { rows = omega (arith, (first.sides 1).greater, last.rows); columns = omega (arith, (first.sides 0).greater, last.columns) }
-
-some_sides : (s : Sides) → HasFewEntries s → (0 < rows_of s) × (0 < cols_of s)
-some_sides s few = factor_pos 0 (rows_of s) (cols_of s) (omega (arith, few.some, entries_are s))
 
 -- so it has no fewer entries
 few_before : (a x c : Sides) → HasFewEntries a → Grows a x → Grows x c → HasFewEntries c → HasFewEntries x

@@ -1,31 +1,15 @@
--- Shapes, arrays and calls of indices with equal parts are equal.
+-- Calls of indices with equal parts are equal, and a list is what its elements are.
 use Rattle.std.specs.Prelude.{◌≡◌, ℕ, ◌<◌, List, [], ◌∷◌, length}
 use Rattle.std.specs.List.{All}
 use Rattle.std.proofs.Common.{suc, zero, get_or, sym, ap₂, ◌∙◌, arith, refl}
 use Rattle.std.proofs.Props.{props}
 use mathlib.Core.HLevel.{is_prop→PathP}
 use native.Mathlib.Nat.{ℕ_set}
-use Rattle.dcx_shape.specs.declared.shape.Sides.{Sides}
-use Rattle.dcx_shape.specs.declared.shape.Shape.{Shape}
 use Rattle.dcx_shape.specs.Shape.{sides_of}
-use Rattle.dcx_shape.specs.Sides.{entries_of, HasFewEntries}
-use Rattle.dcx_atom.specs.declared.array.Array.{Array}
+use Rattle.dcx_shape.specs.Sides.{entries_of}
 use Rattle.dcx_atom.specs.Arrays.{list_below}
 use Rattle.dcx_atom.proofs.BoundRows.{list_below-first}
 use Rattle.dcx_affine.specs.declared.places.Index.{Index}
-
-few_prop : (s : Sides) → IsProp (HasFewEntries s)
-few_prop s = hlevel props
-
-pub shape_from_sides : (a b : Shape) → sides_of a ≡ sides_of b → a ≡ b
-shape_from_sides a b p = λ i. record { sides = p i; few = is_prop→PathP (λ j. HasFewEntries (p j)) (λ j. few_prop (p j)) a.few b.few i }
-
-pub array_from_parts : (a b : Array) → a.shape ≡ b.shape → a.entries ≡ b.entries → a ≡ b
-array_from_parts a b p q = λ i. record {
-  shape = p i;
-  entries = q i;
-  full = is_prop→PathP (λ j. length (q j) ≡ entries_of (sides_of (p j))) (λ j. ℕ_set (length (q j)) (entries_of (sides_of (p j)))) a.full b.full i;
-}
 
 places_prop : (n : ℕ) (ps : List ℕ) → IsProp (All (λ p. p < n) ps)
 places_prop n ps = hlevel props

@@ -192,5 +192,6 @@ pub divisor_is : (a b : Sides) (d : Array) (c : Shape) (k : ℕ) → sides_of d.
 divisor_is a b d c k same h none below zero =
     let turned : IsBroadcast (sides_of d.shape) a (sides_of c) = broadcast_commutes a (sides_of d.shape) (sides_of c) (subst (λ s. IsBroadcast a s (sides_of c)) (sym same) h) in
     let within : promoted_place (sides_of d.shape) (sides_of c) k < length d.entries = omega (arith, promoted_within (sides_of d.shape) a (sides_of c) k turned d.shape.few below, d.full) in
-    let found : list_any is_zero d.entries ≡ true = list_any_at is_zero d.entries (promoted_place (sides_of d.shape) (sides_of c) k) zero_frac within ((IsTrue-rat_eq (value (entry_beside d (sides_of c) k)) (whole (pos 0))).1 zero) in
+    let found : list_any is_zero d.entries ≡ true = list_any_at is_zero d.entries (promoted_place (sides_of d.shape) (sides_of c) k) zero_frac within
+    ((IsTrue-rat_eq (value (entry_beside d (sides_of c) k)) (whole (pos 0))).1 zero) in
     true≢false (sym found ∙ none)

@@ -14,7 +14,7 @@ use Rattle.dcx_atom.proofs.BoundRows.{list_below-first, map-list_below}
 use Rattle.dcx_atom.proofs.Lists.{list_below-same}
 use Rattle.dcx_array.specs.declared.fault.ArrayFault.TheVariants.{Wide}
 use Rattle.dcx_array.specs.Arrays.{filled, stop_in, first_stop, formed_number, formed_unless, formed_array}
-use Rattle.dcx_array.proofs.Equals.{array_from_parts}
+use Rattle.dcx_atom.proofs.OneArray.{array_from_parts}
 
 -- ---- each is formed
 first_stop-formed : (xs : List Frac) → first_stop (map Ok xs) ≡ None

@@ -28,10 +28,11 @@ use Rattle.dcx_array.specs.Arrays.{entry, filled, formed_array, array_with, iden
 use Rattle.dcx_array.specs.Operators.{negated_number, negated}
 use Rattle.dcx_array.specs.Picks.{picked_array}
 use Rattle.dcx_array.proofs.Answered.{gives_next, gives_same}
-use Rattle.dcx_array.proofs.Equals.{array_from_parts, list_below-is}
+use Rattle.dcx_array.proofs.Equals.{list_below-is}
 use Rattle.dcx_array.proofs.AllowedShapes.{shape_with-is, allowed_shape-is, allowed_shape-back}
 use Rattle.dcx_array.proofs.FormedEntries.{formed_given}
 use Rattle.dcx_array.proofs.Indices.{taken_is}
+use Rattle.dcx_atom.proofs.OneArray.{array_from_parts}
 
 -- ---- a list of numbers
 -- a list is that of its numbers
@@ -50,7 +51,8 @@ array_with-is sides shape xs a e s t =
 
 -- ---- numbers by their place
 -- an array of sides that are allowed
-pub given_gives : (sides : Sides) (shape : Shape) (f : Shape → ℕ → Frac) (answered : Result Array ArrayFault) → allowed_shape sides ≡ Ok shape → Gives answered (formed_array shape (λ k. Ok (f shape k))) →
+pub given_gives : (sides : Sides) (shape : Shape) (f : Shape → ℕ → Frac) (answered : Result Array ArrayFault) → allowed_shape sides ≡ Ok shape
+    → Gives answered (formed_array shape (λ k. Ok (f shape k))) →
     Gives answered (and_then (allowed_shape sides) (λ s. Ok (filled s (f s))))
 given_gives sides shape f answered e g =
     gives_next (allowed_shape sides) (λ s. Ok (filled s (f s))) shape answered e

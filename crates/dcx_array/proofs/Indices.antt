@@ -1,9 +1,8 @@
 -- What picks take of an array, and why they take nothing, is what the relations of indices say.
-use Rattle.std.specs.Prelude.{◌≡◌, ◌↔◌, ℕ, zero, suc, ◌+◌, ◌-◌, ◌*◌, ◌<◌, ◌≤◌, nat_le, true, false, ◌⊎◌, List, [], ◌∷◌, map, length, Some, Result, Ok, Err}
+use Rattle.std.specs.Prelude.{◌≡◌, ◌↔◌, ℕ, zero, suc, ◌+◌, ◌-◌, ◌*◌, ◌<◌, ◌⊎◌, List, [], ◌∷◌, map, length, Some, Result, Ok, Err}
 use Rattle.std.specs.List.{All, flat_map}
 use Rattle.std.proofs.Common.{refl, sym, ap, ◌∙◌, subst, arith, inl, inr, get_or}
-use Rattle.std.proofs.lemmas.Bool.{cases_lt}
-use Rattle.std.proofs.lemmas.Bool.Decides.{nat_tests}
+use Rattle.std.proofs.lemmas.Bool.{cases_lt, le-leb, lt-leb}
 use Rattle.std.proofs.lemmas.List.{length-map, length-append, get_or-map, get_or_append_left, get_or-append_right}
 use Rattle.std.proofs.lemmas.Grind.{same_number_lists}
 use native.Mathlib.Decide.{ℕ_discrete}
@@ -59,18 +58,12 @@ crossed_one from rows columns xs ys r t =
     same_number_lists xs ys (r.count ∙ sym t.count) (λ k h. crossed_at from rows columns xs r k h ∙ sym (crossed_at from rows columns ys t k (omega (arith, h, r.count, t.count))))
 
 -- ---- picks of an array
-few_test : (m n : ℕ) → m ≤ n → nat_le m n ≡ true
-few_test m n h = grind (arith, nat_tests)
-
-many_test : (m n : ℕ) → n < m → nat_le m n ≡ false
-many_test m n h = grind (arith, nat_tests)
-
 pub taken_is : (from to : Sides) (picks : List Pick) (places : List ℕ) → All HasStep picks → IsIndex from picks to places → taken from picks ≡ Ok (record { sides = to; places = places })
 taken_is from to picks places h x =
     let same : crossing from x.rows x.columns ≡ places = crossed_one from x.rows x.columns (crossing from x.rows x.columns) places (crossing_is from x.rows x.columns) x.crossed in
     let what : crossed from picks x.rows x.columns ≡ record { sides = to; places = places } = λ i. record { sides = sym x.sides i; places = same i } in
     rw (
-      few_test (length picks) (rank_of from) x.takes.few,
+      le-leb (length picks) (rank_of from) x.takes.few,
       picked_is (rows_of from) (row_pick from picks) x.rows (row_pick_steps from picks h) x.takes.takes_rows,
       picked_is (cols_of from) (column_pick from picks) x.columns (column_pick_steps from picks h) x.takes.takes_columns,
     ) (ap Ok what)
@@ -78,16 +71,16 @@ taken_is from to picks places h x =
 -- the first pick that takes nothing
 first_fault : (from : Sides) (picks : List Pick) (fault : ShapeFault) → All HasStep picks → IsFirstFault from picks fault → taken from picks ≡ Err (fault_of fault)
 first_fault from picks fault h f = elim f.first [
-  | inl a ↦ rw (few_test (length picks) (rank_of from) f.few, picked_fault (rows_of from) (row_pick from picks) fault (row_pick_steps from picks h) a) refl
+  | inl a ↦ rw (le-leb (length picks) (rank_of from) f.few, picked_fault (rows_of from) (row_pick from picks) fault (row_pick_steps from picks h) a) refl
   | inr b ↦ rw (
-    few_test (length picks) (rank_of from) f.few,
+    le-leb (length picks) (rank_of from) f.few,
     picked_is (rows_of from) (row_pick from picks) b.0.0 (row_pick_steps from picks h) b.0.1,
     picked_fault (cols_of from) (column_pick from picks) fault (column_pick_steps from picks h) b.1,
   ) refl
 ]
 
 pub taken_fault : (from : Sides) (picks : List Pick) (fault : ShapeFault) → All HasStep picks → IsIndexFault from picks fault → taken from picks ≡ Err (fault_of fault)
-taken_fault from picks shape_faults.Clash h f = rw (many_test (length picks) (rank_of from) f) refl
+taken_fault from picks shape_faults.Clash h f = rw (lt-leb (length picks) (rank_of from) f) refl
 taken_fault from picks shape_faults.Range h f = first_fault from picks shape_faults.Range h f
 taken_fault from picks shape_faults.Empty h f = first_fault from picks shape_faults.Empty h f
 taken_fault from picks shape_faults.Memory h f = absurd f
@@ -159,7 +152,8 @@ pub indexed_is : (picks : List Pick) (call : Index) → All HasStep picks → Is
 indexed_is picks call h x =
     rw (taken_is (sides_of call.from) (sides_of call.to) picks call.places h x, allowed_shape-is (sides_of call.to) call.to refl, index_with-is call) refl
 
-pub indexed-Ok : (from : Shape) (picks : List Pick) (call : Index) → All HasStep picks → indexed from picks ≡ Ok call → (call.from ≡ from) × IsIndex (sides_of from) picks (sides_of call.to) call.places
+pub indexed-Ok : (from : Shape) (picks : List Pick) (call : Index) → All HasStep picks → indexed from picks ≡ Ok call
+    → (call.from ≡ from) × IsIndex (sides_of from) picks (sides_of call.to) call.places
 indexed-Ok from picks call h e = elim (decided_index (sides_of from) picks h) [
   | inl x ↦
       let few : HasFewEntries x.0.sides = subst HasFewEntries (sym x.1.sides) (kept_few (sides_of from) picks x.1.rows x.1.columns from.few h x.1.takes) in
@@ -181,7 +175,8 @@ indexed-Ok from picks call h e = elim (decided_index (sides_of from) picks h) [
 
 -- ---- what the code answers
 -- the fault that is told
-pub told_fault : {A B : Type 0} (from : Sides) (picks : List Pick) (answered : Result B ShapeFault) (fault : ShapeFault) (next : Picked → Result A ArrayFault) → All HasStep picks → answered ≡ Err fault →
+pub told_fault : {A B : Type 0} (from : Sides) (picks : List Pick) (answered : Result B ShapeFault) (fault : ShapeFault) (next : Picked → Result A ArrayFault)
+    → All HasStep picks → answered ≡ Err fault →
     ((answered ≡ Err shape_faults.Clash) ↔ (rank_of from < length picks)) →
     ((answered ≡ Err shape_faults.Range) ↔ IsFirstFault from picks shape_faults.Range) →
     ((answered ≡ Err shape_faults.Empty) ↔ IsFirstFault from picks shape_faults.Empty) →

@@ -1,4 +1,4 @@
--- The lemmas.
+-- The lemmas by which shapes, slices, indices and formed entries are what the relations say.
 pub mod Answered
 pub mod Equals
 pub mod AllowedShapes

@@ -1,8 +1,7 @@
 -- What one pick takes, and why it takes nothing, is what the relations say.
-use Rattle.std.specs.Prelude.{◌≡◌, ◌≢◌, ℕ, ◌≤◌, nat_lt, ℤ, pos, negsuc, ◌<ℤ◌, ◌≤ℤ◌, false, ◌⊎◌, List, [], ◌∷◌, Ok, Err}
+use Rattle.std.specs.Prelude.{◌≡◌, ◌≢◌, ℕ, ◌≤◌, ℤ, pos, negsuc, ◌<ℤ◌, ◌≤ℤ◌, ◌⊎◌, List, [], ◌∷◌, Ok, Err}
 use Rattle.std.proofs.Common.{refl, sym, ap, ◌∙◌, subst, arith, inl, inr}
-use Rattle.std.proofs.lemmas.Bool.{lt-ltb, cases_lt}
-use Rattle.std.proofs.lemmas.Bool.Decides.{nat_tests}
+use Rattle.std.proofs.lemmas.Bool.{lt-ltb, cases_lt, le-ltb}
 use Rattle.std.proofs.lemmas.Int.{ints}
 use Rattle.dcx_shape.specs.declared.index.Pick.{Pick}
 use Rattle.dcx_shape.specs.declared.index.Pick.TheVariants.{At, Range as Along}
@@ -15,9 +14,6 @@ use Rattle.dcx_array.specs.declared.fault.ArrayFault.TheVariants.{Clash, ZeroDiv
 use Rattle.dcx_array.specs.Answers.{fault_of}
 use Rattle.dcx_array.specs.Picks.{slice_places, some_places, counted_place, picked}
 use Rattle.dcx_array.proofs.Slices.{slice_places-is, slice_places-are}
-
-not_below : (k n : ℕ) → n ≤ k → nat_lt k n ≡ false
-not_below k n h = grind (arith, nat_tests)
 
 -- ---- what is taken
 pub picked_is : (n : ℕ) (p : Pick) (places : List ℕ) → HasStep p → Takes n p places → picked n p ≡ Ok places
@@ -32,7 +28,7 @@ picked_is n (Along s) places h (is, some) = ap some_places (slice_places-is n s 
 out_of_range : (n : ℕ) (z : ℤ) → (z <ℤ pos 0) ⊎ (pos n ≤ℤ z) → counted_place n z ≡ Err Range
 out_of_range n (negsuc k) out = refl
 out_of_range n (pos k) (inl low) = absurd (omega (arith, ints))
-out_of_range n (pos k) (inr high) = rw (not_below k n (omega (arith, ints))) refl
+out_of_range n (pos k) (inr high) = rw (le-ltb k n (omega (arith, ints))) refl
 
 pub picked_fault : (n : ℕ) (p : Pick) (fault : ShapeFault) → HasStep p → IsPickFault n p fault → picked n p ≡ Err (fault_of fault)
 picked_fault n (At i) fault h (e, out) = out_of_range n (counted n i) out ∙ ap (λ x. Err (fault_of x)) (sym e)

@@ -1,5 +1,5 @@
 -- The places of a slice are those of the relation, and a slice has some.
-use Rattle.std.specs.Prelude.{◌≡◌, ◌≢◌, ◌↔◌, ℕ, zero, suc, ◌<◌, ◌≤◌, ℤ, pos, negsuc, ◌-ℤ◌, ◌<ℤ◌, ◌≤ℤ◌, int_lt, unsigned_abs, Bool, true, false, List, map, length}
+use Rattle.std.specs.Prelude.{◌≡◌, ◌≢◌, ◌↔◌, ℕ, zero, suc, ◌<◌, ◌≤◌, ℤ, pos, negsuc, ◌-ℤ◌, ◌<ℤ◌, int_lt, unsigned_abs, Bool, true, false, List, map, length}
 use Rattle.std.specs.Int.{int_max, div_ceil}
 use Rattle.std.specs.List.{prefix_len}
 use Rattle.std.proofs.Common.{refl, sym, ap, ◌∙◌, subst, arith, inl, inr, get_or, take, zero-add}
@@ -13,7 +13,7 @@ use Rattle.dcx_shape.specs.declared.slice.Slice.{Slice}
 use Rattle.dcx_shape.specs.Places.{places_below}
 use Rattle.dcx_shape.specs.Run.{places_from}
 use Rattle.dcx_shape.specs.Slice.{start_for, stop_for, IsBefore, slice_place, IsSlice, moved}
-use Rattle.dcx_shape.proofs.Slices.{ahead_up, ahead_down, steps_before, slice_runs, run_of, slice_most}
+use Rattle.dcx_shape.proofs.Slices.{ahead_up, ahead_down, steps_before, slice_runs, run_of, slice_most, pos-unsigned_abs}
 use Rattle.dcx_array.specs.Picks.{is_before, slice_places}
 
 -- ---- before the stop
@@ -69,16 +69,19 @@ slice_places-is n s xs ne r =
     ∙ ap unsigned_abs (get_or-take (length xs) (all_places n s) k (pos 0) b ∙ get_or-all_places n s k (pos 0) (omega (arith, b, most, length-all_places n s)) ∙ sym (r.are k b)))
 
 -- ---- a slice has places
-own_size : (z : ℤ) → pos 0 ≤ℤ z → pos (unsigned_abs z) ≡ z
-own_size z h = omega (arith, ints)
-
 -- how far the stop lies ahead
 ahead : (step start stop : ℤ) → step ≢ pos 0 → (g : ℕ) × ((d : ℕ) → (d < g) ↔ IsBefore step (moved step start d) stop)
 ahead (pos zero) start stop ne = absurd (ne refl)
-ahead (pos (suc k)) start stop ne =
-    (unsigned_abs (int_max (stop -ℤ start) (pos 0)), ahead_up (pos (suc k)) start stop (unsigned_abs (int_max (stop -ℤ start) (pos 0))) (omega (arith, ints)) (own_size (int_max (stop -ℤ start) (pos 0)) (omega (arith, ints, clamps))))
-ahead (negsuc k) start stop ne =
-    (unsigned_abs (int_max (start -ℤ stop) (pos 0)), ahead_down (negsuc k) start stop (unsigned_abs (int_max (start -ℤ stop) (pos 0))) ne (omega (arith, ints)) (own_size (int_max (start -ℤ stop) (pos 0)) (omega (arith, ints, clamps))))
+ahead (pos (suc k)) start stop ne = (
+  unsigned_abs (int_max (stop -ℤ start) (pos 0)),
+  ahead_up (pos (suc k)) start stop (unsigned_abs (int_max (stop -ℤ start) (pos 0))) (omega (arith, ints))
+      (pos-unsigned_abs (int_max (stop -ℤ start) (pos 0)) (omega (arith, ints, clamps))),
+)
+ahead (negsuc k) start stop ne = (
+  unsigned_abs (int_max (start -ℤ stop) (pos 0)),
+  ahead_down (negsuc k) start stop (unsigned_abs (int_max (start -ℤ stop) (pos 0))) ne (omega (arith, ints))
+      (pos-unsigned_abs (int_max (start -ℤ stop) (pos 0)) (omega (arith, ints, clamps))),
+)
 
 slice_exists : (n : ℕ) (s : Slice) → s.step ≢ pos 0 → (xs : List ℕ) × IsSlice n s xs
 slice_exists n s ne =
@@ -88,7 +91,8 @@ slice_exists n s ne =
     let some = steps_before s.step (start_for n s.step s.start) (stop_for n s.step s.stop) far.0 (div_ceil far.0 (unsigned_abs s.step)) ne far.1 refl in (
       places_from first s.step count,
       slice_runs n s first s.step count
-          (run_of n s (start_for n s.step s.start) (stop_for n s.step s.stop) s.step first count ne refl refl refl (own_size (int_max (start_for n s.step s.start) (pos 0)) (omega (arith, ints, clamps))) some),
+          (run_of n s (start_for n s.step s.start) (stop_for n s.step s.stop) s.step first count ne refl refl refl
+          (pos-unsigned_abs (int_max (start_for n s.step s.start) (pos 0)) (omega (arith, ints, clamps))) some),
     )
 
 pub slice_places-are : (n : ℕ) (s : Slice) → s.step ≢ pos 0 → IsSlice n s (slice_places n s)

@@ -1,4 +1,4 @@
--- What the contracts of this crate cite.
+-- What contracts cite: what a call answers, shapes, arrays, operators and picks, and the laws.
 pub mod Answers
 pub mod Shapes
 pub mod Arrays

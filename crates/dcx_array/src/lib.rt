@@ -7,7 +7,8 @@
 //! |---|---|
 //! | an array has 1 to 20,000 entries; else the count is told | `allowed_shape` |
 //! | sides are aligned from the right and broadcast as NumPy does; inner sides of a matrix product are equal | `shared_shape`, `multiplied_shape`, `specs/Shapes.antt` |
-//! | sums, differences, products and quotients entry by entry, or the first operation that passes 128 bits; a divisor of 0 comes before everything else | `add`, `subtract`, `multiply`, `divide`, `specs/Operators.antt` |
+//! | sums, differences, products and quotients entry by entry, or the first operation that passes 128 bits | `add`, `subtract`, `multiply`, `divide`, `specs/Operators.antt` |
+//! | a divisor of 0 comes before everything else | `divide`, `specs/Operators.antt` |
 //! | an entry of a matrix product starts from 0 and adds the product of each pair in order | `matmul` |
 //! | signs, transposes | `negate`, `transpose` |
 //! | the entries that indices and slices pick, or the fault of the first that picks none | `pick`, `index`, `specs/Picks.antt` |

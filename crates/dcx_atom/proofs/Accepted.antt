@@ -65,7 +65,8 @@ accepted_of m args size c w none = record {
 
     parts : (j : ℕ) → j < size → (first_stop j (tests j) ≡ None) × (first_stop j (map test (m.conditions args c w j)) ≡ None)
     parts j h =
-        let p = earlier-none _ _ (sym (first_stop-append j (tests j ++ map test (m.conditions args c w j)) (map (λ x. form (m.slope args w x.argument x.entry)) (m.slope_entries args j))) ∙ none j h) in
+        let p = earlier-none _ _ (sym (first_stop-append j (tests j ++ map test (m.conditions args c w j))
+        (map (λ x. form (m.slope args w x.argument x.entry)) (m.slope_entries args j))) ∙ none j h) in
         earlier-none _ _ (sym (first_stop-append j (tests j) (map test (m.conditions args c w j))) ∙ p.0)
 
 -- slopes that the code answers bound the sum of coefficients times values from below, at all arguments

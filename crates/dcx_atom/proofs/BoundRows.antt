@@ -12,7 +12,7 @@ use Rattle.dcx_atom.specs.declared.flags.Bend.TheVariants.{Convex, Concave}
 use Rattle.dcx_atom.specs.Arrays.{Entries, list_below, joined_below}
 use Rattle.dcx_atom.specs.Signs.{IsBeyond}
 use Rattle.dcx_atom.specs.Rows.{Filling, Row, RowTerm, FormTerm, operand_at, row_at, form_at, RowsHold, weighted}
-use Rattle.dcx_atom.proofs.Duality.{no_entries}
+use Rattle.dcx_atom.specs.Duality.{no_entries}
 use Rattle.dcx_atom.specs.Bounding.{bound_row, unknown_form, outward}
 
 -- the first of a list, and the others

@@ -1,44 +1,19 @@
 -- The subgradient law of a call with a tight graph: weights at least 0 on rows at most 0, whose slopes are those of the
 -- rows, and which let no auxiliary unknown lower the sum of coefficients times results.
-use Rattle.std.proofs.Common.{◌≡◌, ℕ, suc, ◌<◌, List, [], ◌∷◌, Some, arith, length, sym, subst, ◌∙◌, ap, ap₂, pos}
+use Rattle.std.proofs.Common.{◌≡◌, ℕ, suc, ◌<◌, List, [], ◌∷◌, arith, length, sym, subst, ◌∙◌, ap, ap₂, pos}
 use Rattle.dcx_math.specs.Rational.{ℚ, whole, ◌+ℚ◌, ◌*ℚ◌, ◌≤ℚ◌}
 use Rattle.dcx_math.specs.Sums.{IsNonnegative, rat_sum_below}
 use Rattle.dcx_math.proofs.Ring.{ring, reads}
 use Rattle.dcx_math.proofs.Orders.{+ℚ-≤ℚ, *ℚ-≤ℚ, ≤ℚ_refl, linear, ≤ℚ-from_≡, +ℚ_idr, +ℚ_idl}
 use Rattle.dcx_math.proofs.Sums.{rat_sum_below-+ℚ, rat_sum_below-same, rat_sum_below-monotone, rat_sum_below-zero}
-use Rattle.dcx_shape.specs.declared.shape.Sides.{Sides}
 use Rattle.dcx_shape.specs.Sides.{entries_of}
 use Rattle.dcx_atom.specs.declared.graph.Operand.{Operand}
 use Rattle.dcx_atom.specs.declared.graph.Operand.TheVariants.{Argument, Aux}
 use Rattle.dcx_atom.specs.Arrays.{Entries}
-use Rattle.dcx_atom.specs.Rows.{Filling, Row, operand_at, row_at, form_at, RowsHold, KindsHold, weighted}
-use Rattle.dcx_atom.specs.Meaning.{Meaning, Coefficients, Weights}
-use Rattle.dcx_atom.specs.Laws.{IsTightGraph, AreAccepted, slopes_times, HasSubgradients}
-
--- no argument entry, and no unknown
-abbrev pub no_entries : Entries
-no_entries i j = whole (pos 0)
-
-abbrev pub no_filling : Filling
-no_filling k = whole (pos 0)
-
--- the weighted rows of so many result entries, as a sum over the arguments
-abbrev pub weighted_arguments : Meaning → List Sides → ℕ → Weights → Entries → ℚ
-weighted_arguments m args size w a = rat_sum_below size (λ j. weighted (m.rows args j) (w j) a no_filling)
-
--- the slopes are those of the weighted rows
-abbrev pub AreRowSlopes : Meaning → Type 0
-AreRowSlopes m = (args : List Sides) (sides : Sides) → m.shape args ≡ Some sides → (w : Weights) (a : Entries) →
-    slopes_times m args w a ≡ weighted_arguments m args (entries_of sides) w a
-
--- coefficients times results with the weighted rows, of the unknowns alone
-abbrev pub balance : Meaning → List Sides → ℕ → Coefficients → Weights → Filling → ℚ
-balance m args size c w t = rat_sum_below size (λ j. c j *ℚ form_at (m.result args j) t +ℚ weighted (m.rows args j) (w j) no_entries t)
-
--- accepted weights let no unknown lower that sum
-abbrev pub AreBalanced : Meaning → Type 0
-AreBalanced m = (args : List Sides) (sides : Sides) → m.shape args ≡ Some sides → (c : Coefficients) (w : Weights) → AreAccepted m args (entries_of sides) c w →
-    (t : Filling) → KindsHold (m.kinds args) t → IsNonnegative (balance m args (entries_of sides) c w t)
+use Rattle.dcx_atom.specs.Rows.{Filling, Row, operand_at, row_at, form_at, RowsHold, weighted}
+use Rattle.dcx_atom.specs.Meaning.{Meaning}
+use Rattle.dcx_atom.specs.Laws.{IsTightGraph, HasSubgradients}
+use Rattle.dcx_atom.specs.Duality.{no_entries, no_filling, weighted_arguments, AreRowSlopes, balance, AreBalanced}
 
 operand_parts : (x : Operand) (a : Entries) (t : Filling) → operand_at x a t ≡ operand_at x a no_filling +ℚ operand_at x no_entries t
 operand_parts (Argument i j) a t = sym (+ℚ_idr (a i j))

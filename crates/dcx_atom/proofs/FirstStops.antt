@@ -1,5 +1,6 @@
 -- The first stop of steps that follow one another, and tests of fractions.
-use Rattle.std.proofs.Common.{◌≡◌, ◌⊎◌, inl, inr, ℕ, ◌+◌, ◌<◌, Bool, true, false, List, [], ◌∷◌, ◌++◌, map, length, get_or, take, drop, refl, sym, ap, ◌∙◌, subst, Option, Some, None, pos, if◌then◌else◌}
+use Rattle.std.proofs.Common.{◌≡◌, ◌⊎◌, inl, inr, ℕ, ◌+◌, ◌<◌, Bool, true, false, List, [], ◌∷◌, ◌++◌, map, length}
+use Rattle.std.proofs.Common.{get_or, take, drop, refl, sym, ap, ◌∙◌, subst, Option, Some, None, pos, if◌then◌else◌}
 use Rattle.dcx_atom.proofs.FormedSums.{take-next}
 use Rattle.std.proofs.lemmas.List.{map-append, take-append-drop}
 use Rattle.dcx_math.specs.Rational.{ℚ, whole, rat_le, ◌≤ℚ◌, ◌<ℚ◌}

@@ -1,5 +1,5 @@
 -- Forming numbers: a fraction is the one of its value, a sum with 0 forms nothing, and a list is summed from the left.
-use Rattle.std.proofs.Common.{◌≡◌, ℕ, suc, ◌+◌, ◌<◌, arith, length, get_or, take, drop, List, [], ◌∷◌, ◌++◌, map, refl, sym, ap, ap₂, ◌∙◌, subst, Result, Ok, Err, IsOk, IfOk, inl, inr, pos}
+use Rattle.std.proofs.Common.{◌≡◌, ℕ, suc, ◌+◌, ◌<◌, arith, length, get_or, take, drop, List, [], ◌∷◌, ◌++◌, map, refl, sym, ap, ap₂, ◌∙◌, subst, Result, Ok, Err, IsOk, IfOk, inl, pos}
 use Rattle.std.proofs.Math.Seq.{take-suc}
 use Rattle.std.proofs.lemmas.List.{take-append-drop}
 use Rattle.dcx_math.specs.Rational.{ℚ, whole, ◌+ℚ◌}
@@ -52,9 +52,6 @@ sum_is x y f ok e = by (sum_of x y) ok (sum_of_is x y).exact
 -- a sum with 0 forms nothing
 pub sum_of-zero_left : (x y : Frac) → value x ≡ whole (pos 0) → sum_of x y ≡ Ok y
 sum_of-zero_left x y z = sum_is x y y ((sum_of_is x y).fits.1 (inl z)) (ap (λ u. u +ℚ value y) z ∙ +ℚ_idl (value y))
-
-pub sum_of-zero_right : (x y : Frac) → value y ≡ whole (pos 0) → sum_of x y ≡ Ok x
-sum_of-zero_right x y z = sum_is x y x ((sum_of_is x y).fits.1 (inr (inl z))) (ap (λ u. value x +ℚ u) z ∙ +ℚ_idr (value x))
 
 -- one more number is added to what was formed of those before it
 pub sum_from-append : (x : Frac) (ys : List Frac) (z : Frac) → sum_from x (ys ++ z ∷ []) ≡ and_then (sum_from x ys) (λ s. sum_of s z)

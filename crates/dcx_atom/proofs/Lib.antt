@@ -1,4 +1,4 @@
--- The lemmas.
+-- The lemmas by which a tight graph makes a call convex, and accepted weights give slopes that bound.
 pub mod RowSums
 pub mod Sublinear
 pub mod Duality
@@ -11,3 +11,9 @@ pub mod Entrywise
 pub mod Totals
 pub mod Weights
 pub mod BoundRows
+pub mod OwnTerms
+pub mod Units
+pub mod Fractions
+pub mod Coefficients
+pub mod Slopes
+pub mod OneArray

@@ -84,9 +84,11 @@ signed : (m : LinearMeaning) → IsLinear m → HasNoNegative m → (args : List
     All (λ x. HasSign s (a x.argument x.entry)) (m.terms args j) → HasSign s (m.value args a j)
 signed m law nonneg args sides is j below a s h = record {
   nonneg = λ t. subst (λ x. whole (pos 0) ≤ℚ x) (sym (law args sides is j below a))
-      (terms-nonneg (m.terms args j) a (nonneg args sides is j below) (All-weaker (λ x. HasSign s (a x.argument x.entry)) (λ x. IsNonnegative (a x.argument x.entry)) (λ x k. k.nonneg t) (m.terms args j) h));
+      (terms-nonneg (m.terms args j) a (nonneg args sides is j below)
+      (All-weaker (λ x. HasSign s (a x.argument x.entry)) (λ x. IsNonnegative (a x.argument x.entry)) (λ x k. k.nonneg t) (m.terms args j) h));
   nonpos = λ t. subst (λ x. x ≤ℚ whole (pos 0)) (sym (law args sides is j below a))
-      (terms-nonpos (m.terms args j) a (nonneg args sides is j below) (All-weaker (λ x. HasSign s (a x.argument x.entry)) (λ x. a x.argument x.entry ≤ℚ whole (pos 0)) (λ x k. k.nonpos t) (m.terms args j) h));
+      (terms-nonpos (m.terms args j) a (nonneg args sides is j below)
+      (All-weaker (λ x. HasSign s (a x.argument x.entry)) (λ x. a x.argument x.entry ≤ℚ whole (pos 0)) (λ x k. k.nonpos t) (m.terms args j) h));
 }
 
 -- the sign law of a call of one argument that has its sign
@@ -94,7 +96,8 @@ pub first_sign : (m : LinearMeaning) → IsLinear m → ((signs : List Sign) →
 first_sign m law sign nonneg first args sides is j below signs a count have =
     subst (λ s. HasSign s (m.value args a j)) (sym (sign signs))
     (signed m law nonneg args sides is j below a (sign_at signs 0)
-    (All-weaker (λ x. x.argument ≡ 0) (λ x. HasSign (sign_at signs 0) (a x.argument x.entry)) (λ x e. subst (λ i. HasSign (sign_at signs 0) (a i x.entry)) (sym e) (have 0 x.entry)) (m.terms args j) (first args sides is j below)))
+    (All-weaker (λ x. x.argument ≡ 0) (λ x. HasSign (sign_at signs 0) (a x.argument x.entry))
+    (λ x e. subst (λ i. HasSign (sign_at signs 0) (a i x.entry)) (sym e) (have 0 x.entry)) (m.terms args j) (first args sides is j below)))
 
 nonneg_each : (signs : List Sign) → IsTrue (all_nonneg signs) → (i : ℕ) → i < length signs → IsTrue (sign_at signs i).nonneg
 nonneg_each [] e i b = absurd (omega arith)

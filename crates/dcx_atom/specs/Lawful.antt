@@ -1,6 +1,9 @@
 -- All laws of a call in one.
 use Rattle.dcx_atom.specs.Meaning.{Meaning}
 use Rattle.dcx_atom.specs.Laws.{SumsUp, KeepsSign, KeepsTrend, IsBent, IsSoundGraph, IsTightGraph, HasSubgradients, Recedes}
+use Rattle.dcx_atom.specs.OwnUnknowns.{HasOwnUnknowns}
+use Rattle.dcx_atom.specs.Fractions.{HasFractionSummands, HasFractionCoefficients, HasFractionSlopes}
+use Rattle.dcx_atom.specs.Duality.{HasDualGraph}
 use Rattle.dcx_atom.specs.Linear as linear_call
 use Rattle.dcx_atom.specs.Linear.{LinearMeaning, IsLinear}
 
@@ -14,6 +17,11 @@ pub record IsLawful (m : Meaning) : Type 0 where
   pub tightness : IsTightGraph m
   pub subgradient : HasSubgradients m
   pub recession : Recedes m
+  pub own_unknowns : HasOwnUnknowns m
+  pub duality : HasDualGraph m
+  pub fraction_summands : HasFractionSummands m
+  pub fraction_coefficients : HasFractionCoefficients m
+  pub fraction_slopes : HasFractionSlopes m
 
 -- a linear call keeps the laws
 pub record IsLawfulLinear (m : LinearMeaning) : Type 0 where

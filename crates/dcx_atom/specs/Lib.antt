@@ -1,4 +1,4 @@
--- What the contracts of this crate cite.
+-- What contracts cite: arrays, what a call means and forms, its graph and steps, and the laws that it keeps.
 pub mod Arrays
 pub mod Formed
 pub mod Entrywise
@@ -9,6 +9,9 @@ pub mod Value
 pub mod Graph
 pub mod Steps
 pub mod Laws
+pub mod OwnUnknowns
+pub mod Fractions
+pub mod Duality
 pub mod Linear
 pub mod Lawful
 pub mod Axis

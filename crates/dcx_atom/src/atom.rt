@@ -8,6 +8,9 @@ ghost use Rattle.dcx_atom.specs.Value.{IsValueOf, IsValueStop};
 ghost use Rattle.dcx_atom.specs.Graph.{IsGraphOf};
 ghost use Rattle.dcx_atom.specs.Steps.{rows_before, AreSlopesOf, IsSlopeStop};
 ghost use Rattle.dcx_atom.specs.Laws.{SumsUp, KeepsSign, KeepsTrend, IsBent, IsSoundGraph, IsTightGraph, HasSubgradients, Recedes};
+ghost use Rattle.dcx_atom.specs.OwnUnknowns.{HasOwnUnknowns};
+ghost use Rattle.dcx_atom.specs.Fractions.{HasFractionSummands, HasFractionCoefficients, HasFractionSlopes};
+ghost use Rattle.dcx_atom.specs.Duality.{HasDualGraph};
 
 use crate::array::Array;
 use crate::flags::{Bend, Sign, Trend};
@@ -65,8 +68,10 @@ pub trait Atom {
         requires shape { IsSome ((meaning self.now).shape (sides_list args.now)) }
         requires coefficients { IfSome ((meaning self.now).shape (sides_list args.now)) (λ s. length coefficients.now ≡ entries_of s) }
         requires weights { IfSome ((meaning self.now).shape (sides_list args.now)) (λ s. length weights.now ≡ rows_before (meaning self.now) (sides_list args.now) (entries_of s)) }
-        ensures ok { IfOk result (λ g. IfSome ((meaning self.now).shape (sides_list args.now)) (λ s. AreSlopesOf (meaning self.now) (sides_list args.now) (entries_of s) coefficients.now weights.now g)) }
-        ensures stop { IfErr result (λ e. IfSome ((meaning self.now).shape (sides_list args.now)) (λ s. IsSlopeStop (meaning self.now) (sides_list args.now) (entries_of s) coefficients.now weights.now e)) };
+        ensures ok { IfOk result (λ g. IfSome ((meaning self.now).shape (sides_list args.now))
+            (λ s. AreSlopesOf (meaning self.now) (sides_list args.now) (entries_of s) coefficients.now weights.now g)) }
+        ensures stop { IfErr result (λ e. IfSome ((meaning self.now).shape (sides_list args.now))
+            (λ s. IsSlopeStop (meaning self.now) (sides_list args.now) (entries_of s) coefficients.now weights.now e)) };
 
     /// The value that is formed is the defined one: each entry is the sum of its summands.
     ghost formation: { (x : Self) → SumsUp (meaning x) };
@@ -91,4 +96,20 @@ pub trait Atom {
 
     /// The value along a ray isn't beyond its value at the start and so many times that of the ray.
     ghost recession: { (x : Self) → Recedes (meaning x) };
+
+    /// Rows and results speak of no auxiliary unknowns but those of which the graph tells the kinds.
+    ghost own_unknowns: { (x : Self) → HasOwnUnknowns (meaning x) };
+
+    /// Slopes are those of the weighted rows, and weights that let no auxiliary unknown lower the sum of coefficients times
+    /// results meet the conditions.
+    ghost duality: { (x : Self) → HasDualGraph (meaning x) };
+
+    /// What is summed at fractions of 128 bits are such fractions.
+    ghost fraction_summands: { (x : Self) → HasFractionSummands (meaning x) };
+
+    /// The coefficients of the graph are fractions of 128 bits.
+    ghost fraction_coefficients: { (x : Self) → HasFractionCoefficients (meaning x) };
+
+    /// Slopes whose steps don't stop are fractions of 128 bits.
+    ghost fraction_slopes: { (x : Self) → HasFractionSlopes (meaning x) };
 }

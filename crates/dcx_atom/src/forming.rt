@@ -59,12 +59,11 @@ pub fn is_at_most(x: &Frac, y: &Frac) -> bool
     }
 }
 
-/// Whether `x` is `y`.
-#[tactic(auto, unfolding(dcx_math::specs::Rational::rat_eq))]
+/// Whether `x` is `y`. In lowest terms equal numbers have equal parts.
 pub fn is_equal(x: &Frac, y: &Frac) -> bool
     ensures { result ≡ rat_eq (value x.now) (value y.now) }
 {
-    is_at_most(x, y) && is_at_most(y, x)
+    *x == *y
 }
 
 /// `Refused` where `stated` isn't at most `found`.

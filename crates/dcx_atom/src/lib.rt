@@ -12,6 +12,9 @@
 //! | slopes are those of the weights, or name the first condition that is broken or operation that passes | `Atom::slopes`, `specs/Steps.antt` |
 //! | the terms of a linear call are those of the meaning | `LinearOp::map`, `specs/Linear.antt` |
 //! | sign, monotonicity, curvature, graph soundness and tightness, subgradient, recession | laws of `Atom`, `specs/Laws.antt` |
+//! | the graph speaks of no unknowns but its own | law of `Atom`, `specs/OwnUnknowns.antt` |
+//! | slopes are those of the weighted rows, and the conditions are met by weights that let no unknown lower the sum | law of `Atom`, `specs/Duality.antt` |
+//! | coefficients of the graph, summands and slopes are fractions of 128 bits | laws of `Atom`, `specs/Fractions.antt` |
 //! | linearity, sign, monotonicity | laws of `LinearOp`, `specs/Linear.antt` |
 //! | curvature, recession and subgradient follow from the graph | `proofs/Sublinear.antt`, `proofs/Duality.antt` |
 //! | where rows that put one unknown beyond some terms hold, and what their weights balance | `proofs/BoundRows.antt` |

@@ -1,5 +1,6 @@
 -- One node more: what is known of a search before it is known after it.
-use Rattle.std.proofs.Common.{◌≡◌, ◌≢◌, inl, inr, ℕ, zero, suc, ◌+◌, ◌≤◌, arith, Bool, true, false, List, [], ◌∷◌, ◌++◌, length, Option, Some, None, Ok, Err, slice_get, refl, sym, ap, ◌∙◌, subst, add-one}
+use Rattle.std.proofs.Common.{◌≡◌, ◌≢◌, inl, inr, ℕ, zero, suc, ◌+◌, ◌≤◌, arith, Bool, true, false, List, [], ◌∷◌, ◌++◌, length}
+use Rattle.std.proofs.Common.{Option, Some, None, Ok, Err, slice_get, refl, sym, ap, ◌∙◌, subst, add-one}
 use Rattle.std.specs.Prelude.{ℤ, pos, ◌+ℤ◌}
 use Rattle.std.specs.List.{All}
 use Rattle.std.proofs.lemmas.Option.{none-some, same_Some}
@@ -52,12 +53,14 @@ use Rattle.dcx_branch.specs.Sides.{box_of, open_sides, box_bounds, IsNextSide}
 use Rattle.dcx_branch.specs.Nodes.{node_program}
 use Rattle.dcx_branch.specs.Leaves.{IsLeaf}
 use Rattle.dcx_lp_solve.specs.Stops.{run_stop}
-use Rattle.dcx_branch.specs.Run.{Best, State, start, best_value, IsPruned, IsBetter, AreWhole, IsFirstSplit, unknowns_in, Turn, Cut, Found, Divided, TurnsOut, after, FormsLeaf, bounds_in, IsNode, Steps, Reaches, next, FallsAtRoot, NodeStops, at_rows, at_leaf}
+use Rattle.dcx_branch.specs.Run.{Best, State, start, best_value, IsPruned, IsBetter, AreWhole, IsFirstSplit, unknowns_in, Turn, Cut, Found, Divided}
+use Rattle.dcx_branch.specs.Run.{TurnsOut, after, FormsLeaf, bounds_in, IsNode, Steps, Reaches, next, FallsAtRoot, NodeStops, at_rows, at_leaf}
 use Rattle.dcx_right.specs.WholeAnswers.{bound, empty}
 use Rattle.dcx_right.specs.WholeAnswers.{shown_by, Lists, Shows, IsRightFor}
 use Rattle.dcx_branch.specs.Answers.{IsPointAt, IsEndOf}
 use Rattle.dcx_branch.specs.Taken.{IsSolvedWith, IsLeafOf, IsTaken, TakenAs, FallsAt, StopsTaking}
-use Rattle.dcx_branch.specs.Searches.{IsBelow, Completes, IsNested, HasFloor, IsPlaced, HoldsBest, IsUnderWay, IsAt, IsDone, IsAtOrDone, node_of, best_after, AddsSide, Enters, answer_of, found_value, node_stop, StopsNext}
+use Rattle.dcx_branch.specs.Searches.{IsBelow, Completes, IsNested, HasFloor, IsPlaced, HoldsBest, IsUnderWay, IsAt, IsDone, IsAtOrDone}
+use Rattle.dcx_branch.specs.Searches.{node_of, best_after, AddsSide, Enters, answer_of, found_value, node_stop, StopsNext}
 use Rattle.dcx_branch.proofs.Members.{Each}
 use Rattle.dcx_branch.proofs.Bounds.{each_bound, kept_within}
 use Rattle.dcx_branch.proofs.Boxes.{open_split}
@@ -148,10 +151,12 @@ module _ (p : Problem) (s : Setting) (q : Program Frac) (limit : ℕ) (given : I
     optimal : a.status ≡ status.Optimal → IsOptimal (node_program (linear_program (rows_of q)) bs) (value a.number) x (multiplier_at solved.program.columns a)
     optimal e = shown.optimal p s q given box bs (each_bound p box) fit node.known solved.program a node.solved.made node.solved.solved.right e
 
-    leaf_bounds : (duals : List Array) (bounds : List BoundWeight) → a.status ≡ status.Optimal → IsLeaf p a (length q.rows) bs duals bounds → BoundsBelow p s box (value a.number) (shown_by duals bounds)
+    leaf_bounds : (duals : List Array) (bounds : List BoundWeight) → a.status ≡ status.Optimal → IsLeaf p a (length q.rows) bs duals bounds
+        → BoundsBelow p s box (value a.number) (shown_by duals bounds)
     leaf_bounds duals bounds e is = shown.leaf_bounds p s q given box bs (each_bound p box) fit node.known solved.program a node.solved.made node.solved.solved.right e enough duals bounds is
 
-    leaf_empty : (duals : List Array) (bounds : List BoundWeight) → a.status ≡ status.Infeasible → IsLeaf p a (length q.rows) bs duals bounds → ShowsEmpty p s box (shown_by duals bounds) (value a.number)
+    leaf_empty : (duals : List Array) (bounds : List BoundWeight) → a.status ≡ status.Infeasible → IsLeaf p a (length q.rows) bs duals bounds
+        → ShowsEmpty p s box (shown_by duals bounds) (value a.number)
     leaf_empty duals bounds e is = shown.leaf_empty p s q given box bs (each_bound p box) fit node.known solved.program a node.solved.made node.solved.solved.right e enough duals bounds is
 
     within : a.status ≡ status.Optimal → Each (λ (k : Place). IsWithin (box k.variable k.entry) (x k.unknown)) (places p.variables)
@@ -207,7 +212,8 @@ module _ (p : Problem) (s : Setting) (q : Program Frac) (limit : ℕ) (given : I
         }
 
     -- both sides of a split are nested
-    sides_nested : (best : Option ℚ) (place : Place) (n : ℤ) → IsNested p box → TurnsOut (places p.variables) best solved.program a (Divided place n) → IsNested p (at_most box place.variable place.entry n)
+    sides_nested : (best : Option ℚ) (place : Place) (n : ℤ) → IsNested p box → TurnsOut (places p.variables) best solved.program a (Divided place n)
+        → IsNested p (at_most box place.variable place.entry n)
     sides_nested best place n nested turns =
         at_most_nested p box place.variable place.entry n (x place.unknown) (within turns.0 turns.2.position place turns.2.there).upper turns.2.between.above nested
 
@@ -241,9 +247,11 @@ module _ (p : Problem) (s : Setting) (q : Program Frac) (limit : ℕ) (given : I
     ]
 
     -- the search after a node, with these boxes open and this best point
-    under_way : (t : Taken) (more : Bool) → Enters old t more new → (boxes : List Box) (best : Option Best) → Reaches p q limit (start p) (record { open_boxes = boxes; best = best; taken = suc old.taken }) →
-        HoldsBest p s best (best_after old.best t) → Completes p s (old.nodes.items ++ node_of t ∷ []) boxes (best_value best) → ((i : ℕ) (b : Box) → slice_get boxes i ≡ Some b → IsNested p b) → IsPlaced p q boxes →
-        IsUnderWay p s q limit boxes new
+    under_way : (t : Taken) (more : Bool) → Enters old t more new → (boxes : List Box) (best : Option Best)
+        → Reaches p q limit (start p) (record { open_boxes = boxes; best = best; taken = suc old.taken })
+        → HoldsBest p s best (best_after old.best t) → Completes p s (old.nodes.items ++ node_of t ∷ []) boxes (best_value best) → ((i : ℕ) (b : Box) → slice_get boxes i ≡ Some b → IsNested p b)
+        → IsPlaced p q boxes
+        → IsUnderWay p s q limit boxes new
     under_way t more enters boxes best reached held completes nested placed =
         let count : suc old.taken ≡ new.taken = sym (enters.count ∙ add-one old.taken) in
         record {
@@ -267,7 +275,8 @@ module _ (p : Problem) (s : Setting) (q : Program Frac) (limit : ℕ) (given : I
         let d = adds.side in
         let split = open_split (root_box p) old.sides.items d adds.below in
         let there = subst (λ (b : Place). IsUnderWay p s q limit (at_most front b.variable b.entry n ∷ at_least front b.variable b.entry (n +ℤ pos 1) ∷ rest) new) (sym adds.place_is) h in
-        let limited = subst (λ m. IsUnderWay p s q limit (at_most front d.place.variable d.place.entry m ∷ at_least front d.place.variable d.place.entry (m +ℤ pos 1) ∷ rest) new) (sym adds.limit_is) there in
+        let limited = subst (λ m. IsUnderWay p s q limit (at_most front d.place.variable d.place.entry m ∷ at_least front d.place.variable d.place.entry (m +ℤ pos 1) ∷ rest) new)
+        (sym adds.limit_is) there in
         let joined = subst (λ boxes. IsUnderWay p s q limit boxes new) (sym split) limited in
         subst (λ sides. IsUnderWay p s q limit (box_of (root_box p) sides ∷ open_sides (root_box p) sides) new) (sym adds.added) joined
 
@@ -290,7 +299,8 @@ module _ (p : Problem) (s : Setting) (q : Program Frac) (limit : ℕ) (given : I
           next_boxes more enters.sides
           (under_way (taken.Best leaf number point) more enters rest (Some best) (step Found is.0 (leaf_forms p solved.answer (length q.rows) (bounds_in p front) leaf is.1))
           (found_holds old.sides.items solved node (best_value at.best) number point nested_here is.0 is.2 is.3)
-          (completes.leaf p s old.nodes.items front rest (best_value at.best) (Some (value solved.answer.number)) leaf tree.tree tree.lists tree.shows at.completes) (λ i. at.nested (suc i)) placed_rest)
+          (completes.leaf p s old.nodes.items front rest (best_value at.best) (Some (value solved.answer.number)) leaf tree.tree tree.lists tree.shows at.completes)
+          (λ i. at.nested (suc i)) placed_rest)
       entered (taken.Split place n) is more enters =
           let turns = is.0 in
           let lower = at_most front place.variable place.entry n in
@@ -299,7 +309,8 @@ module _ (p : Problem) (s : Setting) (q : Program Frac) (limit : ℕ) (given : I
           (split_boxes place n enters.sides.1
           (under_way (taken.Split place n) more enters (lower ∷ upper ∷ rest) at.best (step (Divided place n) turns tt) at.held
           (completes.sides p s old.nodes.items front rest (best_value at.best) place.variable place.entry n (place_marked p place (turns.2.position, turns.2.there)) at.completes)
-          (nested_all lower upper (sides_nested old.sides.items solved node (best_value at.best) place n nested_here turns) (at_least_nested p front place.variable place.entry (n +ℤ pos 1) nested_here))
+          (nested_all lower upper (sides_nested old.sides.items solved node (best_value at.best) place n nested_here turns)
+          (at_least_nested p front place.variable place.entry (n +ℤ pos 1) nested_here))
           (placed_all lower upper turns)))
         where
           nested_all : (lower upper : Box) → IsNested p lower → IsNested p upper → (i : ℕ) (b : Box) → slice_get (lower ∷ upper ∷ rest) i ≡ Some b → IsNested p b
@@ -324,16 +335,22 @@ module _ (p : Problem) (s : Setting) (q : Program Frac) (limit : ℕ) (given : I
   module _ (old : Search) (at : IsAt p s q limit old) where
     falls_at_root : FallsAt p q limit (bounds_in p (box_of (root_box p) old.sides.items)) (best_value at.best) → FallsAtRoot p q limit
     falls_at_root f = elim at.placed [
-      | inl e ↦ record { solved = f.solved; node = subst (λ (b : Box). IsNode p q limit b f.solved) (heads (box_of (root_box p) old.sides.items) (root_box p) (open_sides (root_box p) old.sides.items) [] e) f.node.solved; unbounded = f.unbounded }
+      | inl e ↦ record {
+        solved = f.solved;
+        node = subst (λ (b : Box). IsNode p q limit b f.solved) (heads (box_of (root_box p) old.sides.items) (root_box p) (open_sides (root_box p) old.sides.items) [] e) f.node.solved;
+        unbounded = f.unbounded;
+      }
       | inr h ↦ elim h [
         | inl e ↦ absurd (none_open (box_of (root_box p) old.sides.items) (open_sides (root_box p) old.sides.items) (sym e))
         | inr floor ↦ absurd (never_falls p q floor (box_of (root_box p) old.sides.items) (at.nested 0 (box_of (root_box p) old.sides.items) refl) _ _ _ _
-            (shown.unbounded p s q given (box_of (root_box p) old.sides.items) (bounds_in p (box_of (root_box p) old.sides.items)) (each_bound p (box_of (root_box p) old.sides.items)) (fit old.sides.items f.solved f.node) f.node.known f.solved.program f.solved.answer f.node.solved.made f.node.solved.solved.right f.unbounded))
+            (shown.unbounded p s q given (box_of (root_box p) old.sides.items) (bounds_in p (box_of (root_box p) old.sides.items)) (each_bound p (box_of (root_box p) old.sides.items))
+            (fit old.sides.items f.solved f.node) f.node.known f.solved.program f.solved.answer f.node.solved.made f.node.solved.solved.right f.unbounded))
       ]
     ]
 
-    pub stopped : (qs : List Place) (ds : List Side) (best : Option ℚ) → qs ≡ places p.variables → ds ≡ old.sides.items → best ≡ found_value old.best → (e : NodeStop) → StopsTaking p q limit (box_bounds qs ds) best e →
-        StopsNext p q limit old.taken (stop_after (old.taken + 1) e)
+    pub stopped : (qs : List Place) (ds : List Side) (best : Option ℚ) → qs ≡ places p.variables → ds ≡ old.sides.items → best ≡ found_value old.best → (e : NodeStop)
+        → StopsTaking p q limit (box_bounds qs ds) best e
+        → StopsNext p q limit old.taken (stop_after (old.taken + 1) e)
     stopped qs ds best same_places same_sides same_best e h =
         let listed = subst (λ (xs : List Place). StopsTaking p q limit (box_bounds xs ds) best e) same_places h in
         let sided = subst (λ (xs : List Side). StopsTaking p q limit (box_bounds (places p.variables) xs) best e) same_sides listed in
@@ -379,7 +396,8 @@ module _ (p : Problem) (s : Setting) (q : Program Frac) (limit : ℕ) where
       one (suc i) b e = absurd (none-some b e)
 
   -- where no box is open the answer is right
-  right_by : (best : Option Best) (found : Option code.Best) (listed : List BranchNode) (count : ℕ) → HoldsBest p s best found → Completes p s listed [] (best_value best) → IsRightFor p s (answer_of found listed count)
+  right_by : (best : Option Best) (found : Option code.Best) (listed : List BranchNode) (count : ℕ) → HoldsBest p s best found → Completes p s listed [] (best_value best)
+      → IsRightFor p s (answer_of found listed count)
   right_by None None listed count held h =
       let shows = completes.ended p s listed None h in (trees_show_none p s shows.tree shows.shows, shows)
   right_by None (Some f) listed count held h = absurd held
@@ -419,6 +437,7 @@ module _ (p : Problem) (s : Setting) (q : Program Frac) (limit : ℕ) where
       box = box_of (root_box p) search.sides.items;
       rest = open_sides (root_box p) search.sides.items;
       best = h.best;
-      reached = subst (λ n. Reaches p q limit (start p) (record { open_boxes = box_of (root_box p) search.sides.items ∷ open_sides (root_box p) search.sides.items; best = h.best; taken = n })) same h.reached;
+      reached = subst (λ n. Reaches p q limit (start p) (record { open_boxes = box_of (root_box p) search.sides.items ∷ open_sides (root_box p) search.sides.items; best = h.best; taken = n })) same
+          h.reached;
     },
   )

@@ -17,7 +17,8 @@ use Rattle.dcx_branch.proofs.Members.{IsPlaceOf, Each, each_append, each_left, e
 
 -- ---- each is one of the box
 module _ (p : Problem) (box : Box) where
-  one_bound : (q : Place) → IsPlaceOf p.variables q → (upper : Bool) (o : Option ℤ) → (if upper then (box q.variable q.entry).upper else (box q.variable q.entry).lower) ≡ o → Each (IsBoundOf p box) (bound_of q upper o)
+  one_bound : (q : Place) → IsPlaceOf p.variables q → (upper : Bool) (o : Option ℤ) → (if upper then (box q.variable q.entry).upper else (box q.variable q.entry).lower) ≡ o
+      → Each (IsBoundOf p box) (bound_of q upper o)
   one_bound q is upper None e i b at = absurd (none-some b at)
   one_bound q is upper (Some n) e zero b at =
       subst (λ (c : BoundAt). IsBoundOf p box c) (same_Some (let c : BoundAt = record { place = q; upper = upper; limit = n } in c) b at)

@@ -49,13 +49,15 @@ open_split box ds d e =
     (open_snoc box ds d ∙ ap (λ (t : Bool). let other : List Box = if t then [] else upper ∷ [] in other ++ open_sides box ds) e)
 
 -- ---- one entry
-pub sided_snoc : (b : Bounds) (k j : ℕ) (ds : List Side) (d : Side) → sided b k j (ds ++ d ∷ []) ≡ (if is_entry d.place.variable d.place.entry k j then side_bounds d (sided b k j ds) else sided b k j ds)
+pub sided_snoc : (b : Bounds) (k j : ℕ) (ds : List Side) (d : Side) → sided b k j (ds ++ d ∷ [])
+    ≡ (if is_entry d.place.variable d.place.entry k j then side_bounds d (sided b k j ds) else sided b k j ds)
 sided_snoc b k j [] d = refl
 sided_snoc b k j (c ∷ ds) d = sided_snoc (if is_entry c.place.variable c.place.entry k j then side_bounds c b else b) k j ds d
 
 one_side : (above : Bool) (box : Box) (v e k j : ℕ) (m n : ℤ) →
     (if above then at_least box v e m else at_most box v e n) k j ≡
-    (if is_entry v e k j then (if above then (let c : Bounds = record { lower = Some m; upper = (box k j).upper } in c) else (let c : Bounds = record { lower = (box k j).lower; upper = Some n } in c)) else box k j)
+    (if is_entry v e k j then (if above then (let c : Bounds = record { lower = Some m; upper = (box k j).upper } in c) else (let c : Bounds = record { lower = (box k j).lower; upper = Some n } in
+    c)) else box k j)
 one_side true box v e k j m n = refl
 one_side false box v e k j m n = refl
 

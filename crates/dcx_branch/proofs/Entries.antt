@@ -34,7 +34,8 @@ entry_unknown p u k j n v at b e =
 
 module _ (rules : Rules) (p : Problem) (s : Setting) (l : LinearProgram) (is : IsReductionAt rules p s l) (y : Point) (t : Unknowns) (low : IsLifted is.reduced (convex_problem p) s y t) where
   -- the array that stands for a variable's node is that of the point
-  node_entry : (i : ℕ) (n : convex.Node) (d : convex.Declared) → convex.IsNode (convex_problem p).nodes i n → n.head ≡ convex.Variable d → first_of (entries_of d.sides) (is.reduced.point t d.number) ≡ first_of (entries_of d.sides) (y d.number)
+  node_entry : (i : ℕ) (n : convex.Node) (d : convex.Declared) → convex.IsNode (convex_problem p).nodes i n → n.head ≡ convex.Variable d
+      → first_of (entries_of d.sides) (is.reduced.point t d.number) ≡ first_of (entries_of d.sides) (y d.number)
   node_entry i n d at e =
       let forms = is.reduced.forms t in
       let stands = is.reduction.sound t low.assignment low.rows i n at in
@@ -57,7 +58,8 @@ module _ (rules : Rules) (p : Problem) (s : Setting) (l : LinearProgram) (is : I
       (ap (λ c. head_of names c (arg_sides p.tree n) n.sides) call) in
       let number = number_is p d k v at in
       subst (λ m. is.reduced.point t m j ≡ y m j) number
-      (sym (below (entries_of (sides_in v)) (is.reduced.point t (number_in names.variables v.name)) j b) ∙ ap (λ (f : Numbers). f j) same ∙ below (entries_of (sides_in v)) (y (number_in names.variables v.name)) j b)
+      (sym (below (entries_of (sides_in v)) (is.reduced.point t (number_in names.variables v.name)) j b) ∙ ap (λ (f : Numbers). f j) same
+      ∙ below (entries_of (sides_in v)) (y (number_in names.variables v.name)) j b)
 
   pub lifted_entry : (k j n : ℕ) (v : Variable) → IsVariable p.variables k v → j < entries_of (sides_in v) → unknown_from (first_unknown p.variables k) v j ≡ Some n → t n ≡ y k j
   lifted_entry k j n v at b e =

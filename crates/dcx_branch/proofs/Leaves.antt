@@ -1,5 +1,6 @@
 -- Answers of a node's linear program are leaves of its box.
-use Rattle.std.proofs.Common.{◌≡◌, ℕ, suc, ◌+◌, arith, Bool, true, false, if◌then◌else◌, IsTrue, List, [], ◌∷◌, length, map, All, Option, Some, option_map, slice_get, refl, sym, ap, ap₂, ◌∙◌, subst, ℤ, pos, add-zero}
+use Rattle.std.proofs.Common.{◌≡◌, ℕ, suc, ◌+◌, arith, Bool, true, false, if◌then◌else◌, IsTrue, List, [], ◌∷◌, length, map, All}
+use Rattle.std.proofs.Common.{Option, Some, option_map, slice_get, refl, sym, ap, ap₂, ◌∙◌, subst, ℤ, pos, add-zero}
 use Rattle.std.proofs.lemmas.List.Elements.{All-cons, All-nil}
 use Rattle.std.proofs.lemmas.Option.{slice_get-map}
 use Rattle.dcx_math.specs.Rational.{ℚ, whole, ◌+ℚ◌, ◌-ℚ◌, ◌*ℚ◌, ◌≤ℚ◌}
@@ -36,7 +37,8 @@ weights_signed m i (b ∷ bs) h =
     (subst (λ n. whole (pos 0) ≤ℚ m n) (add-zero i) (h 0 (bound_row (bound_number b)) refl refl))
     (weights_signed m (suc i) bs (λ l r e s. let q : i + suc l ≡ suc i + l = omega arith in subst (λ n. whole (pos 0) ≤ℚ m n) q (h (suc l) r e s)))
 
-module _ (rules : Rules) (p : Problem) (s : Setting) (l : LinearProgram) (box : Box) (bs : List BoundAt) (ok : IsTrue (accepted_by rules (convex_problem p))) (fit : Fits p s) (is : IsReductionAt rules p s l)
+module _ (rules : Rules) (p : Problem) (s : Setting) (l : LinearProgram) (box : Box) (bs : List BoundAt) (ok : IsTrue (accepted_by rules (convex_problem p))) (fit : Fits p s)
+    (is : IsReductionAt rules p s l)
     (each : (i : ℕ) (b : BoundAt) → slice_get bs i ≡ Some b → IsBoundOf p box b) where
   -- the rows of bounds at the unknowns of a point are what the bounds are exceeded by there
   exceeded_is : (y : Point) → IsInDomain p y → (m : ℕ → ℚ) (i : ℕ) (cs : List BoundAt) → ((k : ℕ) (b : BoundAt) → slice_get cs k ≡ Some b → IsBoundOf p box b) →
@@ -44,7 +46,8 @@ module _ (rules : Rules) (p : Problem) (s : Setting) (l : LinearProgram) (box : 
   exceeded_is y dom m i [] h = refl
   exceeded_is y dom m i (b ∷ cs) h =
       let here = h 0 b refl in
-      let same = lifted_entry rules p s l is y (is.reduction.lift y) (is.reduction.lifts y dom) b.place.variable b.place.entry b.place.unknown here.variable here.entry.variable here.entry.entry here.unknown in
+      let same = lifted_entry rules p s l is y (is.reduction.lift y) (is.reduction.lifts y dom) b.place.variable b.place.entry b.place.unknown here.variable here.entry.variable here.entry.entry
+      here.unknown in
       ap₂ ◌+ℚ◌
       (ap (λ u. m i *ℚ excess b.upper b.limit u) same
       ∙ sym (one_exceeded b.upper (box b.place.variable b.place.entry).upper (box b.place.variable b.place.entry).lower b.limit (m i) (y b.place.variable b.place.entry) here.limit))
@@ -74,8 +77,10 @@ module _ (rules : Rules) (p : Problem) (s : Setting) (l : LinearProgram) (box : 
         (≤ℚ_trans (lifting.optimal_shows rules p s ok fit (well_formed p) l is (map bound_number bs) v x m h).projects.below (≤ℚ-from_≡ (sym (is.program.objective x) ∙ h.attained)));
     kept = λ v x m h i b at.
         let bound = each i b at in
-        let row = (lifting.optimal_shows rules p s ok fit (well_formed p) l is (map bound_number bs) v x m h).kept i (bound_number b) (slice_get-map bound_number bs i ∙ ap (option_map bound_number) at) in
-        subst (λ q. excess b.upper b.limit q ≤ℚ whole (pos 0)) (sym (entry_unknown p x b.place.variable b.place.entry b.place.unknown bound.variable bound.entry.variable bound.entry.entry bound.unknown)) row;
+        let row = (lifting.optimal_shows rules p s ok fit (well_formed p) l is (map bound_number bs) v x m h).kept i (bound_number b)
+        (slice_get-map bound_number bs i ∙ ap (option_map bound_number) at) in
+        subst (λ q. excess b.upper b.limit q ≤ℚ whole (pos 0))
+        (sym (entry_unknown p x b.place.variable b.place.entry b.place.unknown bound.variable bound.entry.variable bound.entry.entry bound.unknown)) row;
   }
 
 pub answers_are_leaves : AnswersAreLeaves

@@ -1,4 +1,4 @@
--- The lemmas.
+-- The lemmas by which nodes' answers are leaves of their boxes, and a run of nodes ends with the whole optimum.
 pub mod Lifting
 pub mod Entries
 pub mod Leaves

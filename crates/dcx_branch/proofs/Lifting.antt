@@ -25,8 +25,9 @@ use Rattle.dcx_graph.specs.AsLinear.{IsReductionAt}
 
 -- ---- rows that are at most 0
 -- multipliers of at least 0 times rows that are at most 0
-bounds_nonpositive : (m : ℕ → ℚ) (u : Unknowns) (i : ℕ) (rows : List (Unknowns → ℚ)) → AllFrom (IsSigned m) i (map bound_row rows) → ((k : ℕ) (row : Unknowns → ℚ) → slice_get rows k ≡ Some row → row u ≤ℚ whole (pos 0)) →
-    combined_from m i (map bound_row rows) u ≤ℚ whole (pos 0)
+bounds_nonpositive : (m : ℕ → ℚ) (u : Unknowns) (i : ℕ) (rows : List (Unknowns → ℚ)) → AllFrom (IsSigned m) i (map bound_row rows)
+    → ((k : ℕ) (row : Unknowns → ℚ) → slice_get rows k ≡ Some row → row u ≤ℚ whole (pos 0))
+    → combined_from m i (map bound_row rows) u ≤ℚ whole (pos 0)
 bounds_nonpositive m u i [] h k = ≤ℚ_refl _
 bounds_nonpositive m u i (row ∷ rows) h k =
     +ℚ-nonpositive (*ℚ-nonpositive (subst (λ n. whole (pos 0) ≤ℚ m n) (add-zero i) (h 0 (bound_row row) refl refl)) (k 0 row refl))
@@ -50,7 +51,8 @@ over_all v o c p e h k = linear (v ∷ o ∷ c ∷ p ∷ e ∷ []) (+ℚ-≤ℚ 
 no_more : (p : ℚ) → p +ℚ whole (pos 0) ≡ p
 no_more p = +ℚ_idr p
 
-module _ (rules : Rules) (p : Problem) (s : Setting) (ok : IsTrue (accepted_by rules (convex_problem p))) (fit : Fits p s) (formed : IsWellFormed (convex_problem p)) (l : LinearProgram) (is : IsReductionAt rules p s l) (extra : List (Unknowns → ℚ)) where
+module _ (rules : Rules) (p : Problem) (s : Setting) (ok : IsTrue (accepted_by rules (convex_problem p))) (fit : Fits p s) (formed : IsWellFormed (convex_problem p)) (l : LinearProgram)
+    (is : IsReductionAt rules p s l) (extra : List (Unknowns → ℚ)) where
   abbrev P : convex.Problem
   P = convex_problem p
 

@@ -13,7 +13,7 @@ use Rattle.dcx_math.proofs.Ratios.{ratio-one}
 use Rattle.dcx_frac.specs.Frac.{value}
 use Rattle.dcx_frac.specs.Fits.{Fits, IsRepresentable, representable}
 use Rattle.dcx_atom.specs.Formed.{frac_at}
-use Rattle.dcx_call.proofs.Products.{value-frac_at}
+use Rattle.dcx_atom.proofs.Fractions.{value-frac_at}
 use Rattle.dcx_linear.specs.FormTerms.{Unknowns}
 use Rattle.dcx_linear.specs.Rows.{RowAt, LinearProgram}
 use Rattle.dcx_linear.specs.declared.row.RowKind.TheVariants.{AtMost}
@@ -69,4 +69,5 @@ rows_are (b ∷ bs) h = ap₂ ◌∷◌ (row_is b (All-head (λ (c : BoundAt). F
 
 pub node_linear : (q : Program Frac) (bs : List BoundAt) → All (λ (b : BoundAt). Fits b.limit) bs → linear_program (node_rows q bs) ≡ node_program (linear_program (rows_of q)) bs
 node_linear q bs h =
-    ap (λ rows. let l : LinearProgram = record { kinds = q.kinds; rows = rows; objective = form_number q.objective } in l) (map-append row_at q.rows (bound_rows bs) ∙ ap (λ rows. map row_at q.rows ++ rows) (rows_are bs h))
+    ap (λ rows. let l : LinearProgram = record { kinds = q.kinds; rows = rows; objective = form_number q.objective } in l)
+    (map-append row_at q.rows (bound_rows bs) ∙ ap (λ rows. map row_at q.rows ++ rows) (rows_are bs h))

@@ -1,5 +1,6 @@
 -- Lists that are made item by item: what is made so far, and then the rest, is all.
-use Rattle.std.proofs.Common.{◌≡◌, ◌==◌, ℕ, zero, suc, ◌+◌, ◌-◌, ◌<◌, ◌≤◌, arith, List, [], ◌∷◌, ◌++◌, length, get_or, take, drop, set, Option, Some, None, Bool, true, false, refl, sym, ap, ap₂, ◌∙◌, append_assoc, add-one}
+use Rattle.std.proofs.Common.{◌≡◌, ◌==◌, ℕ, zero, suc, ◌+◌, ◌-◌, ◌<◌, ◌≤◌, arith, List, [], ◌∷◌, ◌++◌, length, get_or, take, drop, set}
+use Rattle.std.proofs.Common.{Option, Some, None, Bool, true, false, refl, sym, ap, ap₂, ◌∙◌, append_assoc, add-one}
 use Rattle.std.proofs.lemmas.Bool.Decides.{nat_tests}
 use Rattle.std.proofs.lemmas.List.{append-nil, drop_all}
 use Rattle.dcx_frac.specs.declared.fraction.Frac.{Frac}
@@ -28,7 +29,8 @@ ends xs rest all e h = sym (append-nil xs) ∙ ap (λ l. xs ++ l) (sym e) ∙ h
 
 -- ---- bounds with their multipliers
 pub weighed_more : (bs : List BoundAt) (ws : List Frac) (i : ℕ) (b : BoundAt) (w : Frac) → i < length bs → b ≡ get_or bs i b → i < length ws → w ≡ get_or ws i w →
-    bound_duals (drop i bs) (drop i ws) ≡ (let d : BoundWeight = record { variable = b.place.variable; entry = b.place.entry; upper = b.upper; weight = w } in d ∷ bound_duals (drop (i + 1) bs) (drop (i + 1) ws))
+    bound_duals (drop i bs) (drop i ws) ≡ (let d : BoundWeight = record { variable = b.place.variable; entry = b.place.entry; upper = b.upper; weight = w } in
+    d ∷ bound_duals (drop (i + 1) bs) (drop (i + 1) ws))
 weighed_more bs ws i b w l is m at = ap₂ bound_duals (drop_at bs i b l is) (drop_at ws i w m at)
 
 pub weighed_all : (bs : List BoundAt) (ws : List Frac) (i : ℕ) → length bs ≤ i → bound_duals (drop i bs) (drop i ws) ≡ []
@@ -88,7 +90,8 @@ pub popped_open : (xs ys : List Side) (n : ℕ) (d : Side) → length xs ≡ n +
 popped_open xs ys n d e is up rest box =
     ap (open_sides box) (last_there xs n d e is) ∙ open_above box (take n xs) d up ∙ ap (open_sides box) (sym rest)
 
-pub turned_open : (xs : List Side) (n : ℕ) (d c : Side) → length xs ≡ n + 1 → d ≡ get_or xs n d → d.above ≡ false → IsUpperOf d c → (box : Box) → open_sides box xs ≡ box_of box (set xs n c) ∷ open_sides box (set xs n c)
+pub turned_open : (xs : List Side) (n : ℕ) (d c : Side) → length xs ≡ n + 1 → d ≡ get_or xs n d → d.above ≡ false → IsUpperOf d c → (box : Box)
+    → open_sides box xs ≡ box_of box (set xs n c) ∷ open_sides box (set xs n c)
 turned_open xs n d c e is low up box =
     ap (open_sides box) (last_there xs n d e is)
     ∙ open_turned box (take n xs) d c low up.above up.place up.limit

@@ -1,5 +1,6 @@
 -- Which entries are listed as those that may be bounded.
-use Rattle.std.proofs.Common.{◌≡◌, ◌≢◌, ℕ, zero, suc, ◌+◌, ◌<◌, ◌≤◌, arith, get_or, List, [], ◌∷◌, ◌++◌, length, map, Option, Some, None, option_map, slice_get, refl, sym, ap, ◌∙◌, subst, add-zero, zero-add}
+use Rattle.std.proofs.Common.{◌≡◌, ◌≢◌, ℕ, zero, suc, ◌+◌, ◌<◌, ◌≤◌, arith, get_or, List, [], ◌∷◌, ◌++◌, length, map, Option}
+use Rattle.std.proofs.Common.{Some, None, option_map, slice_get, refl, sym, ap, ◌∙◌, subst, add-zero, zero-add}
 use Rattle.std.proofs.lemmas.Option.{none-some, same_Some, slice_get-map, slice_get_within, get_or_from_slice_get, slice_get-get_or}
 use Rattle.std.specs.List.{All}
 use Rattle.std.proofs.lemmas.List.FromFn.{length-range_with_len, get_or-range_with_len}
@@ -144,7 +145,8 @@ module _ (vs : List Variable) where
       by Integer e = h
       by Boolean e = h
 
-  there_from : (k : ℕ) (rest : List Variable) (m : ℕ) (v : Variable) (q : Place) → slice_get rest m ≡ Some v → IsIn q (variable_places (k + m) (first_unknown vs (k + m)) v) → IsIn q (places_from vs k rest)
+  there_from : (k : ℕ) (rest : List Variable) (m : ℕ) (v : Variable) (q : Place) → slice_get rest m ≡ Some v → IsIn q (variable_places (k + m) (first_unknown vs (k + m)) v)
+      → IsIn q (places_from vs k rest)
   there_from k [] m v q at h = absurd (none-some v at)
   there_from k (w ∷ rest) zero v q at h =
       let same : w ≡ v = same_Some w v at in

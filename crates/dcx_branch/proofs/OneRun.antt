@@ -34,7 +34,8 @@ use Rattle.dcx_branch.specs.Rows.{node_rows}
 use Rattle.dcx_branch.specs.Between.{IsBetween}
 use Rattle.dcx_branch.specs.Leaves.{first_passing}
 use Rattle.dcx_lp_solve.specs.Stops.{run_stop}
-use Rattle.dcx_branch.specs.Run.{Best, State, start, best_value, IsPruned, IsBetter, AreWhole, IsFirstSplit, unknowns_in, Turn, Cut, Found, Divided, TurnsOut, after, IsLeafTurn, bounds_in, IsNode, leaf_passing, FormsLeaf, Steps, Reaches, here, next, Ends, PassesNodes, FallsAtRoot, NodeStops, at_rows, at_leaf, StopsAtNode}
+use Rattle.dcx_branch.specs.Run.{Best, State, start, best_value, IsPruned, IsBetter, AreWhole, IsFirstSplit, unknowns_in, Turn, Cut, Found, Divided, TurnsOut, after, IsLeafTurn, bounds_in}
+use Rattle.dcx_branch.specs.Run.{IsNode, leaf_passing, FormsLeaf, Steps, Reaches, here, next, Ends, PassesNodes, FallsAtRoot, NodeStops, at_rows, at_leaf, StopsAtNode}
 use Rattle.dcx_branch.specs.Answers.{IsPointAt, EndsAt, RunsAreOne}
 use Rattle.dcx_branch.proofs.Between.{one_between, between_not_whole}
 
@@ -69,7 +70,8 @@ unbounded_optimal s h k = cc
 unbounded_infeasible : (s : LpStatus) → s ≡ status.Unbounded → s ≡ status.Infeasible → ⊥
 unbounded_infeasible s h k = cc
 
-cut_not_better : (best : Option ℚ) (a : LpAnswer) → (a.status ≡ status.Infeasible) ⊎ ((a.status ≡ status.Optimal) × IsPruned best (value a.number)) → a.status ≡ status.Optimal → IsBetter best (value a.number) → ⊥
+cut_not_better : (best : Option ℚ) (a : LpAnswer) → (a.status ≡ status.Infeasible) ⊎ ((a.status ≡ status.Optimal) × IsPruned best (value a.number)) → a.status ≡ status.Optimal
+    → IsBetter best (value a.number) → ⊥
 cut_not_better best a (inl h) o b = infeasible_optimal a.status h o
 cut_not_better best a (inr h) o b = pruned_better best (value a.number) h.1 b
 
@@ -118,10 +120,12 @@ none_open box rest e = cc
 
 module _ (p : Problem) (q : Program Frac) (limit : ℕ) where
   -- ---- steps
-  turn_there : (box : Box) (best : Option ℚ) (s t : Solved) (turn : Turn) → IsNode p q limit box s → IsNode p q limit box t → TurnsOut (places p.variables) best t.program t.answer turn → TurnsOut (places p.variables) best s.program s.answer turn
+  turn_there : (box : Box) (best : Option ℚ) (s t : Solved) (turn : Turn) → IsNode p q limit box s → IsNode p q limit box t → TurnsOut (places p.variables) best t.program t.answer turn
+      → TurnsOut (places p.variables) best s.program s.answer turn
   turn_there box best s t turn h k turns =
       let same = rows.answers_are_one limit (node_rows q (bounds_in p box)) s t h k in
-      subst (λ (a : LpAnswer). TurnsOut (places p.variables) best s.program a turn) (sym same.answer) (subst (λ (r : tab.Program). TurnsOut (places p.variables) best r t.answer turn) (sym same.program) turns)
+      subst (λ (a : LpAnswer). TurnsOut (places p.variables) best s.program a turn) (sym same.answer)
+      (subst (λ (r : tab.Program). TurnsOut (places p.variables) best r t.answer turn) (sym same.program) turns)
 
   pub one_step : (a b c : State) → Steps p q limit a b → Steps p q limit a c → b ≡ c
   one_step a b c h k =
@@ -129,9 +133,11 @@ module _ (p : Problem) (q : Program Frac) (limit : ℕ) where
       let box = heads h.box k.box h.rest k.rest boxes in
       let node = subst (λ (x : Box). IsNode p q limit x k.solved) (sym box) k.node in
       let same = rows.answers_are_one limit (node_rows q (bounds_in p h.box)) h.solved k.solved h.node node in
-      let turn = one_turn (places p.variables) (best_value a.best) h.solved.program h.solved.answer h.turn k.turn h.turns (turn_there h.box (best_value a.best) h.solved k.solved k.turn h.node node k.turns) in
+      let turn = one_turn (places p.variables) (best_value a.best) h.solved.program h.solved.answer h.turn k.turn h.turns
+      (turn_there h.box (best_value a.best) h.solved k.solved k.turn h.node node k.turns) in
       h.next
-      ∙ after_same h.box k.box h.rest k.rest a.best a.taken h.solved.program k.solved.program h.solved.answer k.solved.answer h.turn k.turn box (tails h.box k.box h.rest k.rest boxes) same.program same.answer turn
+      ∙ after_same h.box k.box h.rest k.rest a.best a.taken h.solved.program k.solved.program h.solved.answer k.solved.answer h.turn k.turn box
+      (tails h.box k.box h.rest k.rest boxes) same.program same.answer turn
       ∙ sym k.next
 
   step_taken : (a b : State) → Steps p q limit a b → b.taken ≡ suc a.taken
@@ -227,7 +233,8 @@ module _ (p : Problem) (q : Program Frac) (limit : ℕ) where
       let same = rows.answers_are_one limit (node_rows q (bounds_in p box)) s t h k in
       ap (λ (a : LpAnswer). first_passing p a (length q.rows) (bounds_in p box)) same.answer
 
-  node_last : (box : Box) (rest : List Box) (best : Option Best) (taken : ℕ) (stop : Stop) → NodeStops p q limit (bounds_in p box) (best_value best) stop → IsLast (record { open_boxes = box ∷ rest; best = best; taken = taken })
+  node_last : (box : Box) (rest : List Box) (best : Option Best) (taken : ℕ) (stop : Stop) → NodeStops p q limit (bounds_in p box) (best_value best) stop
+      → IsLast (record { open_boxes = box ∷ rest; best = best; taken = taken })
   node_last box rest best taken stop (at_rows e some stops is) b s =
       let same = heads box s.box rest s.rest s.first in
       let node = subst (λ (x : Box). IsNode p q limit x s.solved) (sym same) s.node in
@@ -285,11 +292,14 @@ module _ (p : Problem) (q : Program Frac) (limit : ℕ) where
 
     -- where no box is open
     closed_falls : (best : Option Best) (nodes : ℕ) → nodes ≤ allowed → Ends p q limit best nodes → 0 < allowed → FallsAtRoot p q limit → ⊥
-    closed_falls best nodes few h some f = none_open (root_box p) [] (ap (λ (x : State). x.open_boxes) (same_last (record { open_boxes = []; best = best; taken = nodes }) (start p) (ended best nodes few h) (falls some f)))
+    closed_falls best nodes few h some f =
+        none_open (root_box p) [] (ap (λ (x : State). x.open_boxes) (same_last (record { open_boxes = []; best = best; taken = nodes }) (start p) (ended best nodes few h) (falls some f)))
 
     closed_stops : (best : Option Best) (nodes node : ℕ) (stop : Stop) → nodes ≤ allowed → Ends p q limit best nodes → node ≤ allowed → StopsAtNode p q limit node stop → ⊥
     closed_stops best nodes node stop few h less k =
-        none_open k.box k.rest (ap (λ (x : State). x.open_boxes) (same_last (record { open_boxes = []; best = best; taken = nodes }) (record { open_boxes = k.box ∷ k.rest; best = k.best; taken = k.taken }) (ended best nodes few h) (stopped node stop less k)))
+        none_open k.box k.rest
+        (ap (λ (x : State). x.open_boxes) (same_last (record { open_boxes = []; best = best; taken = nodes }) (record { open_boxes = k.box ∷ k.rest; best = k.best; taken = k.taken })
+        (ended best nodes few h) (stopped node stop less k)))
 
     closed_passes : (best : Option Best) (nodes : ℕ) → nodes ≤ allowed → Ends p q limit best nodes → PassesNodes p q limit allowed → ⊥
     closed_passes best nodes few h k = not_passing (record { open_boxes = []; best = best; taken = nodes }) (ended best nodes few h) k
@@ -308,11 +318,13 @@ module _ (p : Problem) (q : Program Frac) (limit : ℕ) where
       where
         not_both : (box : Box) (best : Option ℚ) (stop : Stop) (s : Solved) → IsNode p q limit box s → s.answer.status ≡ status.Unbounded → NodeStops p q limit (bounds_in p box) best stop → ⊥
         not_both box best stop s node u (at_rows e n h is) = n (rows.solved_or_stopped limit (node_rows q (bounds_in p box)) s e node h)
-        not_both box best stop s node u (at_leaf t turn row passes there turns leaf first_one is) = falls_not (places p.variables) best s.program s.answer turn u (turn_there box best s t turn node there turns)
+        not_both box best stop s node u (at_leaf t turn row passes there turns leaf first_one is) =
+            falls_not (places p.variables) best s.program s.answer turn u (turn_there box best s t turn node there turns)
 
     stops_same : (node other : ℕ) (stop second : Stop) → node ≤ allowed → other ≤ allowed → StopsAtNode p q limit node stop → StopsAtNode p q limit other second → Node node stop ≡ Node other second
     stops_same node other stop second few less h k =
-        let same = same_last (record { open_boxes = h.box ∷ h.rest; best = h.best; taken = h.taken }) (record { open_boxes = k.box ∷ k.rest; best = k.best; taken = k.taken }) (stopped node stop few h) (stopped other second less k) in
+        let same = same_last (record { open_boxes = h.box ∷ h.rest; best = h.best; taken = h.taken }) (record { open_boxes = k.box ∷ k.rest; best = k.best; taken = k.taken })
+        (stopped node stop few h) (stopped other second less k) in
         let box = heads h.box k.box h.rest k.rest (ap (λ (x : State). x.open_boxes) same) in
         let best = ap (λ (x : State). best_value x.best) same in
         let here_too = subst (λ (x : Box). NodeStops p q limit (bounds_in p x) (best_value k.best) second) (sym box) k.stops in
@@ -325,7 +337,8 @@ module _ (p : Problem) (q : Program Frac) (limit : ℕ) where
     some_same : (a b : Best) → ◌≡◌ {A = Option Best} (Some a) (Some b) → a ≡ b
     some_same a b e = same_Some a b e
 
-    optimal_same : (v w : Frac) (x y : Pairs) (nodes count : ℕ) → nodes ≤ allowed → count ≤ allowed → EndsAt p q limit v x nodes → EndsAt p q limit w y count → (value v ≡ value w) × IsSamePoint p x y × (nodes ≡ count)
+    optimal_same : (v w : Frac) (x y : Pairs) (nodes count : ℕ) → nodes ≤ allowed → count ≤ allowed → EndsAt p q limit v x nodes → EndsAt p q limit w y count
+        → (value v ≡ value w) × IsSamePoint p x y × (nodes ≡ count)
     optimal_same v w x y nodes count few less h k =
         let same = closed_same (Some h.best) (Some k.best) nodes count few less h.ends k.ends in
         let best = some_same h.best k.best same.0 in

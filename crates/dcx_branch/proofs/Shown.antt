@@ -1,5 +1,6 @@
 -- What the answer of a node's scaled program shows of the node's box, in the numbers that a leaf is handed out with.
-use Rattle.std.proofs.Common.{◌≡◌, ℕ, zero, suc, ◌+◌, ◌-◌, ◌<◌, ◌≤◌, arith, List, [], ◌∷◌, ◌++◌, length, map, Some, Ok, slice_get, refl, sym, ap, ap₂, ◌∙◌, subst, pos, true, add-zero, append_assoc, length-append, drop}
+use Rattle.std.proofs.Common.{◌≡◌, ℕ, zero, suc, ◌+◌, ◌-◌, ◌<◌, ◌≤◌, arith, List, [], ◌∷◌, ◌++◌, length, map, Some, Ok, slice_get}
+use Rattle.std.proofs.Common.{refl, sym, ap, ap₂, ◌∙◌, subst, pos, true, add-zero, append_assoc, length-append, drop}
 use Rattle.std.specs.Prelude.{Bool, false, ℤ, Result, sum_by, slice_range, option_map}
 use Rattle.std.specs.List.{All}
 use Rattle.std.proofs.lemmas.List.{length-map, length-take-le, length-drop}
@@ -73,7 +74,8 @@ module _ (p : Problem) (s : Setting) (m n : Multipliers) (same : AreSameMultipli
   }
 
 -- ---- the multipliers of bounds
-weights_are : (m : ℕ → ℚ) (i : ℕ) (bs : List BoundAt) (ws : List Frac) → length ws ≡ length bs → ((n : ℕ) (w : Frac) → slice_get ws n ≡ Some w → value w ≡ m (i + n)) → map weight_of (bound_duals bs ws) ≡ weights_from m i bs
+weights_are : (m : ℕ → ℚ) (i : ℕ) (bs : List BoundAt) (ws : List Frac) → length ws ≡ length bs → ((n : ℕ) (w : Frac) → slice_get ws n ≡ Some w → value w ≡ m (i + n))
+    → map weight_of (bound_duals bs ws) ≡ weights_from m i bs
 weights_are m i [] ws e h = refl
 weights_are m i (b ∷ bs) [] e h = absurd (omega (arith, e))
 weights_are m i (b ∷ bs) (w ∷ ws) e h =
@@ -186,15 +188,19 @@ module _ (p : Problem) (s : Setting) (q : Program Frac) (given : IsReducedAt p s
   weights_there : (ds : List BoundWeight) → length q.rows + length bs ≤ length a.rows → AreBoundDuals a (length q.rows) bs ds → weights_from m (length l.rows) bs ≡ map weight_of ds
   weights_there ds enough are = ap (λ n. weights_from m n bs) (length-map q.rows row_at) ∙ sym (bounds_same ds enough are)
 
-  pub leaf_bounds : a.status ≡ status.Optimal → length q.rows + length bs ≤ length a.rows → (duals : List Array) (bounds : List BoundWeight) → IsLeaf p a (length q.rows) bs duals bounds → BoundsBelow p s box (value a.number) (shown_by duals bounds)
+  pub leaf_bounds : a.status ≡ status.Optimal → length q.rows + length bs ≤ length a.rows → (duals : List Array) (bounds : List BoundWeight) → IsLeaf p a (length q.rows) bs duals bounds
+      → BoundsBelow p s box (value a.number) (shown_by duals bounds)
   leaf_bounds e enough duals bounds leaf =
       subst (λ ws. BoundsBelow p s box (value a.number) (record { duals = multipliers_in duals; bounds = ws })) (weights_there bounds enough leaf.bounds_are)
-      (below_same p s (multipliers_of (convex_problem p) m) (multipliers_in duals) (duals_same duals leaf.constraints) box (value a.number) (weights_from m (length l.rows) bs) (nodes.bound (value a.number) x m (optimal e)))
+      (below_same p s (multipliers_of (convex_problem p) m) (multipliers_in duals) (duals_same duals leaf.constraints) box (value a.number) (weights_from m (length l.rows) bs)
+      (nodes.bound (value a.number) x m (optimal e)))
 
-  pub leaf_empty : a.status ≡ status.Infeasible → length q.rows + length bs ≤ length a.rows → (duals : List Array) (bounds : List BoundWeight) → IsLeaf p a (length q.rows) bs duals bounds → ShowsEmpty p s box (shown_by duals bounds) (value a.number)
+  pub leaf_empty : a.status ≡ status.Infeasible → length q.rows + length bs ≤ length a.rows → (duals : List Array) (bounds : List BoundWeight) → IsLeaf p a (length q.rows) bs duals bounds
+      → ShowsEmpty p s box (shown_by duals bounds) (value a.number)
   leaf_empty e enough duals bounds leaf =
       subst (λ ws. ShowsEmpty p s box (record { duals = multipliers_in duals; bounds = ws }) (value a.number)) (weights_there bounds enough leaf.bounds_are)
-      (empty_same p s (multipliers_of (convex_problem p) m) (multipliers_in duals) (duals_same duals leaf.constraints) box (value a.number) (weights_from m (length l.rows) bs) (nodes.empty (value a.number) m (infeasible e)))
+      (empty_same p s (multipliers_of (convex_problem p) m) (multipliers_in duals) (duals_same duals leaf.constraints) box (value a.number) (weights_from m (length l.rows) bs)
+      (nodes.empty (value a.number) m (infeasible e)))
 
   -- ---- the point
   pub feasible : a.status ≡ status.Optimal → IsFeasible p s (point_at p.variables x)

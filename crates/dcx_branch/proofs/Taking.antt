@@ -45,8 +45,9 @@ err_weaker (Err e) P Q h k = h e k
 
 -- ---- entries that are whole
 -- one entry more is whole
-pub whole_more : (ps : List Place) (x : Unknowns) (n : ℕ) (q : Place) → slice_get ps n ≡ Some q → IsWhole (x q.unknown) → ((i : ℕ) (p : Place) → i < n → slice_get ps i ≡ Some p → IsWhole (x p.unknown)) →
-    (i : ℕ) (p : Place) → i < n + 1 → slice_get ps i ≡ Some p → IsWhole (x p.unknown)
+pub whole_more : (ps : List Place) (x : Unknowns) (n : ℕ) (q : Place) → slice_get ps n ≡ Some q → IsWhole (x q.unknown)
+    → ((i : ℕ) (p : Place) → i < n → slice_get ps i ≡ Some p → IsWhole (x p.unknown))
+    → (i : ℕ) (p : Place) → i < n + 1 → slice_get ps i ≡ Some p → IsWhole (x p.unknown)
 whole_more ps x n q there whole before i p lt at = by (cases_lt i n)
   where
     by : (i < n) ⊎ (n ≤ i) → IsWhole (x p.unknown)
@@ -56,7 +57,8 @@ whole_more ps x n q there whole before i p lt at = by (cases_lt i n)
         let place : q ≡ p = same_Some q p (sym there ∙ ap (slice_get ps) same ∙ at) in
         subst (λ (a : Place). IsWhole (x a.unknown)) place whole
 
-pub whole_all : (ps : List Place) (x : Unknowns) (n : ℕ) → length ps ≤ n → ((i : ℕ) (p : Place) → i < n → slice_get ps i ≡ Some p → IsWhole (x p.unknown)) → (i : ℕ) (p : Place) → slice_get ps i ≡ Some p → IsWhole (x p.unknown)
+pub whole_all : (ps : List Place) (x : Unknowns) (n : ℕ) → length ps ≤ n → ((i : ℕ) (p : Place) → i < n → slice_get ps i ≡ Some p → IsWhole (x p.unknown)) → (i : ℕ) (p : Place)
+    → slice_get ps i ≡ Some p → IsWhole (x p.unknown)
 whole_all ps x n few before i p at = let l = slice_get_within ps i p at in before i p (omega (arith, l, few)) at
 
 -- ---- numbers of unknowns
@@ -67,8 +69,9 @@ numbers_length zs j (kind ∷ kinds) = ap suc (numbers_length zs (j + columns_fo
 pub numbers_count : (kinds : List UnknownKind) (zs : List ℚ) (numbers : List Frac) → map value numbers ≡ unknown_numbers kinds zs → length numbers ≡ length kinds
 numbers_count kinds zs numbers e = sym (length-map numbers value) ∙ ap length e ∙ numbers_length zs 0 kinds
 
-pub same_numbers : (kinds : List UnknownKind) (program : tab.Program) (a : LpAnswer) (numbers : List Frac) → map value numbers ≡ unknown_numbers kinds (map value a.columns) → TellsUnknowns kinds program a →
-    numbered numbers ≡ unknowns_in program a
+pub same_numbers : (kinds : List UnknownKind) (program : tab.Program) (a : LpAnswer) (numbers : List Frac) → map value numbers ≡ unknown_numbers kinds (map value a.columns)
+    → TellsUnknowns kinds program a
+    → numbered numbers ≡ unknowns_in program a
 same_numbers kinds program a numbers e t = fun_ext (λ u. ap (λ zs. rat_at zs u) e ∙ t.same u)
 
 -- ---- stops of leaves
@@ -112,7 +115,8 @@ module _ (p : Problem) (q : Program Frac) (limit : ℕ) (bs : List BoundAt) (bes
   judged s node (stops.Stop stop) (inl e) = inl e
   judged s node (stops.Stop stop) (inr h) = inr (at_leaf s h.turn h.row h.passes node.solved h.turns h.leaf h.first_one h.is)
 
-  pub stops_as : (s : Solved) → IsSolvedWith q limit bs s → (first : ℕ) (cs : List BoundAt) → first ≡ length q.rows → cs ≡ bs → (e : NodeStop) → StopsJudging p first cs best s e → StopsTaking p q limit bs best e
+  pub stops_as : (s : Solved) → IsSolvedWith q limit bs s → (first : ℕ) (cs : List BoundAt) → first ≡ length q.rows → cs ≡ bs → (e : NodeStop) → StopsJudging p first cs best s e
+      → StopsTaking p q limit bs best e
   stops_as s node first cs e f stop h =
       judged s node stop (subst (λ (xs : List BoundAt). StopsJudging p (length q.rows) xs best s stop) f (subst (λ n. StopsJudging p n cs best s stop) e h))
 

@@ -1,4 +1,4 @@
--- What the contracts of this crate cite.
+-- What contracts cite: boxes, the rows and the leaves of nodes, the run of nodes, and what it answers.
 pub mod Between
 pub mod Unknowns
 pub mod Places

@@ -57,5 +57,6 @@ pub record NodesShow (p : Problem) (s : Setting) (l : LinearProgram) (box : Box)
       excess b.upper b.limit (point_at p.variables x b.place.variable b.place.entry) ≤ℚ whole (pos 0)
 
 abbrev pub AnswersAreLeaves : Type 0
-AnswersAreLeaves = (rules : Rules) (p : Problem) (s : Setting) (l : LinearProgram) (box : Box) (bs : List BoundAt) → IsTrue (accepted_by rules (convex_problem p)) → Fits p s → IsReductionAt rules p s l →
-    ((i : ℕ) (b : BoundAt) → slice_get bs i ≡ Some b → IsBoundOf p box b) → NodesShow p s l box bs
+AnswersAreLeaves = (rules : Rules) (p : Problem) (s : Setting) (l : LinearProgram) (box : Box) (bs : List BoundAt) → IsTrue (accepted_by rules (convex_problem p)) → Fits p s
+    → IsReductionAt rules p s l
+    → ((i : ℕ) (b : BoundAt) → slice_get bs i ≡ Some b → IsBoundOf p box b) → NodesShow p s l box bs

@@ -12,4 +12,5 @@ use Rattle.dcx_graph.specs.Correct.{ReducesNumbers, ReducesAffine}
 -- of a program that a problem is reduced to at a setting, and of one with affine coefficients that is put at a setting
 pub record ProgramsHaveUnknowns : Type 0 where
   pub numbers : (p : Problem) (setting : Pairs) (q : Program Frac) → ReducesNumbers p setting (Ok q) → variable_unknowns p.variables ≤ length q.kinds
-  pub affine : (p : Problem) (setting other : Pairs) (m : Program ParamForm) (q : Program Frac) → ReducesAffine p setting (Ok m) → FixGives other m (Ok q) → variable_unknowns p.variables ≤ length q.kinds
+  pub affine : (p : Problem) (setting other : Pairs) (m : Program ParamForm) (q : Program Frac) → ReducesAffine p setting (Ok m) → FixGives other m (Ok q)
+      → variable_unknowns p.variables ≤ length q.kinds

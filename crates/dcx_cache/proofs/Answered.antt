@@ -67,8 +67,8 @@ module _ (p : Problem) (setting : Pairs) (ok : IsAccepted p) (fits : FitsParamet
   pub is_fitting : (q : Program Frac) → SessionGives p setting (Ok q) → IsFitting p setting
   is_fitting q g = (sound q g).fitting
 
-pub reduced_at : (p : Problem) (setting : Pairs) (r : Result (Reduction Frac) Stop) → IsAccepted p → OnOk r (FitsParameters p.parameters setting) → IfOk r (λ x. SessionGives p setting (Ok x.program)) →
-    IfOk r (λ x. IsProgramAt p setting x.program)
+pub reduced_at : (p : Problem) (setting : Pairs) (r : Result (Reduction Frac) Stop) → IsAccepted p → OnOk r (FitsParameters p.parameters setting) → IfOk r (λ x. SessionGives p setting (Ok x.program))
+    → IfOk r (λ x. IsProgramAt p setting x.program)
 reduced_at p setting (Ok x) ok fits g = sound p setting ok fits x.program g
 reduced_at p setting (Err e) ok fits g = tt
 

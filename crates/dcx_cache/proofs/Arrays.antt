@@ -11,12 +11,12 @@ use Rattle.dcx_call.specs.declared.attribute.Parameter.{Parameter}
 use Rattle.dcx_call.specs.declared.call.Call.{Call}
 use Rattle.dcx_call.specs.declared.call.Call.TheVariants as calls
 use Rattle.dcx_call.specs.Values.{HasArray}
-use Rattle.dcx_convex.specs.Rules.{Plain, Parametrized}
+use Rattle.dcx_convex.specs.Rules.{Plain}
 use Rattle.dcx_tree.specs.declared.problem.Problem.{Problem}
 use Rattle.dcx_tree.specs.Problems.{IsListed}
 use Rattle.dcx_tree.proofs.Sublists.{contains_at}
 use Rattle.dcx_fit.specs.Fit.{IsMet, FitsParameters}
-use Rattle.dcx_fit.proofs.Misfits.{holds_at}
+use Rattle.dcx_math.proofs.Lists.{holds_at}
 use Rattle.dcx_graph.specs.Reducing.{IsGivenFor, ParametersAreGiven}
 use Rattle.dcx_graph.specs.Fixed.{HaveArrays}
 
@@ -47,15 +47,3 @@ module _ (p : Problem) (setting : Pairs) (fits : FitsParameters p.parameters set
 
   pub parameters_are_given : (can_read : Pairs → List ℕ → ℕ → Type 0) → ParametersAreGiven Plain can_read p setting
   parameters_are_given can_read i n at = given_for can_read n.call (∥∥₁_map p.declared (λ d. d.listed i n at))
-
--- where parameters are affine, none is asked for
-affine_given : (setting : Pairs) (call : Call) → IsGivenFor Parametrized (λ s name entry. Unit {0}) setting call
-affine_given setting (calls.Variable v) = tt
-affine_given setting (calls.Parameter q) = λ j b. tt
-affine_given setting (calls.Constant x) = tt
-affine_given setting (calls.Atom m) = tt
-affine_given setting (calls.Linear m) = tt
-affine_given setting (calls.Pairing m) = tt
-
-pub affine_are_given : (p : Problem) (setting : Pairs) → ParametersAreGiven Parametrized (λ s name entry. Unit {0}) p setting
-affine_are_given p setting i n at = affine_given setting n.call

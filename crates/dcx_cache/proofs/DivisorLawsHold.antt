@@ -1,4 +1,4 @@
--- The laws hold.
+-- Where all nodes are formed no divisor has an entry of 0, and the setting is a fitting one: the laws' proofs.
 use Rattle.std.proofs.Common.{◌≡◌, [], Some, ap, ◌∙◌}
 use Rattle.std.proofs.lemmas.Bool.{and_parts}
 use Rattle.dcx_frac.specs.Results.{sum_of}

@@ -29,9 +29,8 @@ use Rattle.dcx_call.specs.Values.{given_by, entry_formed}
 use Rattle.dcx_convex.specs.Calls as convex_calls
 use Rattle.dcx_convex.specs.Nodes as nodes
 use Rattle.dcx_convex.specs.Nodes.{Setting, Point, arguments}
-use Rattle.dcx_convex.specs.Rules.{Rules, Plain, Parametrized, Judgement, argument, is_constant, bends, judgement_by, judgement_at}
+use Rattle.dcx_convex.specs.Rules.{Rules, Judgement, argument, is_constant, bends, judgement_by, judgement_at}
 use Rattle.dcx_convex.specs.Problems.{accepted_by}
-use Rattle.dcx_convex.proofs.SideInduction.{both_constant}
 use Rattle.dcx_convex.proofs.Told.{judgement_tells}
 use Rattle.dcx_tree.specs.declared.problem.Problem.{Problem}
 use Rattle.dcx_tree.specs.Nodes.{Node, head_of, arg_sides, pairing_call, convex_node}
@@ -52,7 +51,7 @@ use Rattle.dcx_entries.specs.Entries.{PairEntryBy, PairEntry}
 use Rattle.dcx_entries.specs.Standing.{args_among}
 use Rattle.dcx_entries.specs.Nodes.{Table, table_forms, numbers_in, ReducedEntry, NodeEntryBy, AreFormed}
 use Rattle.dcx_formed.proofs.Coefs.{AreCoefs}
-use Rattle.dcx_formed.proofs.Numbers.{source, made_number, number_value, number_read}
+use Rattle.dcx_formed.proofs.Numbers.{source, made_number, number_value, number_read, args_constant}
 use Rattle.dcx_formed.proofs.Reached.{node_bent}
 use Rattle.dcx_formed.proofs.Steady.{bent_parts}
 use Rattle.dcx_formed.proofs.Tables.{form_in, entry_there}
@@ -73,10 +72,6 @@ alone_false true e = e
 alone_false false e = refl
 
 -- ---- constants
-constant_args : (rules : Rules) (c : convex_calls.Call) (args : List Judgement) → IsTrue (is_constant rules (judgement_by rules (nodes.Apply c) args)) → IsTrue (list_all (is_constant rules) args)
-constant_args Plain c args t = t
-constant_args Parametrized c args t = both_constant args t
-
 second_constant : (rules : Rules) (args : List Judgement) → IsTrue (list_all (is_constant rules) args) → length args ≡ 2 → IsTrue (is_constant rules (argument args 1))
 second_constant rules [] t e = absurd (omega (arith, e))
 second_constant rules (g ∷ []) t e = absurd (omega (arith, e))
@@ -84,13 +79,15 @@ second_constant rules (g ∷ h ∷ []) t e = (and_parts (is_constant rules h) tr
 second_constant rules (g ∷ h ∷ k ∷ rest) t e = absurd (omega (arith, e))
 
 -- ---- a product's judgement asks of its sides: a divisor is a number
-taken_by : (rules : Rules) (sides : List Sides) (to : Sides) (bend : Bend) (args : List Judgement) → IsTrue (bends rules (pairing_call Over sides to).kind bend args) → IsTrue (is_constant rules (argument args 1))
+taken_by : (rules : Rules) (sides : List Sides) (to : Sides) (bend : Bend) (args : List Judgement) → IsTrue (bends rules (pairing_call Over sides to).kind bend args)
+    → IsTrue (is_constant rules (argument args 1))
 taken_by rules sides to bend args t = t
 
 module _ {C : Type 0} (value_at : C → Parameters → ℚ) (of_number : Frac → C) (number_of : C → Option Frac) (Sums : C → C → Result C Passes → Type 0) (Changes : Change → C → Result C Passes → Type 0)
     (Reads : ℕ → List ℕ → ℕ → Pairs → C → Type 0) (laws : AreCoefs value_at of_number number_of Sums Changes) (rules : Rules) (p : Problem) (setting : Pairs) (table : Table C)
     (formed : AreFormed of_number number_of Sums Changes Reads rules p setting (length p.tree) table) (params : Parameters) (s : Setting)
-    (told : (i : ℕ) → i < length p.tree → is_reduced rules p i ≡ false → (x : Point) (j : ℕ) → problem_value p s x i j ≡ source value_at of_number number_of Sums Changes Reads laws rules p setting table formed i j)
+    (told : (i : ℕ) → i < length p.tree → is_reduced rules p i ≡ false → (x : Point) (j : ℕ)
+    → problem_value p s x i j ≡ source value_at of_number number_of Sums Changes Reads laws rules p setting table formed i j)
     (ok : IsTrue (accepted_by rules (convex_problem p))) where
   abbrev forms : List (List (Form C))
   forms = table_forms table
@@ -128,7 +125,8 @@ module _ {C : Type 0} (value_at : C → Parameters → ℚ) (of_number : Frac �
     divisor_constant : (r : Bool) → is_reduced rules p i ≡ r → IsTrue (is_constant rules (argument (map judged n.args) 1))
     divisor_constant false e =
         second_constant rules (map judged n.args)
-        (constant_args rules (pairing_call Over (arg_sides p.tree n) n.sides) (map judged n.args) (subst (λ (g : Judgement). IsTrue (is_constant rules g)) judgement (not_reduced (is_constant rules (judged i)) e)))
+        (args_constant rules (pairing_call Over (arg_sides p.tree n) n.sides) (map judged n.args)
+        (subst (λ (g : Judgement). IsTrue (is_constant rules g)) judgement (not_reduced (is_constant rules (judged i)) e)))
         (two_args n.args (arena.sides_at p.tree) two)
     divisor_constant true e =
         let c : convex_calls.Call = pairing_call Over (arg_sides p.tree n) n.sides in
@@ -136,15 +134,18 @@ module _ {C : Type 0} (value_at : C → Parameters → ℚ) (of_number : Frac �
         subst (λ (k : Call). ¬ IsTrue (is_constant rules (judgement_by rules (head_of (names_in p) k (arg_sides p.tree n) n.sides) (map judged n.args)))) is (not_constant p rules i n at e) in
         let some : ¬ IsTrue (list_all (is_constant rules) (map judged n.args)) = λ all. none (call_constant rules c (map judged n.args) all) in
         elim (node_bent p rules ok i within) [
-          | inl convex ↦ taken_by rules (arg_sides p.tree n) n.sides Convex (map judged n.args) (bent_parts rules c Convex (map judged n.args) (subst (λ (k : Judgement). IsTrue k.convex) judgement convex) some).0
-          | inr concave ↦ taken_by rules (arg_sides p.tree n) n.sides Concave (map judged n.args) (bent_parts rules c Concave (map judged n.args) (subst (λ (k : Judgement). IsTrue k.concave) judgement concave) some).0
+          | inl convex ↦ taken_by rules (arg_sides p.tree n) n.sides Convex (map judged n.args)
+              (bent_parts rules c Convex (map judged n.args) (subst (λ (k : Judgement). IsTrue k.convex) judgement convex) some).0
+          | inr concave ↦ taken_by rules (arg_sides p.tree n) n.sides Concave (map judged n.args)
+              (bent_parts rules c Concave (map judged n.args) (subst (λ (k : Judgement). IsTrue k.concave) judgement concave) some).0
         ]
 
     -- no entry of it is 0
     abbrev divisor : ℕ → ℚ
     divisor j = value (number_in number_of (args_among of_number forms n.args 1 j))
 
-    pair_nonzero : (j : ℕ) (entry : EntryForms C) → PairEntry of_number number_of Sums Changes Divisor (args_among of_number forms n.args) (record { left = j; right = j } ∷ []) j (Ok entry) → divisor j ≢ whole (pos 0)
+    pair_nonzero : (j : ℕ) (entry : EntryForms C) → PairEntry of_number number_of Sums Changes Divisor (args_among of_number forms n.args) (record { left = j; right = j } ∷ []) j (Ok entry)
+        → divisor j ≢ whole (pos 0)
     pair_nonzero j entry h = by (list_any (has_zero_divisor number_of Divisor (args_among of_number forms n.args)) (record { left = j; right = j } ∷ [])) refl h
       where
         by : (b : Bool) → list_any (has_zero_divisor number_of Divisor (args_among of_number forms n.args)) (record { left = j; right = j } ∷ []) ≡ b →
@@ -152,7 +153,8 @@ module _ {C : Type 0} (value_at : C → Parameters → ℚ) (of_number : Frac �
         by true e g = absurd (cc)
         by false e g = not_zero (divisor j) (alone_false (rat_eq (divisor j) (whole (pos 0))) e)
 
-    number_nonzero : (j : ℕ) (x : Frac) → entry_formed n.call (given_by setting) (given_by []) (arg_sides p.tree n) (numbers_in number_of (args_among of_number forms n.args)) j ≡ Ok x → divisor j ≢ whole (pos 0)
+    number_nonzero : (j : ℕ) (x : Frac) → entry_formed n.call (given_by setting) (given_by []) (arg_sides p.tree n) (numbers_in number_of (args_among of_number forms n.args)) j ≡ Ok x
+        → divisor j ≢ whole (pos 0)
     number_nonzero j x h =
         divided_nonzero j (value (number_in number_of (args_among of_number forms n.args 0 j))) (divisor j) x
         (subst (λ (call : Call). entry_formed call (given_by setting) (given_by []) (arg_sides p.tree n) (numbers_in number_of (args_among of_number forms n.args)) j ≡ Ok x) is h)
@@ -161,7 +163,9 @@ module _ {C : Type 0} (value_at : C → Parameters → ℚ) (of_number : Frac �
     entry_nonzero true j entry h =
         pair_nonzero j entry (subst (λ (call : Call). ReducedEntry of_number number_of Sums Changes Reads rules p setting forms i n.args call (arg_sides p.tree n) j (Ok entry)) is h)
     entry_nonzero false j entry h =
-        let (x, made, form) = made_number value_at of_number number_of Sums Changes Reads laws rules p setting table formed (entry_formed n.call (given_by setting) (given_by []) (arg_sides p.tree n) (numbers_in number_of (args_among of_number forms n.args)) j) entry h in
+        let (x, made, form) =
+        made_number value_at of_number number_of Sums Changes Reads laws rules p setting table formed
+        (entry_formed n.call (given_by setting) (given_by []) (arg_sides p.tree n) (numbers_in number_of (args_among of_number forms n.args)) j) entry h in
         number_nonzero j x made
 
     nonzero : (j : ℕ) → j < entries_of n.sides → divisor j ≢ whole (pos 0)

@@ -1,4 +1,4 @@
--- Lemmas of this crate.
+-- The lemmas by which a session's answers, fresh and warm, are right, and one at each setting.
 pub mod Arrays
 pub mod Maps
 pub mod Kept

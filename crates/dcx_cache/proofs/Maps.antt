@@ -13,11 +13,11 @@ use Rattle.dcx_graph.specs.Reduced.{Reduction}
 use Rattle.dcx_graph.specs.Reducing.{OrMemory}
 use Rattle.dcx_graph.specs.Stops.{TellsBy}
 use Rattle.dcx_graph.specs.Fixing.{IsListedProgram, FixGives}
-use Rattle.dcx_graph.specs.Correct.{ReducesNumbers, ReducesAffine}
+use Rattle.dcx_graph.specs.Correct.{ReducesAffine}
 use Rattle.dcx_graph.proofs.Correct.{affine_are_known}
 use Rattle.dcx_graph.proofs.AtSetting.{known_are_listed}
 use Rattle.dcx_graph.proofs.OneWay.{one_affine}
-use Rattle.dcx_cache.specs.Programs.{IsMapOf, HasMap, SessionGives, mapped, anew}
+use Rattle.dcx_cache.specs.Programs.{IsMapOf, HasMap, SessionGives, mapped}
 use Rattle.dcx_cache.proofs.Arrays.{have_arrays}
 
 -- ---- the map
@@ -35,15 +35,8 @@ map_is_listed p setting q m fits = known_are_listed p setting q (affine_are_know
 -- ---- at a setting
 module _ (p : Problem) (setting : Pairs) where
   -- the map is put there
-  pub from_map : (q : Program ParamForm) (r : Result (Reduction Frac) ReduceStop) → IsMapOf p q → TellsBy sites.Map r (λ x. x.program) (FixGives setting q) → OrMemory r (λ x. x.program) (SessionGives p setting)
+  pub from_map : (q : Program ParamForm) (r : Result (Reduction Frac) ReduceStop) → IsMapOf p q → TellsBy sites.Map r (λ x. x.program) (FixGives setting q)
+      → OrMemory r (λ x. x.program) (SessionGives p setting)
   from_map q (Ok x) m h = mapped q m h
   from_map q (Err e) m (inl (s, is, g)) = subst (λ (z : ReduceStop). OrMemory {A = Reduction Frac} (Err z) (λ x. x.program) (SessionGives p setting)) (sym is) (mapped q m g)
   from_map q (Err e) m (inr is) = subst (λ (z : ReduceStop). OrMemory {A = Reduction Frac} (Err z) (λ x. x.program) (SessionGives p setting)) (sym is) tt
-
-  -- or the problem is reduced there
-  pub from_numbers : (r : Result (Reduction Frac) ReduceStop) → ¬ HasMap p → OrMemory r (λ x. x.program) (ReducesNumbers p setting) → OrMemory r (λ x. x.program) (SessionGives p setting)
-  from_numbers (Ok x) n h = anew n h
-  from_numbers (Err (stops.TooLarge rows columns)) n h = anew n h
-  from_numbers (Err (stops.ZeroDivisor node entry)) n h = anew n h
-  from_numbers (Err (stops.Wide site)) n h = anew n h
-  from_numbers (Err stops.Memory) n h = tt

@@ -32,7 +32,7 @@ use Rattle.dcx_cache.specs.Answers.{IsAnswerOf, StopsAt, at_program, at_run, at_
 use Rattle.dcx_cache.specs.Laws.{HasOneEnd, BoundsLimit, LimitsAreSmall}
 
 -- ---- one program
-same_ok : {A E : Type 0} (x y : A) → ◌≡◌ {A = Result A E} (Ok x) (Ok y) → x ≡ y
+pub same_ok : {A E : Type 0} (x y : A) → ◌≡◌ {A = Result A E} (Ok x) (Ok y) → x ≡ y
 same_ok x y e = cc
 
 same_err : {A E : Type 0} (x y : E) → ◌≡◌ {A = Result A E} (Err x) (Err y) → x ≡ y
@@ -99,7 +99,8 @@ module _ (p : Problem) (setting : Pairs) (limit : ℕ) where
   pub solved_by : (q r : Program Frac) (s : Solved) → q ≡ r → IsSolved limit (rows_of r) s → IsSolved limit (rows_of q) s
   solved_by q r s e h = subst (λ (z : Program Frac). IsSolved limit (rows_of z) s) (sym e) h
 
-  one_answer_of : (q r : Program Frac) (s t : Solved) → SessionGives p setting (Ok q) → SessionGives p setting (Ok r) → IsSolved limit (rows_of q) s → IsSolved limit (rows_of r) t → s.answer ≡ t.answer
+  one_answer_of : (q r : Program Frac) (s t : Solved) → SessionGives p setting (Ok q) → SessionGives p setting (Ok r) → IsSolved limit (rows_of q) s → IsSolved limit (rows_of r) t
+      → s.answer ≡ t.answer
   one_answer_of q r s t g h a b = (answers_are_one limit (rows_of q) s t a (solved_by q r t (same_program q r g h) b)).answer
 
   same_stop : (e f : Stop) → StopsAt p setting limit e → StopsAt p setting limit f → e ≡ f
@@ -146,7 +147,8 @@ module _ (p : Problem) (setting : Pairs) (limit : ℕ) where
   pub unfit : (e : Stop) → IsFirstMisfit p.parameters setting e → FitsParameters p.parameters setting → ⊥
   unfit e m f = stops_hold.unfit p.parameters setting e m f
 
-  one_stop : (e f : Stop) → e ≢ why.Memory → f ≢ why.Memory → IsFirstMisfit p.parameters setting e ⊎ IsStopped p setting limit e → IsFirstMisfit p.parameters setting f ⊎ IsStopped p setting limit f → e ≡ f
+  one_stop : (e f : Stop) → e ≢ why.Memory → f ≢ why.Memory → IsFirstMisfit p.parameters setting e ⊎ IsStopped p setting limit e → IsFirstMisfit p.parameters setting f ⊎ IsStopped p setting limit f
+      → e ≡ f
   one_stop e f n m (inl h) (inl k) = stops_hold.one p.parameters setting e f h k n m
   one_stop e f n m (inl h) (inr k) = absurd (unfit e h k.fits)
   one_stop e f n m (inr h) (inl k) = absurd (unfit f k h.fits)

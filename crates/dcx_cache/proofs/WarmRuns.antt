@@ -1,5 +1,6 @@
 -- What is read at the end of a warm run is right for the problem, and it is one answer.
-use Rattle.std.proofs.Common.{◌≡◌, ◌≢◌, ◌↔◌, ℕ, ◌<◌, IsTrue, Bool, true, false, List, [], ◌∷◌, length, get_or, Option, Some, None, Result, Ok, Err, IfOk, IfErr, refl, sym, ap, ◌∙◌, subst, ◌⊎◌, inl, inr}
+use Rattle.std.proofs.Common.{◌≡◌, ◌≢◌, ◌↔◌, ℕ, ◌<◌, IsTrue, Bool, true, false, List, [], ◌∷◌, length, get_or, Option, Some}
+use Rattle.std.proofs.Common.{None, Result, Ok, Err, IfOk, IfErr, refl, sym, ap, ◌∙◌, subst, ◌⊎◌, inl, inr}
 use Rattle.dcx_frac.specs.declared.fraction.Frac.{Frac}
 use Rattle.dcx_point.specs.Pairs.{Pairs}
 use Rattle.dcx_tree.specs.declared.problem.Problem.{Problem}
@@ -60,7 +61,8 @@ list_of plain columns apart low = record { below = λ c l. subst (λ x. x < plai
 pub starts : (b : Bool) (plain bound : ℕ) (columns listed : List ℕ) → AreApart columns → bound ≡ plain → listed ≡ columns → (IsTrue b ↔ ((k : ℕ) → k < length listed → get_or listed k 0 < bound)) →
     IsTrue b ↔ IsColumnList plain columns
 starts b plain bound columns listed apart same are test =
-    let test_at = subst (λ n. IsTrue b ↔ ((k : ℕ) → k < length columns → get_or columns k 0 < n)) same (subst (λ (xs : List ℕ). IsTrue b ↔ ((k : ℕ) → k < length xs → get_or xs k 0 < bound)) are test) in
+    let test_at = subst (λ n. IsTrue b ↔ ((k : ℕ) → k < length columns → get_or columns k 0 < n)) same
+    (subst (λ (xs : List ℕ). IsTrue b ↔ ((k : ℕ) → k < length xs → get_or xs k 0 < bound)) are test) in
     (λ h. list_of plain columns apart (test_at.0 h), λ list. test_at.1 (λ k h. list.below (get_or columns k 0) (k, h, refl)))
 
 -- ---- the run
@@ -86,7 +88,8 @@ module _ (limit : ℕ) (columns : List ℕ) where
       none (subst (λ (p : tab.Program). IsColumnList (first_tableau p).plain columns) same h.solved.list) (table_of s.tableau) h.solved.pivots
       (subst (λ (p : tab.Program). WarmEnds limit columns (first_tableau p) (table_of s.tableau) h.solved.pivots) same h.solved.run)
 
-  pub solves_result : {E : Type 0} (given : GivenRows) (program : tab.Program) (r : Result (Option Solved) E) → IsMade given program → IfOk r (RunsWarm limit columns program) → IfOk r (SolvesWarm limit columns given)
+  pub solves_result : {E : Type 0} (given : GivenRows) (program : tab.Program) (r : Result (Option Solved) E) → IsMade given program → IfOk r (RunsWarm limit columns program)
+      → IfOk r (SolvesWarm limit columns given)
   solves_result given program (Ok o) made h = solves given program o made h
   solves_result given program (Err e) made h = tt
 
@@ -129,7 +132,8 @@ module _ (p : Problem) (setting : Pairs) (limit : ℕ) (columns : List ℕ) wher
   never_solved q g none r s a h = none s (solved_at q r s (same_program p setting limit q r g h.program) h.is_solved)
 
   -- or a multiplier passes
-  pub never_read : (q : Program Frac) (s : Solved) (site : Site) → SessionGives p setting (Ok q) → IsWarmSolved limit columns (rows_of q) s → PassesAt p s.answer site → NeverWarm p setting limit (Some columns)
+  pub never_read : (q : Program Frac) (s : Solved) (site : Site) → SessionGives p setting (Ok q) → IsWarmSolved limit columns (rows_of q) s → PassesAt p s.answer site
+      → NeverWarm p setting limit (Some columns)
   never_read q s site g h passes r t a x =
       let same = same_program p setting limit q r g x.program in
       let answer = (one_solution limit columns (rows_of q) s t h (solved_at q r t same x.is_solved)).answer in
@@ -148,8 +152,9 @@ module _ (p : Problem) (setting : Pairs) (limit : ℕ) (columns : List ℕ) wher
   }
   reads q s mapped fits g known h None (site, passes) = never_read q s site g h passes
 
-  pub reads_result : {E : Type 0} (q : Program Frac) (s : Solved) → HasMap p → FitsParameters p.parameters setting → SessionGives p setting (Ok q) → HasKinds (rows_of q) → IsWarmSolved limit columns (rows_of q) s →
-      (r : Result (Option (Answer × Solved)) E) → IfOk r (ReadsBack p q s) → IfOk r (ReadsWarm p setting limit columns q)
+  pub reads_result : {E : Type 0} (q : Program Frac) (s : Solved) → HasMap p → FitsParameters p.parameters setting → SessionGives p setting (Ok q) → HasKinds (rows_of q)
+      → IsWarmSolved limit columns (rows_of q) s
+      → (r : Result (Option (Answer × Solved)) E) → IfOk r (ReadsBack p q s) → IfOk r (ReadsWarm p setting limit columns q)
   reads_result q s mapped fits g known h (Ok o) back = reads q s mapped fits g known h o back
   reads_result q s mapped fits g known h (Err e) back = tt
 
@@ -182,7 +187,8 @@ module _ (p : Problem) (setting : Pairs) (limit : ℕ) (before : Option (List �
     answer : IsSameAnswer p a b
     table : table_of s.tableau ≡ table_of t.tableau
 
-  one_warm_from : (c : Option (List ℕ)) (q r : Program Frac) (s t : Solved) (a b : Answer) → IsWarm p setting limit c q s a → IsWarm p setting limit c r t b → IsSameAnswer p a b × (table_of s.tableau ≡ table_of t.tableau)
+  one_warm_from : (c : Option (List ℕ)) (q r : Program Frac) (s t : Solved) (a b : Answer) → IsWarm p setting limit c q s a → IsWarm p setting limit c r t b
+      → IsSameAnswer p a b × (table_of s.tableau ≡ table_of t.tableau)
   one_warm_from (Some columns) q r s t a b x y = let w = one_warm p setting limit columns q r s t a b x y in (w.answer, w.table)
   one_warm_from None q r s t a b x y = absurd x
 
@@ -190,7 +196,8 @@ module _ (p : Problem) (setting : Pairs) (limit : ℕ) (before : Option (List �
   one_cold q r s t a b x y =
       (answers_are_one limit (rows_of q) s t x.is_solved (solved_by p setting limit q r t (same_program p setting limit q r x.program y.program) y.is_solved)).table
 
-  one_way : (kept also : Bool) (q r : Program Frac) (s t : Solved) (a b : Answer) → IsAnsweredBy p setting limit before kept q s a → IsAnsweredBy p setting limit before also r t b → IsSameWay kept also a b s t
+  one_way : (kept also : Bool) (q r : Program Frac) (s t : Solved) (a b : Answer) → IsAnsweredBy p setting limit before kept q s a → IsAnsweredBy p setting limit before also r t b
+      → IsSameWay kept also a b s t
   one_way true true q r s t a b x y = let w = one_warm_from before q r s t a b x y in record { way = refl; answer = w.0; table = w.1 }
   one_way true false q r s t a b x y = absurd (y.0 q s a x)
   one_way false true q r s t a b x y = absurd (x.0 r t b y)
@@ -204,11 +211,13 @@ module _ (p : Problem) (setting : Pairs) (limit : ℕ) (before : Option (List �
   stopped_by false q s a e ok h stops never (inr n) = has_one_end p setting limit (Ok a) (Err e) ok (q, s, h.1) stops
 
 -- ---- the tableau of an answer can be read
-readable_from : (p : Problem) (setting : Pairs) (limit : ℕ) (before : Option (List ℕ)) (q : Program Frac) (s : Solved) (a : Answer) → IsWarm p setting limit before q s a → IsReadable (table_of s.tableau)
+readable_from : (p : Problem) (setting : Pairs) (limit : ℕ) (before : Option (List ℕ)) (q : Program Frac) (s : Solved) (a : Answer) → IsWarm p setting limit before q s a
+    → IsReadable (table_of s.tableau)
 readable_from p setting limit (Some columns) q s a h = warm_readable limit columns s h.is_solved.solved
 readable_from p setting limit None q s a h = absurd h
 
-pub readable_by : (p : Problem) (setting : Pairs) (limit : ℕ) (before : Option (List ℕ)) (kept : Bool) (q : Program Frac) (s : Solved) (a : Answer) → IsAnsweredBy p setting limit before kept q s a → IsReadable (table_of s.tableau)
+pub readable_by : (p : Problem) (setting : Pairs) (limit : ℕ) (before : Option (List ℕ)) (kept : Bool) (q : Program Frac) (s : Solved) (a : Answer) → IsAnsweredBy p setting limit before kept q s a
+    → IsReadable (table_of s.tableau)
 readable_by p setting limit before true q s a h = readable_from p setting limit before q s a h
 readable_by p setting limit before false q s a h = solved_readable limit s h.1.is_solved.solved
 
@@ -255,8 +264,9 @@ module _ (p : Problem) (setting : Pairs) (limit : ℕ) where
     fresh_never (Err e) = λ n. never
 
   -- the program is that of what is shown
-  pub at_last : (before : Option (List ℕ)) (reduced : Reduction Frac) (r : Result (Warmed × Last) Stop) → IfOk r (λ x. x.1.reduced ≡ reduced) → IfOk r (λ x. IsAnsweredBy p setting limit before x.0.kept reduced.program x.1.solved x.0.answer) →
-      IfOk r (λ x. IsAnsweredBy p setting limit before x.0.kept x.1.reduced.program x.1.solved x.0.answer)
+  pub at_last : (before : Option (List ℕ)) (reduced : Reduction Frac) (r : Result (Warmed × Last) Stop) → IfOk r (λ x. x.1.reduced ≡ reduced)
+      → IfOk r (λ x. IsAnsweredBy p setting limit before x.0.kept reduced.program x.1.solved x.0.answer)
+      → IfOk r (λ x. IsAnsweredBy p setting limit before x.0.kept x.1.reduced.program x.1.solved x.0.answer)
   at_last before reduced (Ok x) same h = subst (λ (z : Reduction Frac). IsAnsweredBy p setting limit before x.0.kept z.program x.1.solved x.0.answer) (sym same) h
   at_last before reduced (Err e) same h = tt
 

@@ -36,8 +36,9 @@ pub record IsAnswerOf (p : Problem) (setting : Pairs) (limit : ℕ) (q : Program
 pub data StopsAt (p : Problem) (setting : Pairs) (limit : ℕ) (stop : Stop) : Type 0 where
   at_program : (e : ReduceStop) → SessionGives p setting (Err e) → stop ≡ program_stop e → StopsAt p setting limit stop
   at_run : (q : Program Frac) → SessionGives p setting (Ok q) → (e : SolveStop) → e ≢ solves.Memory → RowsStop limit (rows_of q) e → stop ≡ run_stop e → StopsAt p setting limit stop
-  at_reading : (q : Program Frac) → SessionGives p setting (Ok q) → (s : Solved) → IsSolved limit (rows_of q) s → (e : AnswerStop) → e ≢ reads.Memory → StopsReading p s.answer e → stop ≡ reading_stop e →
-      StopsAt p setting limit stop
+  at_reading : (q : Program Frac) → SessionGives p setting (Ok q) → (s : Solved) → IsSolved limit (rows_of q) s → (e : AnswerStop) → e ≢ reads.Memory → StopsReading p s.answer e
+      → stop ≡ reading_stop e
+      → StopsAt p setting limit stop
 
 -- the setting fits the parameters, and a part of the way stops
 pub record IsStopped (p : Problem) (setting : Pairs) (limit : ℕ) (stop : Stop) : Type 0 where

@@ -1,4 +1,4 @@
--- The main statements, as the clauses of the laws say them.
+-- The laws of divisors and settings: where all nodes are formed none is divided by 0, and the setting is a fitting one.
 use Rattle.dcx_frac.specs.declared.fraction.Frac.{Frac}
 use Rattle.dcx_point.specs.Pairs.{Pairs}
 use Rattle.dcx_convex.specs.Nodes.{Setting}

@@ -1,4 +1,4 @@
--- What holds of all answers of sessions.
+-- The laws of sessions' answers, fresh and warm: right, one at a setting, and of one status and value.
 use Rattle.std.specs.Prelude.{◌≡◌, ◌≢◌, ⊤, ℕ, ◌+◌, ◌^◌, ◌<◌, List, [], ◌∷◌, length, Option, Result, Ok, Err}
 use Rattle.dcx_frac.specs.Frac.{value}
 use Rattle.dcx_point.specs.Pairs.{Pairs}

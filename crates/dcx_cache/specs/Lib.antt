@@ -1,4 +1,4 @@
--- What contracts cite.
+-- What contracts cite: sessions, the programs and the columns that they keep, and what they answer at a setting.
 pub mod Stops
 pub mod Programs
 pub mod Answers

@@ -1,5 +1,6 @@
 -- The value of each call: what is formed is exact, and is what the call's meaning says.
-use Rattle.std.proofs.Common.{◌≡◌, ℕ, zero, suc, ◌<◌, arith, Bool, true, false, if◌then◌else◌, List, [], ◌∷◌, map, length, get_or, All, Option, Some, None, IsSome, IfSome, option_map, refl, sym, ap, ap₂, ◌∙◌, subst, Result, Ok, Err, IsOk, IfOk, pos}
+use Rattle.std.proofs.Common.{◌≡◌, ℕ, zero, suc, ◌<◌, arith, Bool, true, false, if◌then◌else◌, List, [], ◌∷◌, map, length, get_or, All, Option}
+use Rattle.std.proofs.Common.{Some, None, IsSome, IfSome, option_map, refl, sym, ap, ap₂, ◌∙◌, subst, Result, Ok, Err, IsOk, IfOk, pos}
 use Rattle.std.proofs.lemmas.List.Elements.{All-cons, All-nil}
 use Rattle.dcx_math.specs.Rational.{ℚ, whole, ◌+ℚ◌, ◌*ℚ◌, ◌/ℚ◌, rat_eq}
 use Rattle.dcx_math.specs.Sums.{rat_sum_by}
@@ -23,7 +24,6 @@ use Rattle.dcx_atom.specs.Arrays.{Entries, number_at, numbers_of, array_sides, s
 use Rattle.dcx_atom.specs.Formed.{zero_frac, frac_at}
 use Rattle.dcx_atom.specs.Linear.{LinearTerm, linear_term, terms_at, AreTermsOf}
 use Rattle.dcx_atom.specs.Value as atom_value
-use Rattle.dcx_atom.proofs.FormedSums.{value-zero_frac}
 use Rattle.dcx_affine.specs.declared.pairing.Pairing.{Pairing}
 use Rattle.dcx_affine.specs.declared.pairing.Pairing.TheVariants.{Times, MatTimes, Over}
 use Rattle.dcx_affine.specs.declared.pairing.Pair.{Pair}
@@ -40,7 +40,8 @@ use Rattle.dcx_call.specs.Calls.{sides_of_two, shape_of}
 use Rattle.dcx_call.specs.Forming.{products_in_order, or_passes, divided, AreFormed, IsStop}
 use Rattle.dcx_call.specs.Values.{term_sum, pair_sum, pairing_value, pairing_formed, value_at, formed_at, IsValue, IsValueStop}
 use Rattle.dcx_call.proofs.Entries.{formed_entry, formed_before, formed_alike, stop_alike, some_fact}
-use Rattle.dcx_call.proofs.Products.{AreRepresentable, value-frac_at, products_exact}
+use Rattle.dcx_call.proofs.Products.{AreRepresentable, products_exact}
+use Rattle.dcx_atom.proofs.Fractions.{value-frac_at, number_fits}
 
 -- ---- lists
 get_or-list_below : {A : Type 0} (n : ℕ) (f : ℕ → A) (j : ℕ) (d : A) → j < n → get_or (list_below n f) j d ≡ f j
@@ -64,14 +65,6 @@ number_get (x ∷ xs) zero b = refl
 number_get (x ∷ xs) (suc j) b = number_get xs j (omega arith)
 
 -- ---- numbers of arrays are representable
-pub zero_fits : IsRepresentable (whole (pos 0))
-zero_fits = subst IsRepresentable value-zero_frac (value_representable zero_frac)
-
-pub number_fits : (xs : List Frac) (j : ℕ) → IsRepresentable (number_at xs j)
-number_fits [] j = zero_fits
-number_fits (x ∷ xs) zero = value_representable x
-number_fits (x ∷ xs) (suc j) = number_fits xs j
-
 entry_fits : (args : List Array) (i j : ℕ) → IsRepresentable (numbers_of args i j)
 entry_fits args i j = number_fits (get_or (map (λ x. x.entries) args) i []) j
 
@@ -130,7 +123,8 @@ made call setting point args v shape formed exact = record {
 abbrev pub listed : LinearCall → List Array → List (List Triple) → ℕ → Result Frac ValueStop
 listed l args terms j = term_sum (map linear_term (get_or terms j [])) (numbers_of args) j
 
-linear_alike : (l : LinearCall) (setting point : Pairs) (args : List Array) (size : ℕ) (terms : List (List Triple)) → map (map linear_term) terms ≡ list_below size ((linear_meaning l).terms (array_sides args)) →
+linear_alike : (l : LinearCall) (setting point : Pairs) (args : List Array) (size : ℕ) (terms : List (List Triple))
+    → map (map linear_term) terms ≡ list_below size ((linear_meaning l).terms (array_sides args)) →
     (j : ℕ) → j < size → listed l args terms j ≡ formed_at (calls.Linear l) setting point args j
 linear_alike l setting point args size terms e j b =
     ap (λ ts. term_sum ts (numbers_of args) j)
@@ -142,7 +136,8 @@ linear_exact : (l : LinearCall) (setting point : Pairs) (args : List Array) (sid
 linear_exact l setting point args sides terms shape e j b x f =
     let own : map linear_term (get_or terms j []) ≡ (linear_meaning l).terms (array_sides args) j =
     map-get_or (map linear_term) refl terms j ∙ ap (λ ts. get_or ts j []) e ∙ get_or-list_below (entries_of sides) ((linear_meaning l).terms (array_sides args)) j [] b in
-    summed_exact (λ (t : LinearTerm). (t.coefficient, numbers_of args t.argument t.entry)) (map linear_term (get_or terms j [])) j x (terms_fit (get_or terms j []) (numbers_of args) (entry_fits args)) (linear_alike l setting point args (entries_of sides) terms e j b ∙ f)
+    summed_exact (λ (t : LinearTerm). (t.coefficient, numbers_of args t.argument t.entry)) (map linear_term (get_or terms j [])) j x
+    (terms_fit (get_or terms j []) (numbers_of args) (entry_fits args)) (linear_alike l setting point args (entries_of sides) terms e j b ∙ f)
     ∙ ap (λ ts. terms_at ts (numbers_of args)) own
     ∙ sym ((linear_lawful l).linearity (array_sides args) sides shape j b (numbers_of args))
 
@@ -152,7 +147,8 @@ pub linear_is : (l : LinearCall) (args : List Array) (v : Array) (terms : List (
     AreFormed (listed l args terms) (entries_of (sides_of v.shape)) v.entries → (setting point : Pairs) → IsValue (calls.Linear l) setting point args v
 linear_is l args v terms shape e formed setting point =
     made (calls.Linear l) setting point args v shape
-    (formed_alike (listed l args terms) (formed_at (calls.Linear l) setting point args) (entries_of (sides_of v.shape)) v.entries (linear_alike l setting point args (entries_of (sides_of v.shape)) terms e) formed)
+    (formed_alike (listed l args terms) (formed_at (calls.Linear l) setting point args) (entries_of (sides_of v.shape)) v.entries
+    (linear_alike l setting point args (entries_of (sides_of v.shape)) terms e) formed)
     (linear_exact l setting point args (sides_of v.shape) terms shape e)
 
 pub linear_stops : (l : LinearCall) (args : List Array) (size : ℕ) (terms : List (List Triple)) (stop : ValueStop) →
@@ -171,8 +167,10 @@ pairing_is p (a ∷ []) l r some el er v shape formed setting point = cc
 pairing_is p (a ∷ b ∷ []) l r some el er v shape formed setting point =
     made (calls.Pairing p) setting point (a ∷ b ∷ []) v
     (ap₂ (λ (x y : Array). paired_sides p (sides_of x.shape) (sides_of y.shape)) (sym el) (sym er) ∙ shape)
-    (subst (λ (x : Array). AreFormed (λ j. pairing_formed p (pairs_at p (sides_of x.shape) (sides_of b.shape) j) (number_at x.entries) (number_at b.entries) j) (entries_of (sides_of v.shape)) v.entries) el
-    (subst (λ (y : Array). AreFormed (λ j. pairing_formed p (pairs_at p (sides_of l.shape) (sides_of y.shape) j) (number_at l.entries) (number_at y.entries) j) (entries_of (sides_of v.shape)) v.entries) er formed))
+    (subst (λ (x : Array). AreFormed (λ j. pairing_formed p (pairs_at p (sides_of x.shape) (sides_of b.shape) j) (number_at x.entries) (number_at b.entries) j)
+    (entries_of (sides_of v.shape)) v.entries) el
+    (subst (λ (y : Array). AreFormed (λ j. pairing_formed p (pairs_at p (sides_of l.shape) (sides_of y.shape) j) (number_at l.entries) (number_at y.entries) j)
+    (entries_of (sides_of v.shape)) v.entries) er formed))
     (λ j below x e. pairing_exact p (sides_of a.shape) (sides_of b.shape) (number_at a.entries) (number_at b.entries) j x (number_fits a.entries) (number_fits b.entries) e)
 pairing_is p (a ∷ b ∷ c ∷ rest) l r some el er v shape formed setting point = cc
 
@@ -194,12 +192,6 @@ two_sides p [] l r some el er = cc
 two_sides p (a ∷ []) l r some el er = cc
 two_sides p (a ∷ b ∷ []) l r some el er = ap₂ (λ (x y : Array). paired_sides p (sides_of x.shape) (sides_of y.shape)) (sym el) (sym er)
 two_sides p (a ∷ b ∷ c ∷ rest) l r some el er = cc
-
-pub two_args : (p : Pairing) (args : List Array) → IsSome (sides_of_two p (array_sides args)) → length args ≡ 2
-two_args p [] some = cc
-two_args p (a ∷ []) some = cc
-two_args p (a ∷ b ∷ []) some = omega arith
-two_args p (a ∷ b ∷ c ∷ rest) some = cc
 
 -- ---- what the code finds
 -- the shape of a linear call, from the shapes of the arguments
@@ -242,9 +234,6 @@ pairs_alike qs ps xs ys ls rs f size d e hx hy j b =
 or_ok : (j : ℕ) (r : Result Frac Passes) → IsOk r → IsOk (or_passes j r)
 or_ok j (Ok x) h = refl
 or_ok j (Err passes) h = cc
-
-pub atom_is : (a : AtomCall) (args : List Array) (v : Array) → atom_value.IsValueOf (atom_meaning a) args v → (setting point : Pairs) → IsValue (calls.Atom a) setting point args v
-atom_is a args v h setting point = record { shape = h.shape; numbers = h.numbers; forms = λ j b. or_ok j (atom_value.entry_formed (atom_meaning a) args j) (h.forms j b) }
 
 pub atom_stops : (a : AtomCall) (args : List Array) (size : ℕ) (stop : ValueStop) → atom_value.IsValueStop (atom_meaning a) args size stop → (setting point : Pairs) →
     IsValueStop (calls.Atom a) setting point args size stop

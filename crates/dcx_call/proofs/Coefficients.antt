@@ -1,16 +1,12 @@
 -- The coefficients of each linear call are fractions of 128 bits: 1, -1, or 1 / n.
-use Rattle.std.proofs.Common.{◌≡◌, ℕ, zero, suc, ◌<◌, ◌≤◌, arith, pos, negsuc, List, [], ◌∷◌, All, Some, refl, sym, subst, lit<}
+use Rattle.std.proofs.Common.{◌≡◌, ℕ, zero, suc, ◌<◌, ◌≤◌, arith, pos, List, [], ◌∷◌, All, Some, sym, subst}
 use Rattle.std.specs.Prelude.{option_and_then}
-use native.Mathlib.Nat.{eq-one_of_dvd-one}
 use Rattle.std.proofs.Math.Nat.{mul-le-mul_left}
 use Rattle.std.proofs.lemmas.List.Elements.{All-nil, All-cons, All-head}
 use Rattle.std.proofs.lemmas.Option.{same_Some}
 use Rattle.dcx_math.specs.Rational.{whole, inverse}
-use Rattle.dcx_math.proofs.Orders.{inverse-zero, whole-neg_ℤ}
-use Rattle.dcx_frac.specs.declared.fraction.Frac.{Frac}
+use Rattle.dcx_math.proofs.Orders.{inverse-zero}
 use Rattle.dcx_frac.specs.Fits.{IsRepresentable}
-use Rattle.dcx_frac.specs.Frac.{value}
-use Rattle.dcx_frac.proofs.Parts.{value_representable}
 use Rattle.dcx_shape.specs.declared.shape.Sides.{Sides}
 use Rattle.dcx_shape.specs.declared.shape.Sides.TheVariants.{Scalar, Vector, Matrix}
 use Rattle.dcx_shape.specs.Sides.{entries_of}
@@ -23,35 +19,22 @@ use Rattle.dcx_atom.specs.Linear.{LinearTerm}
 use Rattle.dcx_atom.proofs.LinearSums.{All-list_below}
 use Rattle.dcx_affine.specs.Folds.{sum_call, mean_call, running_call, trace_call}
 use Rattle.dcx_affine.specs.Places.{index_call, reshape_call, transpose_call, diag_call, promote_call}
-use Rattle.dcx_affine.specs.Strided.{only, StridedCall, strided_meaning}
+use Rattle.dcx_atom.specs.Bounding.{only}
+use Rattle.dcx_affine.specs.Strided.{StridedCall, strided_meaning}
 use Rattle.dcx_affine.proofs.Reciprocals.{reciprocal_fits, reciprocal_is}
 use Rattle.dcx_call.specs.declared.linears.LinearCall.{LinearCall}
 use Rattle.dcx_call.specs.declared.linears.LinearCall.TheVariants as calls
 use Rattle.dcx_call.specs.Linears.{linear_meaning}
-use Rattle.dcx_call.specs.Exact.{HaveFewEntries}
-use Rattle.dcx_call.proofs.CallValues.{zero_fits}
-use Rattle.dcx_call.proofs.Fractions.{negative_fits}
+use Rattle.dcx_atom.specs.Fractions.{HaveFewEntries}
+use Rattle.dcx_atom.proofs.Fractions.{zero_fits, one_fits, minus_one_fits}
 
 abbrev pub FitsIn : LinearTerm → Type 0
 FitsIn t = IsRepresentable t.coefficient
 
--- ---- the numbers 1, -1 and 1 / n
+-- ---- the numbers 1 / n
 inverse_fits : (n : ℕ) → n ≤ 20000 → IsRepresentable (inverse (whole (pos n)))
 inverse_fits zero few = subst IsRepresentable (sym inverse-zero) zero_fits
 inverse_fits (suc n) few = subst IsRepresentable (reciprocal_is (suc n)) (reciprocal_fits (suc n) (omega arith) (omega arith))
-
-one_frac : Frac
-one_frac = record { num = pos 1; den = pos 1; positive = record { lt = tt }; lowest = λ d z h. eq-one_of_dvd-one h; num_fits = lit< tt; den_fits = lit< tt }
-
-value-one_frac : value one_frac ≡ whole (pos 1)
-unfolding whole one_frac
-value-one_frac = refl
-
-pub one_fits : IsRepresentable (whole (pos 1))
-one_fits = subst IsRepresentable value-one_frac (value_representable one_frac)
-
-pub minus_one_fits : IsRepresentable (whole (negsuc 0))
-minus_one_fits = subst IsRepresentable (sym (whole-neg_ℤ (pos 1))) (negative_fits (whole (pos 1)) one_fits)
 
 -- ---- lists of terms
 one : (t : LinearTerm) → FitsIn t → All FitsIn (t ∷ [])

@@ -14,11 +14,12 @@ use Rattle.dcx_call.specs.declared.call.Call.TheVariants as calls
 use Rattle.dcx_call.specs.Atoms.{atom_meaning, atom_lawful}
 use Rattle.dcx_call.specs.Linears.{linear_meaning, linear_lawful}
 use Rattle.dcx_call.specs.Values.{given_by}
-use Rattle.dcx_call.proofs.Products.{AreRepresentable, value-frac_at}
-use Rattle.dcx_call.proofs.CallValues.{number_fits, formed_ok, exactly, summed_exact, pairing_exact}
-use Rattle.dcx_call.specs.Exact.{AreFractions, FormsExactly}
+use Rattle.dcx_call.proofs.Products.{AreRepresentable}
+use Rattle.dcx_atom.proofs.Fractions.{value-frac_at, number_fits}
+use Rattle.dcx_call.proofs.CallValues.{formed_ok, exactly, summed_exact, pairing_exact}
+use Rattle.dcx_call.specs.Exact.{FormsExactly}
+use Rattle.dcx_atom.specs.Fractions.{AreFractions}
 use Rattle.dcx_call.proofs.Fractions.{sum_exact}
-use Rattle.dcx_call.proofs.Summands.{summands_fit}
 use Rattle.dcx_call.proofs.Coefficients.{FitsIn, coefficients_fit}
 
 -- a number that is taken as it is
@@ -37,7 +38,7 @@ forms_exactly (calls.Parameter q) setting point args sides a shape few fit j b x
 forms_exactly (calls.Constant c) setting point args sides a shape few fit j b x e = given_exact (number_at c.entries j) x _ (number_fits c.entries j) refl e
 forms_exactly (calls.Atom m) setting point args sides a shape few fit j b x e =
     let summands = (atom_meaning m).summands args a j in
-    exactly (sum_in_order summands) _ x (sum_exact summands (summands_fit m args a j fit)) (formed_ok j (sum_in_order summands) x e)
+    exactly (sum_in_order summands) _ x (sum_exact summands ((atom_lawful m).fraction_summands args a j fit)) (formed_ok j (sum_in_order summands) x e)
     ∙ sym ((atom_lawful m).formation args sides shape j b a)
 forms_exactly (calls.Linear l) setting point args sides a shape few fit j b x e =
     summed_exact (λ (t : LinearTerm). (t.coefficient, a t.argument t.entry)) ((linear_meaning l).terms args j) j x

@@ -1,4 +1,4 @@
--- The lemmas.
+-- The lemmas by which calls keep their laws, and what is formed of them is exact.
 pub mod Entries
 pub mod Products
 pub mod SignedProducts
@@ -6,6 +6,5 @@ pub mod CallLaws
 pub mod CallValues
 pub mod Given
 pub mod Fractions
-pub mod Summands
 pub mod Coefficients
 pub mod Exact

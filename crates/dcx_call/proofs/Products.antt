@@ -9,21 +9,11 @@ use Rattle.dcx_frac.specs.declared.fraction.Frac.{Frac}
 use Rattle.dcx_frac.specs.declared.fraction.Passes.{Passes}
 use Rattle.dcx_frac.specs.Fits.{IsRepresentable}
 use Rattle.dcx_frac.specs.Frac.{value}
-use Rattle.dcx_frac.specs.Results.{dec_fits}
-use Rattle.dcx_frac.proofs.Results.{value-frac_of}
 use Rattle.dcx_atom.specs.Formed.{zero_frac, frac_at}
 use Rattle.dcx_atom.proofs.FormedSums.{value-zero_frac, frac_at-value}
 use Rattle.dcx_atom.proofs.Entrywise.{products_from-next, products_from-within, products_from-exact}
+use Rattle.dcx_atom.proofs.Fractions.{value-frac_at}
 use Rattle.dcx_call.specs.Forming.{added_product, products_from, factors_at, products_in_order}
-
--- a number that is representable is that of its fraction
-pub value-frac_at : (x : ℚ) → IsRepresentable x → value (frac_at x) ≡ x
-unfolding frac_at
-value-frac_at x h = by (dec_fits x) refl
-  where
-    by : (d : Dec (IsRepresentable x)) → dec_fits x ≡ d → value (frac_at x) ≡ x
-    by (yes fits) e = rw e (value-frac_of x fits)
-    by (no wide) e = absurd (wide h)
 
 -- both factors are representable
 abbrev pub AreRepresentable : ℚ × ℚ → Type 0

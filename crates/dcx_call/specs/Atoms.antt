@@ -2,7 +2,22 @@
 use Rattle.dcx_atom.specs.Meaning.{Meaning}
 use Rattle.dcx_atom.specs.Lawful.{IsLawful}
 use Rattle.dcx_elem.specs.Calls.{abs_meaning, abs_lawful, pos_meaning, pos_lawful, neg_meaning, neg_lawful, maximum_meaning, maximum_lawful, minimum_meaning, minimum_lawful}
-use Rattle.dcx_fold.specs.Calls.{max_of_meaning, max_of_lawful, min_of_meaning, min_of_lawful, norm1_meaning, norm1_lawful, norm_inf_meaning, norm_inf_lawful, sum_largest_meaning, sum_largest_lawful, sum_smallest_meaning, sum_smallest_lawful, cum_max_meaning, cum_max_lawful}
+use Rattle.dcx_fold.specs.Calls.{
+  max_of_meaning,
+  max_of_lawful,
+  min_of_meaning,
+  min_of_lawful,
+  norm1_meaning,
+  norm1_lawful,
+  norm_inf_meaning,
+  norm_inf_lawful,
+  sum_largest_meaning,
+  sum_largest_lawful,
+  sum_smallest_meaning,
+  sum_smallest_lawful,
+  cum_max_meaning,
+  cum_max_lawful,
+}
 use Rattle.dcx_call.specs.declared.atoms.AtomCall.{AtomCall}
 use Rattle.dcx_call.specs.declared.atoms.AtomCall.TheVariants.{Abs, Maximum, Minimum, Pos, Neg, MaxOf, MinOf, Norm1, NormInf, SumLargest, SumSmallest, CumMax}
 

@@ -1,24 +1,15 @@
 -- A formed entry of a call is that of its value.
-use Rattle.std.specs.Prelude.{◌≡◌, ℕ, ◌<◌, ◌≤◌, List, Some, Ok}
-use Rattle.std.specs.List.{All}
+use Rattle.std.specs.Prelude.{◌≡◌, ℕ, ◌<◌, List, Some, Ok}
 use Rattle.dcx_frac.specs.declared.fraction.Frac.{Frac}
-use Rattle.dcx_frac.specs.Fits.{IsRepresentable}
 use Rattle.dcx_frac.specs.Frac.{value}
 use Rattle.dcx_shape.specs.declared.shape.Sides.{Sides}
 use Rattle.dcx_shape.specs.Sides.{entries_of}
 use Rattle.dcx_atom.specs.Arrays.{Entries}
+use Rattle.dcx_atom.specs.Fractions.{AreFractions, HaveFewEntries}
 use Rattle.dcx_point.specs.Pairs.{Pairs}
 use Rattle.dcx_call.specs.declared.call.Call.{Call}
 use Rattle.dcx_call.specs.Calls.{shape_of}
 use Rattle.dcx_call.specs.Values.{given_by, call_value, entry_formed}
-
--- each number is a fraction of 128 bits
-abbrev pub AreFractions : Entries → Type 0
-AreFractions a = (i k : ℕ) → IsRepresentable (a i k)
-
--- no argument has more than 20,000 entries
-abbrev pub HaveFewEntries : List Sides → Type 0
-HaveFewEntries args = All (λ s. entries_of s ≤ 20000) args
 
 -- entry j as it is formed is that of the value
 abbrev pub IsExact : Call → (setting point : Pairs) → List Sides → Entries → ℕ → Type 0

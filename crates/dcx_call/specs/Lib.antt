@@ -1,4 +1,4 @@
--- What the contracts of this crate cite.
+-- What contracts cite: attributes, the calls and their buckets, their values as they are formed, and the laws.
 pub mod Attributes
 pub mod Atoms
 pub mod Linears

@@ -56,6 +56,16 @@ impl Atom for AtomCall {
 
     ghost recession = { λ x. (atom_lawful x).recession };
 
+    ghost own_unknowns = { λ x. (atom_lawful x).own_unknowns };
+
+    ghost duality = { λ x. (atom_lawful x).duality };
+
+    ghost fraction_summands = { λ x. (atom_lawful x).fraction_summands };
+
+    ghost fraction_coefficients = { λ x. (atom_lawful x).fraction_coefficients };
+
+    ghost fraction_slopes = { λ x. (atom_lawful x).fraction_slopes };
+
     fn shape(&self, args: &[Shape]) -> Option<Shape> {
         match self {
             AtomCall::Abs(call) => call.shape(args),

@@ -217,7 +217,8 @@ fn shapes_of(alloc: Global, args: &[Array]) -> Result<Vec<Shape>, AllocError>
 fn linear_value(alloc: Global, op: &LinearCall, args: &[Array]) -> Result<Array, ValueStop>
     requires { IsSome ((linear_meaning op.now).shape (array_sides args.now)) }
     ensures ok { IfOk result (λ v. (setting point : Pairs) → IsValue (Call.Linear op.now) setting point args.now v) }
-    ensures stop { IfErr result (λ e. IfSome ((linear_meaning op.now).shape (array_sides args.now)) (λ s. (setting point : Pairs) → IsValueStop (Call.Linear op.now) setting point args.now (entries_of s) e)) }
+    ensures stop { IfErr result (λ e. IfSome ((linear_meaning op.now).shape (array_sides args.now))
+        (λ s. (setting point : Pairs) → IsValueStop (Call.Linear op.now) setting point args.now (entries_of s) e)) }
 {
     let shapes = match shapes_of(alloc, args) {
         Ok(shapes) => shapes,
@@ -283,8 +284,10 @@ fn paired(
 ) -> Result<Fracs, ValueStop>
     requires shape { IsSome (paired_sides pairing (sides_of left.now.shape) (sides_of right.now.shape)) }
     requires size { IfSome (paired_sides pairing (sides_of left.now.shape) (sides_of right.now.shape)) (λ s. size ≡ entries_of s) }
-    ensures ok { IfOk result (AreFormed (λ j. pairing_formed pairing (pairs_at pairing (sides_of left.now.shape) (sides_of right.now.shape) j) (number_at left.now.entries) (number_at right.now.entries) j) size) }
-    ensures stop { IfErr result (IsStop (λ j. pairing_formed pairing (pairs_at pairing (sides_of left.now.shape) (sides_of right.now.shape) j) (number_at left.now.entries) (number_at right.now.entries) j) size) }
+    ensures ok { IfOk result (AreFormed (λ j. pairing_formed pairing (pairs_at pairing (sides_of left.now.shape) (sides_of right.now.shape) j) (number_at left.now.entries)
+        (number_at right.now.entries) j) size) }
+    ensures stop { IfErr result (IsStop (λ j. pairing_formed pairing (pairs_at pairing (sides_of left.now.shape) (sides_of right.now.shape) j) (number_at left.now.entries)
+        (number_at right.now.entries) j) size) }
 {
     match pairing {
         Pairing::Times => multiply_all(alloc, Pairing::Times, left, right, size),
@@ -297,7 +300,8 @@ fn paired(
 fn pairing_value(alloc: Global, pairing: Pairing, args: &[Array]) -> Result<Array, ValueStop>
     requires { IsSome (sides_of_two pairing (array_sides args.now)) }
     ensures ok { IfOk result (λ v. (setting point : Pairs) → IsValue (Call.Pairing pairing) setting point args.now v) }
-    ensures stop { IfErr result (λ e. IfSome (sides_of_two pairing (array_sides args.now)) (λ s. (setting point : Pairs) → IsValueStop (Call.Pairing pairing) setting point args.now (entries_of s) e)) }
+    ensures stop { IfErr result (λ e. IfSome (sides_of_two pairing (array_sides args.now))
+        (λ s. (setting point : Pairs) → IsValueStop (Call.Pairing pairing) setting point args.now (entries_of s) e)) }
 {
     let left = &args[0];
     let right = &args[1];

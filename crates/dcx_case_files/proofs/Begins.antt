@@ -11,7 +11,8 @@ begins front report r e =
     (λ t. (drop (length front) report, is.0 t), λ b. is.1 b.0 b.1)
 
 -- where the first of some isn't met, one of them is met exactly where one of the others is
-pub none_first : {E : Type 0} (P : ℕ → Type 0) (xs : List ℕ) (first : Bool) (r : Result Bool E) → 1 ≤ length xs → IsTrue first ↔ P (get_or xs 0 0) → first ≡ false → (ys : List ℕ) → ys ≡ drop 1 xs → IfOk r (λ any. IsTrue any ↔ Any P ys) → IfOk r (λ any. IsTrue any ↔ Any P xs)
+pub none_first : {E : Type 0} (P : ℕ → Type 0) (xs : List ℕ) (first : Bool) (r : Result Bool E) → 1 ≤ length xs → IsTrue first ↔ P (get_or xs 0 0) → first ≡ false → (ys : List ℕ) → ys ≡ drop 1 xs
+    → IfOk r (λ any. IsTrue any ↔ Any P ys) → IfOk r (λ any. IsTrue any ↔ Any P xs)
 none_first P [] first r l is unmet ys rests rest = absurd (omega (arith, l))
 none_first P (x ∷ xs) first (Err e) l is unmet ys rests rest = tt
 none_first P (x ∷ xs) first (Ok any) l is unmet ys rests rest = (λ t. let a = others.0 t in (suc a.0, a.1, omega (arith, a.2), a.3, a.4), λ a. by a.0 a.1 a.2 a.3 a.4)

@@ -1,2 +1,2 @@
--- The lemmas.
+-- The lemmas on tests of the first bytes of a text.
 pub mod Begins

@@ -1,2 +1,2 @@
--- What the contracts of this crate cite.
+-- What contracts cite: when what came is what a case wants.
 pub mod Judging

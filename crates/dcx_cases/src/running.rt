@@ -3,7 +3,7 @@ ghost use Rattle.std.specs.Prelude.{◌≡◌, ◌<◌};
 
 use dcx_case_files::{Came, Given};
 use dcx_host::{Library, MemoryLibrary, MemorySink, Sink};
-use dcx_listing::{Asked, problem_lines, program_lines, short_report};
+use dcx_listing::{Asked, branch_line, problem_lines, program_lines, short_report};
 use dcx_steps::Steps;
 use dcx_top::{Ended, run};
 use std::alloc::{AllocError, Global};
@@ -104,9 +104,26 @@ fn asked(alloc: Global, words: &[String], given: &Given) -> Result<Option<Came>,
     }
 }
 
+/// How branch and bound with a limit of nodes ends over the problem of a file, where the words ask for that.
+fn branched(alloc: Global, words: &[String], given: &Given) -> Result<Option<Came>, AllocError> {
+    let [verb, limit, name] = words else {
+        return Ok(None);
+    };
+    if verb.as_str() != "branch" {
+        return Ok(None);
+    }
+    let (Ok(limit), Some(bytes)) = (limit.as_str().parse::<u32>(), given.files.get(name)) else {
+        return Ok(None);
+    };
+    came_of(alloc, branch_line(alloc, limit, bytes.as_slice()))
+}
+
 /// What no command of the program shows, where the words ask for that.
 fn listed(alloc: Global, words: &[String], given: &Given) -> Result<Option<Came>, AllocError> {
-    match short(alloc, words)? {
+    if let Some(came) = short(alloc, words)? {
+        return Ok(Some(came));
+    }
+    match branched(alloc, words, given)? {
         Some(came) => Ok(Some(came)),
         None => asked(alloc, words, given),
     }
@@ -126,8 +143,8 @@ fn program(alloc: Global, words: &[String], given: &mut Given) -> Came {
     }
 }
 
-/// What the program gives, or, for the verbs `gather`, `rows` and `map`, the lines of the problem or of its reduced program, and for
-/// `short` the report of a run that has no memory. The files are taken, and the words stay.
+/// What the program gives, or, for the verbs `gather`, `rows` and `map`, the lines of the problem or of its reduced program, for
+/// `branch` how the run of nodes ends, and for `short` the report of a run that has no memory. The files are taken, and the words stay.
 pub(crate) fn outcome(alloc: Global, given: &mut Given) -> Result<Came, AllocError> {
     let words = words_of(alloc, given.words.as_str())?;
     match listed(alloc, &words, given)? {

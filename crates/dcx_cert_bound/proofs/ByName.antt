@@ -21,8 +21,10 @@ same_either key name = sym (left (same_name key name)) ∙ put_name key name fal
     left false = refl
 
 -- the place that the name has after one more is put
-pub put_reaching : (nodes : List Node) (reached rest : List Reached) (place : ℕ) (r : Reached) (key name : List ℕ) (old new : Option ℕ) (call : Call) → slice_get reached place ≡ Some r → call_at nodes r.node.0 ≡ Some call →
-    is_variable name call ≡ same_name name key → new ≡ cond (same_name key name) (Some place) old → coefficients_in reached old ≡ reaching nodes rest name → coefficients_in reached new ≡ reaching nodes (r ∷ rest) name
+pub put_reaching : (nodes : List Node) (reached rest : List Reached) (place : ℕ) (r : Reached) (key name : List ℕ) (old new : Option ℕ) (call : Call) → slice_get reached place ≡ Some r
+    → call_at nodes r.node.0 ≡ Some call
+    → is_variable name call ≡ same_name name key → new ≡ cond (same_name key name) (Some place) old → coefficients_in reached old ≡ reaching nodes rest name
+    → coefficients_in reached new ≡ reaching nodes (r ∷ rest) name
 put_reaching nodes reached rest place r key name old new call at is named put so_far =
     ap (coefficients_in reached) put ∙ by (same_name key name) ∙ sym (ap (λ b. if b then r.coefficients else reaching nodes rest name) (ap (is_named name) is ∙ named ∙ sym (same_either key name)))
   where
@@ -31,7 +33,8 @@ put_reaching nodes reached rest place r key name old new call at is named put so
     by false = so_far
 
 -- a node that is no variable has no name
-pub keep_reaching : (nodes : List Node) (rest : List Reached) (r : Reached) (name : List ℕ) (call : Call) (coefficients : List Frac) → call_at nodes r.node.0 ≡ Some call → is_variable name call ≡ false →
-    coefficients ≡ reaching nodes rest name → coefficients ≡ reaching nodes (r ∷ rest) name
+pub keep_reaching : (nodes : List Node) (rest : List Reached) (r : Reached) (name : List ℕ) (call : Call) (coefficients : List Frac) → call_at nodes r.node.0 ≡ Some call
+    → is_variable name call ≡ false
+    → coefficients ≡ reaching nodes rest name → coefficients ≡ reaching nodes (r ∷ rest) name
 keep_reaching nodes rest r name call coefficients is other so_far =
     so_far ∙ sym (ap (λ b. if b then r.coefficients else reaching nodes rest name) (ap (is_named name) is ∙ other))

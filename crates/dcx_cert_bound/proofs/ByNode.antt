@@ -1,6 +1,7 @@
 -- Weights of the nodes and the counts of a problem's outline stand at nodes of the problem, and each atom that has a variable below it has
 -- its own.
-use Rattle.std.proofs.Common.{◌≡◌, ◌≢◌, ◌⊎◌, inl, inr, IsSome, ℕ, zero, suc, ◌+◌, ◌<◌, arith, Bool, true, false, nat_eq, eq-eqb, List, [], ◌∷◌, ◌++◌, length, map, Option, Some, None, option_map, refl, sym, ap, ◌∙◌, subst}
+use Rattle.std.proofs.Common.{◌≡◌, ◌≢◌, ◌⊎◌, inl, inr, IsSome, ℕ, zero, suc, ◌+◌, ◌<◌, arith, Bool, true, false, nat_eq, eq-eqb, List}
+use Rattle.std.proofs.Common.{[], ◌∷◌, ◌++◌, length, map, Option, Some, None, option_map, refl, sym, ap, ◌∙◌, subst}
 use Rattle.std.specs.Prelude.{if◌then◌else◌}
 use Rattle.std.specs.Option.{unwrap_or}
 use Rattle.std.specs.List.{slice_get, All, flat_map, range_with_len}
@@ -38,7 +39,8 @@ unfolding count_at
 length-weights_at [] i = refl
 length-weights_at (w ∷ weights) i = by (nat_eq w.node.0 i) (length-weights_at weights i)
   where
-    by : (b : Bool) → length (weights_at weights i) ≡ count_at (atoms_of weights) i → length (if b then w.numbers else weights_at weights i) ≡ (if b then length w.numbers else count_at (atoms_of weights) i)
+    by : (b : Bool) → length (weights_at weights i) ≡ count_at (atoms_of weights) i
+        → length (if b then w.numbers else weights_at weights i) ≡ (if b then length w.numbers else count_at (atoms_of weights) i)
     by true e = refl
     by false e = e
 
@@ -111,12 +113,14 @@ module _ (p : Problem) where
   unfolding count_at
   own_count i m free call = ap (λ b. count_at (if b then [] else atoms_if p.tree i (slice_get p.tree i)) i) free ∙ by (slice_get p.tree i) refl call
     where
-      by : (o : Option Node) → slice_get p.tree i ≡ o → option_map (λ (n : Node). n.call) o ≡ Some (calls.Atom m) → count_at (atoms_if p.tree i o) i ≡ rows_before (atom_meaning m) (map (sides_at p.tree) (args_at p.tree i)) (entries_of (sides_at p.tree i))
+      by : (o : Option Node) → slice_get p.tree i ≡ o → option_map (λ (n : Node). n.call) o ≡ Some (calls.Atom m)
+          → count_at (atoms_if p.tree i o) i ≡ rows_before (atom_meaning m) (map (sides_at p.tree) (args_at p.tree i)) (entries_of (sides_at p.tree i))
       by None at e = absurd (none-some (calls.Atom m) e)
       by (Some n) at e =
           let rows = rows_before (atom_meaning m) (arg_sides p.tree n) (entries_of n.sides) in
           ap (λ c. count_at (call_atoms p.tree i n c) i) (same_Some n.call (calls.Atom m) e) ∙ ap (λ b. if b then rows else 0) (eq-eqb i i refl)
-          ∙ ap (λ (o : Option Node). rows_before (atom_meaning m) (map (sides_at p.tree) (unwrap_or (option_map (λ (x : Node). x.args) o) [])) (entries_of (unwrap_or (option_map (λ (x : Node). x.sides) o) Scalar))) (sym at)
+          ∙ ap (λ (o : Option Node). rows_before (atom_meaning m) (map (sides_at p.tree) (unwrap_or (option_map (λ (x : Node). x.args) o) []))
+          (entries_of (unwrap_or (option_map (λ (x : Node). x.sides) o) Scalar))) (sym at)
 
   -- so where the weights have the nodes and the counts of the outline, they stand at nodes
   pub weights_there : (weights : List NodeWeights) → atoms_of weights ≡ (problem_outline p).atoms → All (λ w. w.node.0 < length p.tree) weights

@@ -36,7 +36,8 @@ passed_check false check e p = absurd (true≢false (sym e))
 
 module _ (sides : Sides) (cs : List Frac) (k : ℕ) where
   -- an entry that is asked, and the number that reaches it
-  asked_number : (a : Attribute) (e : ℕ) (r : Result Frac Passes) → AllPass a sides cs k → e < entries_of sides → is_own a sides e ≡ true → reaching_entry a sides cs e ≡ r → (number_check a k e r).passes
+  asked_number : (a : Attribute) (e : ℕ) (r : Result Frac Passes) → AllPass a sides cs k → e < entries_of sides → is_own a sides e ≡ true → reaching_entry a sides cs e ≡ r
+      → (number_check a k e r).passes
   asked_number a e r all b own is =
       subst (λ r. (number_check a k e r).passes) is (passed_check (is_own a sides e) (number_check a k e (reaching_entry a sides cs e)) own (all e b))
 
@@ -83,7 +84,8 @@ module _ (sides : Sides) (cs : List Frac) (k : ℕ) where
   twice_zero : (x : ℚ) → x ≡ whole (pos 0) → x +ℚ x ≡ whole (pos 0)
   twice_zero x e = ap₂ (λ a b. a +ℚ b) e e ∙ +ℚ_idl (whole (pos 0))
 
-  mirrored_zero : rows_of sides ≡ cols_of sides → AllPass Symmetric sides cs k → (i j : ℕ) → HasEntry sides i j → number_at cs (row_place sides i j) +ℚ number_at cs (row_place sides j i) ≡ whole (pos 0)
+  mirrored_zero : rows_of sides ≡ cols_of sides → AllPass Symmetric sides cs k → (i j : ℕ) → HasEntry sides i j
+      → number_at cs (row_place sides i j) +ℚ number_at cs (row_place sides j i) ≡ whole (pos 0)
   mirrored_zero square all i j h = by (cases_order i j)
     where
       by : (i ≡ j) ⊎ ((i < j) ⊎ (j < i)) → number_at cs (row_place sides i j) +ℚ number_at cs (row_place sides j i) ≡ whole (pos 0)

@@ -1,5 +1,5 @@
 -- The pass keeps variables in falling order of their nodes, and leaves no coefficients.
-use Rattle.std.proofs.Common.{◌≡◌, ◌⊎◌, inl, inr, ℕ, zero, suc, ◌+◌, ◌<◌, ◌≤◌, arith, List, [], ◌∷◌, ◌++◌, length, take, drop, Bool, Option, Some, None, Result, Ok, Err, refl, sym, ap, ◌∙◌, subst}
+use Rattle.std.proofs.Common.{◌≡◌, ◌⊎◌, inl, inr, ℕ, zero, suc, ◌+◌, ◌<◌, ◌≤◌, arith, List, [], ◌∷◌, ◌++◌, length, take, drop, Bool, Option, Some, None, Result, Ok, Err, refl, sym, ◌∙◌, subst}
 use Rattle.std.specs.List.{All}
 use Rattle.std.proofs.lemmas.List.{append-nil, length-take-le, nil_from_length}
 use Rattle.std.proofs.lemmas.List.Elements.{All-nil, All-head, All-tail, All-push, All-weaker}
@@ -17,11 +17,12 @@ use Rattle.dcx_cert_collect.specs.declared.collected.Reached.{Reached}
 use Rattle.dcx_cert_collect.specs.declared.stop.CollectStop.{CollectStop}
 use Rattle.dcx_cert_collect.specs.Starts.{start_of}
 use Rattle.dcx_cert_collect.specs.Multipliers.{start_table}
-use Rattle.dcx_cert_collect.specs.Pass.{Kept, begin, or_passes, handed, with_below, with_total, counted, reached_if, node_reached, node_shares, passed, step, then_on, pass_down}
+use Rattle.dcx_cert_collect.specs.Pass.{Kept, begin, or_passes, handed, counted, reached_if, node_reached, node_shares, passed, step, then_on, pass_down}
 use Rattle.dcx_cert_collect.proofs.Passing.{same_Ok, passed_count, start_inside}
 use Rattle.dcx_cert_collect.proofs.Starting.{start_all}
 use Rattle.dcx_cert_collect.proofs.Multiplied.{start_count}
 use Rattle.dcx_cert_bound.specs.Collecting.{begun, collected}
+use Rattle.dcx_cert_collect.proofs.Final.{after_below, after_total}
 
 -- each node is before those in front of it
 abbrev pub AreFalling : List Reached → Type 0
@@ -51,19 +52,12 @@ grown m cs before (Some (calls.Atom a)) = inl (append-nil before)
 grown m cs before (Some (calls.Linear l)) = inl (append-nil before)
 grown m cs before (Some (calls.Pairing q)) = inl (append-nil before)
 
-after_below : (kept after : Kept) (more : List Reached) (r : Result (List Frac) CollectStop) → with_below kept more r ≡ Ok after → after.reached ≡ kept.reached ++ more
-after_below kept after more (Ok u) e = ap (λ (k : Kept). k.reached) (sym (same_Ok {E = CollectStop} (record { below = u; reached = kept.reached ++ more; total = kept.total }) after e))
-after_below kept after more (Err stop) e = cc
-
-after_total : (kept after : Kept) (r : Result Frac CollectStop) → with_total kept r ≡ Ok after → after.reached ≡ kept.reached
-after_total kept after (Ok z) e = ap (λ (k : Kept). k.reached) (sym (same_Ok {E = CollectStop} (record { below = kept.below; reached = kept.reached; total = z }) after e))
-after_total kept after (Err stop) e = cc
-
 module _ (nodes : List Node) (values : List (Option Array)) (weights : ℕ → List Frac) where
   passed_grows : (m : ℕ) (o : Option Array) (cs : List Frac) (kept after : Kept) → passed nodes values weights m o cs kept ≡ Ok after → Grows m kept.reached after.reached
   passed_grows m (Some x) cs kept after e = inl (after_total kept after (or_passes (products_from kept.total (counted cs x.entries))) e)
   passed_grows m None cs kept after e =
-      subst (Grows m kept.reached) (sym (after_below kept after (node_reached nodes m cs) (handed kept.below (node_shares nodes values m cs (weights m))) e)) (grown m cs kept.reached (call_at nodes m))
+      subst (Grows m kept.reached) (sym (after_below kept after (node_reached nodes m cs) (handed kept.below (node_shares nodes values m cs (weights m))) e))
+      (grown m cs kept.reached (call_at nodes m))
 
   -- all nodes from m on are passed
   pub record IsPassedTo (m : ℕ) (kept : Kept) : Type 0 where
@@ -81,7 +75,8 @@ module _ (nodes : List Node) (values : List (Option Array)) (weights : ℕ → L
   }
   one_to m b kept after h count (inr x) = record {
     count = count;
-    falling = subst AreFalling (sym x.added) (falling-push kept.reached x.own h.falling (All-weaker (λ r. m + 1 ≤ r.node.0) (λ r. x.own.node.0 < r.node.0) (λ r l. omega (arith, l, x.node)) kept.reached h.above));
+    falling = subst AreFalling (sym x.added) (falling-push kept.reached x.own h.falling
+        (All-weaker (λ r. m + 1 ≤ r.node.0) (λ r. x.own.node.0 < r.node.0) (λ r l. omega (arith, l, x.node)) kept.reached h.above));
     above = subst (All (λ r. m ≤ r.node.0)) (sym x.added)
         (All-push (λ r. m ≤ r.node.0) kept.reached x.own (All-weaker (λ r. m + 1 ≤ r.node.0) (λ r. m ≤ r.node.0) (λ r l. omega (arith, l)) kept.reached h.above) (omega (arith, x.node)));
     within = subst (All (λ r. r.node.0 < length nodes)) (sym x.added) (All-push (λ r. r.node.0 < length nodes) kept.reached x.own h.within (omega (arith, x.node, b)));
@@ -123,8 +118,9 @@ pub record IsCollected (p : Problem) (values : List (Option Array)) (duals : Lis
   pub pass : pass_down p.tree values weights (length p.tree) (begin table) ≡ Ok kept
   pub to : IsPassedTo p.tree values weights 0 kept
 
-pub is_collected : (p : Problem) (values : List (Option Array)) (duals : List Array) (weights : ℕ → List Frac) (with_objective : Bool) (kept : Kept) → collected p values duals weights with_objective ≡ Ok kept →
-    IsCollected p values duals weights with_objective kept
+pub is_collected : (p : Problem) (values : List (Option Array)) (duals : List Array) (weights : ℕ → List Frac) (with_objective : Bool) (kept : Kept)
+    → collected p values duals weights with_objective ≡ Ok kept
+    → IsCollected p values duals weights with_objective kept
 is_collected p values duals weights with_objective kept e = by (start_table with_objective p duals) refl e
   where
     by : (r : Result (List Frac) Passes) → start_table with_objective p duals ≡ r → then_on p.tree values weights (begun r) (pass_down p.tree values weights (length p.tree)) ≡ Ok kept →

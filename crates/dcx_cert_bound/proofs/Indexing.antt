@@ -13,14 +13,16 @@ use Rattle.dcx_cert_bound.specs.Weights.{numbers_if, numbers_in, indexed_at, wei
 pub none_indexed : (index : List ℕ) (weights : List NodeWeights) (n i : ℕ) → index ≡ replicate n (length weights) → i < n → indexed_at index weights i ≡ []
 none_indexed index weights n i e b =
     ap (λ xs. indexed_at xs weights i) e
-    ∙ ap (numbers_in weights) (slice_get-get_or (replicate n (length weights)) i 0 (subst (λ m. i < m) (sym (length-replicate n (length weights))) b) ∙ ap Some (get_or-replicate n i (length weights) 0 b))
+    ∙ ap (numbers_in weights) (slice_get-get_or (replicate n (length weights)) i 0 (subst (λ m. i < m) (sym (length-replicate n (length weights))) b)
+    ∙ ap Some (get_or-replicate n i (length weights) 0 b))
     ∙ ap numbers_if (slice_get_past weights (length weights) (omega arith))
 
 -- the index with one more place
 module _ (index : List ℕ) (weights : List NodeWeights) (place : ℕ) (w : NodeWeights) (at : slice_get weights place ≡ Some w) (inside : w.node.0 < length index) where
   own_indexed : indexed_at (slice_set index w.node.0 place) weights w.node.0 ≡ w.numbers
   own_indexed =
-      ap (numbers_in weights) (slice_get-get_or (slice_set index w.node.0 place) w.node.0 0 (subst (λ n. w.node.0 < n) (sym (length-set index w.node.0 place)) inside) ∙ ap Some (get_or-set_same index w.node.0 place 0 inside))
+      ap (numbers_in weights) (slice_get-get_or (slice_set index w.node.0 place) w.node.0 0 (subst (λ n. w.node.0 < n) (sym (length-set index w.node.0 place)) inside)
+      ∙ ap Some (get_or-set_same index w.node.0 place 0 inside))
       ∙ ap numbers_if at
 
   other_indexed : (i : ℕ) → i < length index → i ≢ w.node.0 → indexed_at (slice_set index w.node.0 place) weights i ≡ indexed_at index weights i
@@ -29,7 +31,8 @@ module _ (index : List ℕ) (weights : List NodeWeights) (place : ℕ) (w : Node
       (slice_get-get_or (slice_set index w.node.0 place) i 0 (subst (λ n. i < n) (sym (length-set index w.node.0 place)) b)
       ∙ ap Some (get_or-set_other index w.node.0 i place 0 ne) ∙ sym (slice_get-get_or index i 0 b))
 
-  pub indexed-more : (i : ℕ) → i < length index → (rest : List NodeWeights) → indexed_at index weights i ≡ weights_at rest i → indexed_at (slice_set index w.node.0 place) weights i ≡ weights_at (w ∷ rest) i
+  pub indexed-more : (i : ℕ) → i < length index → (rest : List NodeWeights) → indexed_at index weights i ≡ weights_at rest i
+      → indexed_at (slice_set index w.node.0 place) weights i ≡ weights_at (w ∷ rest) i
   indexed-more i b rest so_far = by (cases_eq w.node.0 i)
     where
       by : (w.node.0 ≡ i) ⊎ (w.node.0 ≢ i) → indexed_at (slice_set index w.node.0 place) weights i ≡ (if nat_eq w.node.0 i then w.numbers else weights_at rest i)

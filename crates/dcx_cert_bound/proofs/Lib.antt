@@ -1,4 +1,4 @@
--- The lemmas.
+-- The lemmas by which the bound checks tell one thing, and show a bound where they pass.
 pub mod OneTable
 pub mod Settled
 pub mod Falling

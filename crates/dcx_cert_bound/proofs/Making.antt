@@ -67,7 +67,8 @@ fixed_are p setting marks values known f are kept m = record {
     }
 
 -- the same multipliers and weights
-pub shown_same : (p : Problem) (duals others : List Array) (weights more : List NodeWeights) (with_objective : Bool) (stated : Frac) (values : List (Option Array)) (r : Result (Unit {0}) CertFault) → duals ≡ others → weights ≡ more →
-    Checked (shown_with p duals weights with_objective stated values) r → Checked (shown_with p others more with_objective stated values) r
+pub shown_same : (p : Problem) (duals others : List Array) (weights more : List NodeWeights) (with_objective : Bool) (stated : Frac) (values : List (Option Array)) (r : Result (Unit {0}) CertFault)
+    → duals ≡ others → weights ≡ more
+    → Checked (shown_with p duals weights with_objective stated values) r → Checked (shown_with p others more with_objective stated values) r
 shown_same p duals others weights more with_objective stated values r d w h =
     subst (λ ws. Checked (shown_with p others ws with_objective stated values) r) w (subst (λ ds. Checked (shown_with p ds weights with_objective stated values) r) d h)

@@ -8,7 +8,7 @@ use Rattle.dcx_frac.proofs.Parts.{value_injective}
 use Rattle.dcx_shape.specs.Sides.{entries_of}
 use Rattle.dcx_atom.specs.declared.array.Array.{Array}
 use Rattle.dcx_atom.specs.Arrays.{number_at}
-use Rattle.dcx_array.proofs.Equals.{shape_from_sides, array_from_parts}
+use Rattle.dcx_atom.proofs.OneArray.{array_from_parts}
 use Rattle.dcx_point.specs.Pairs.{Pairs}
 use Rattle.dcx_convex.specs.Certificates.{is_fixed}
 use Rattle.dcx_call.specs.declared.attribute.Variable.{Variable}
@@ -21,6 +21,7 @@ use Rattle.dcx_tree.specs.Meaning.{names_in, convex_problem, value_at, setting_o
 use Rattle.dcx_tree.specs.Values.{IsNamed, AreNamed, IsValueOf, array_at}
 use Rattle.dcx_tree.proofs.Sublists.{contains_at}
 use Rattle.dcx_cert_bound.specs.Fixed.{AreFixedValues}
+use Rattle.dcx_shape.proofs.OneShape.{shape_from_sides}
 
 -- ---- a value's numbers are those of its node
 call_named : (p : Problem) (call : Call) → IsListed p.variables p.parameters call → IsNamed (names_in p) call
@@ -34,7 +35,8 @@ call_named p (calls.Pairing m) l = tt
 all_named : (p : Problem) → AreDeclared p.tree p.variables p.parameters → (i : ℕ) → AreNamed p.tree (names_in p) i
 all_named p d i j n reached there = call_named p n.call (d.listed j n there)
 
-pub number_is_value : (p : Problem) (setting point : Pairs) (i : ℕ) (v : Array) → IsValueOf p.tree setting point i v → (j : ℕ) → number_at v.entries j ≡ value_at p (setting_of p setting) (point_of p point) i j
+pub number_is_value : (p : Problem) (setting point : Pairs) (i : ℕ) (v : Array) → IsValueOf p.tree setting point i v → (j : ℕ)
+    → number_at v.entries j ≡ value_at p (setting_of p setting) (point_of p point) i j
 number_is_value p setting point i v is j =
     ∥∥₁_elim p.declared (≡ℚ_prop (number_at v.entries j) (value_at p (setting_of p setting) (point_of p point) i j)) (λ d. is.numbers (names_in p) (all_named p d i) j)
 
@@ -69,7 +71,8 @@ one_table p setting values others v w = same_list values others (v.count ∙ sym
     at i lt false e = v.others i lt e ∙ sym (w.others i lt e)
 
 -- a node that has a value is one without a variable below it, and the value is its own
-pub value_of_fixed : (p : Problem) (setting : Pairs) (values : List (Option Array)) → AreFixedValues p setting values → (i : ℕ) (x : Array) → array_at values i ≡ Some x → (is_fixed (convex_problem p).nodes i ≡ true) × IsValueOf p.tree setting [] i x
+pub value_of_fixed : (p : Problem) (setting : Pairs) (values : List (Option Array)) → AreFixedValues p setting values → (i : ℕ) (x : Array) → array_at values i ≡ Some x
+    → (is_fixed (convex_problem p).nodes i ≡ true) × IsValueOf p.tree setting [] i x
 value_of_fixed p setting values v i x at = by (is_fixed (convex_problem p).nodes i) refl
   where
     inside : i < length p.tree

@@ -34,7 +34,8 @@ module _ (nodes : List Node) (values : List (Option Array)) (ws vs : ℕ → Lis
 pub collected_same : (p : Problem) (values : List (Option Array)) (duals : List Array) (ws vs : ℕ → List Frac) (with_objective : Bool) → ((i : ℕ) → i < length p.tree → ws i ≡ vs i) →
     collected p values duals ws with_objective ≡ collected p values duals vs with_objective
 collected_same p values duals ws vs with_objective same =
-    then_same p.tree values ws vs same (begun (start_table with_objective p duals)) (pass_down p.tree values ws (length p.tree)) (pass_down p.tree values vs (length p.tree)) (pass_same p.tree values ws vs same (length p.tree) (omega arith))
+    then_same p.tree values ws vs same (begun (start_table with_objective p duals)) (pass_down p.tree values ws (length p.tree)) (pass_down p.tree values vs (length p.tree))
+    (pass_same p.tree values ws vs same (length p.tree) (omega arith))
 
 -- a stop is told by its fault
 pub fault_told : (told other : Result Kept CollectStop) (stop : CollectStop) (f : CertFault) → told ≡ other → IsOrMemory told stop → f ≡ fault_of stop → IsFaultOrMemory other f

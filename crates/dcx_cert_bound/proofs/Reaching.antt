@@ -22,11 +22,11 @@ use Rattle.dcx_cert_bound.specs.Variables.{is_named, reaching}
 use Rattle.dcx_cert_bound.proofs.Falling.{AreFalling}
 
 -- ---- a variable has no arguments
-no_sides : (own : Sides) (args : List Sides) (sides : Sides) → own_sides own args ≡ Some sides → length args ≡ 0
+pub no_sides : (own : Sides) (args : List Sides) (sides : Sides) → own_sides own args ≡ Some sides → length args ≡ 0
 no_sides own [] sides e = refl
 no_sides own (a ∷ args) sides e = absurd (none-some sides e)
 
-no_nodes : (f : ℕ → Sides) (args : List ℕ) → length (map f args) ≡ 0 → args ≡ []
+pub no_nodes : (f : ℕ → Sides) (args : List ℕ) → length (map f args) ≡ 0 → args ≡ []
 no_nodes f [] e = refl
 no_nodes f (a ∷ args) e = absurd (omega (arith, e))
 
@@ -68,7 +68,8 @@ module _ (p : Problem) where
         })
 
     -- ---- so the coefficients of a variable are found by its name
-    pub reaching_is : (reached : List Reached) → AreFalling reached → (k : ℕ) (r : Reached) → slice_get reached k ≡ Some r → (v : Variable) → call_at p.tree r.node.0 ≡ Some (calls.Variable v) → reaching p.tree reached v.name ≡ r.coefficients
+    pub reaching_is : (reached : List Reached) → AreFalling reached → (k : ℕ) (r : Reached) → slice_get reached k ≡ Some r → (v : Variable) → call_at p.tree r.node.0 ≡ Some (calls.Variable v)
+        → reaching p.tree reached v.name ≡ r.coefficients
     reaching_is [] f k r at v c = absurd (none-some r at)
     reaching_is (q ∷ reached) f zero r at v c =
         let same : q ≡ r = same_Some q r at in
@@ -79,7 +80,8 @@ module _ (p : Problem) where
         before : r.node.0 < q.node.0
         before = subst (λ (x : Reached). x.node.0 < q.node.0) (get_or_from_slice_get reached k r r at) (f.0 k r (slice_get_within reached k r at))
 
-        by : (b : Bool) → is_named v.name (call_at p.tree q.node.0) ≡ b → reaching p.tree reached v.name ≡ r.coefficients → (if b then q.coefficients else reaching p.tree reached v.name) ≡ r.coefficients
+        by : (b : Bool) → is_named v.name (call_at p.tree q.node.0) ≡ b → reaching p.tree reached v.name ≡ r.coefficients
+            → (if b then q.coefficients else reaching p.tree reached v.name) ≡ r.coefficients
         by false e rest = rest
         by true e rest =
             let (w, is, name) = variable_named v.name (call_at p.tree q.node.0) e in

@@ -60,7 +60,7 @@ duals_are p duals e = record {
 }
 
 -- ---- attributes
-counted_is : (w : Whole) (a : Attribute) → attribute_of (counted w a) ≡ variable_attribute w a
+pub counted_is : (w : Whole) (a : Attribute) → attribute_of (counted w a) ≡ variable_attribute w a
 counted_is Not a = refl
 counted_is Integer a = refl
 counted_is Boolean a = refl
@@ -93,7 +93,8 @@ module _ (p : Problem) where
     may_at : (k : ℕ) (r : Reached) → slice_get reached k ≡ Some r → MayReachIn p.tree r
     may_at k r at v c = ∥∥₁_elim p.declared (may_reach_prop (variable_attribute v.whole v.attribute) (sides_of v.shape) (number_at r.coefficients)) (λ d.
         let (m, there) = listed p d r.node.0 v c in
-        let all : AllPass (demanded v) (sides_in v) (reaching p.tree reached v.name) m = subst (λ o. (variable_check p.tree reached m o).passes) there (passes m (slice_get_within p.variables m v there)) in
+        let all : AllPass (demanded v) (sides_in v) (reaching p.tree reached v.name) m =
+        subst (λ o. (variable_check p.tree reached m o).passes) there (passes m (slice_get_within p.variables m v there)) in
         subst (λ a. MayReach a (sides_of v.shape) (number_at r.coefficients)) (counted_is v.whole v.attribute)
         (subst (λ cs. MayReach (attribute_of (demanded v)) (sides_in v) (number_at cs)) (reaching_is p d reached falling k r at v c)
         (may_reach (sides_in v) (reaching p.tree reached v.name) m (demanded v) (square_at m v there) all)))
@@ -118,7 +119,8 @@ module _ (p : Problem) (setting : Pairs) (duals : List Array) (weights : List No
       emptied : (kept : Kept) → kept.below ≡ [] → ◌≡◌ {A = Kept} kept (record { below = []; reached = kept.reached; total = kept.total })
       emptied kept e = λ j. record { below = e j; reached = kept.reached; total = kept.total }
 
-      by : (r : Result Kept CollectStop) → collected p values duals (weights_at weights) with_objective ≡ r → (shown_by p values (weights_at weights) stated r).passes → IsShown with_objective stated values
+      by : (r : Result Kept CollectStop) → collected p values duals (weights_at weights) with_objective ≡ r → (shown_by p values (weights_at weights) stated r).passes
+          → IsShown with_objective stated values
       by (Err stop) is k = absurd k
       by (Ok kept) is k =
           let all = is_collected p values duals (weights_at weights) with_objective kept is in
@@ -131,11 +133,13 @@ module _ (p : Problem) (setting : Pairs) (duals : List Array) (weights : List No
             bound = k.1.1;
           }
 
-  laws : (values : List (Option Array)) → AreFixedValues p setting values → HaveFractions p.tree values (weights_at weights) → TotalShowsAnswers p (setting_of p setting) values (weights_at weights) duals
+  laws : (values : List (Option Array)) → AreFixedValues p setting values → HaveFractions p.tree values (weights_at weights)
+      → TotalShowsAnswers p (setting_of p setting) values (weights_at weights) duals
   laws values are fractions = totals_show_answers p (setting_of p setting) values (weights_at weights) duals (are_known p setting values are ok) fractions (squares_in p) (duals_are p duals shapes)
 
-  pub optimal : (stated : Frac) → (bound_checks p setting duals weights true stated).passes → (x : Point) → IsFeasible p (setting_of p setting) x → objective_at p (setting_of p setting) x ≡ value stated →
-      AreMultipliers (convex_problem p) (numbers_of duals) → IsOptimal p (setting_of p setting) (value stated) x (numbers_of duals)
+  pub optimal : (stated : Frac) → (bound_checks p setting duals weights true stated).passes → (x : Point) → IsFeasible p (setting_of p setting) x
+      → objective_at p (setting_of p setting) x ≡ value stated
+      → AreMultipliers (convex_problem p) (numbers_of duals) → IsOptimal p (setting_of p setting) (value stated) x (numbers_of duals)
   optimal stated h x feasible at signs =
       let (values, are, k) = h.1 in
       let s = shown true stated values k in

@@ -121,11 +121,13 @@ module _ (p : Problem) (setting : Pairs) (values : List (Option Array)) (v : Are
           known k (inr same) t = let h : b < i = below 1 0 (omega arith) in has_value k (omega (arith, h, lt, same)) t
 
           each : (q : Pairing) → IsBent (judgement_by Plain (head_of (names_in p) (calls.Pairing q) (arg_sides p.tree n) n.sides) (judged a ∷ judged b ∷ [])) →
-              IsTrue (is_bent_call Plain (pairing_call q (arg_sides p.tree n) n.sides) Convex (judged a ∷ judged b ∷ [])) ⊎ IsTrue (is_bent_call Plain (pairing_call q (arg_sides p.tree n) n.sides) Concave (judged a ∷ judged b ∷ []))
+              IsTrue (is_bent_call Plain (pairing_call q (arg_sides p.tree n) n.sides) Convex (judged a ∷ judged b ∷ []))
+              ⊎ IsTrue (is_bent_call Plain (pairing_call q (arg_sides p.tree n) n.sides) Concave (judged a ∷ judged b ∷ []))
           each q (inl h) = inl h
           each q (inr h) = inr h
 
-          all : (q : Pairing) → fixed_by (head_of (names_in p) (calls.Pairing q) (arg_sides p.tree n) n.sides) (judged a ∷ judged b ∷ []) ≡ false → list_all (is_constant Plain) (judged a ∷ judged b ∷ []) ≡ false
+          all : (q : Pairing) → fixed_by (head_of (names_in p) (calls.Pairing q) (arg_sides p.tree n) n.sides) (judged a ∷ judged b ∷ []) ≡ false
+              → list_all (is_constant Plain) (judged a ∷ judged b ∷ []) ≡ false
           all q h = h
 
       by : (call : Call) → n.call ≡ call → MayHandOn values call n.args

@@ -1,4 +1,4 @@
--- What the contracts of this crate cite.
+-- What contracts cite: weights by node, what reaches the variables, and the bound checks.
 pub mod Refusal
 pub mod Fixed
 pub mod Weights

@@ -47,7 +47,8 @@ fn collect_at(
     requires given { IsGiven problem.now.tree starts.now values.now }
     requires duals { AreDuals problem.now duals.now }
     requires weights { HaveWeights problem.now.tree values.now (indexed_at weights.now.index.now weights.now.weights.now) }
-    ensures ok { IfOk result (λ k. collected problem.now values.now duals.now (indexed_at weights.now.index.now weights.now.weights.now) with_objective ≡ Ok (record { below = []; reached = k.reached; total = k.total })) }
+    ensures ok { IfOk result (λ k. collected problem.now values.now duals.now (indexed_at weights.now.index.now weights.now.weights.now) with_objective
+        ≡ Ok (record { below = []; reached = k.reached; total = k.total })) }
     ensures fractions { OnOk result (HaveFractions problem.now.tree values.now (indexed_at weights.now.index.now weights.now.weights.now)) }
     ensures stop { IfErr result (IsOrMemory (collected problem.now values.now duals.now (indexed_at weights.now.index.now weights.now.weights.now) with_objective)) }
 {

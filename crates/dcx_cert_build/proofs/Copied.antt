@@ -39,7 +39,8 @@ module _ (setting : Pairs) where
   unvalued (p ∷ qs) (suc i) q d e =
       apart q.name p (flat_map (value_of setting) (take i qs)) (unlike p.name q.name (name_apart qs i q (λ n. same_name p.name n ≡ false) d.0 e)) (unvalued qs i q d.1 e)
 
-  module _ (qs : List Parameter) (i : ℕ) (q : Parameter) (distinct : IsDistinct same_name (map (λ x. x.name) qs)) (at : slice_get qs i ≡ Some q) (before after : Pairs) (was : before ≡ flat_map (value_of setting) (take i qs)) where
+  module _ (qs : List Parameter) (i : ℕ) (q : Parameter) (distinct : IsDistinct same_name (map (λ x. x.name) qs)) (at : slice_get qs i ≡ Some q) (before after : Pairs)
+      (was : before ≡ flat_map (value_of setting) (take i qs)) where
     next_is : flat_map (value_of setting) (take (i + 1) qs) ≡ flat_map (value_of setting) (take i qs) ++ value_of setting q
     next_is =
         ap (flat_map (value_of setting)) (take_more qs i q (slice_get_within qs i q at) ∙ ap (λ y. take i qs ++ y ∷ []) (get_or_from_slice_get qs i q q at))
@@ -54,7 +55,8 @@ module _ (setting : Pairs) where
         ∙ ap (λ o. flat_map (value_of setting) (take i qs) ++ value_if q.name o) valued ∙ sym next_is
 
     -- or none
-    pub value_none : {X : Type 0} (f : X → Array) (o : Option X) → option_map f o ≡ array_of setting q.name → ((x : X) → o ≡ Some x → ⊥) → after ≡ before → after ≡ flat_map (value_of setting) (take (i + 1) qs)
+    pub value_none : {X : Type 0} (f : X → Array) (o : Option X) → option_map f o ≡ array_of setting q.name → ((x : X) → o ≡ Some x → ⊥) → after ≡ before
+        → after ≡ flat_map (value_of setting) (take (i + 1) qs)
     value_none f o valued none same =
         same ∙ was ∙ sym (append-nil (flat_map (value_of setting) (take i qs)))
         ∙ ap (λ t. flat_map (value_of setting) (take i qs) ++ value_if q.name t) (sym (not_some f o none) ∙ valued) ∙ sym next_is

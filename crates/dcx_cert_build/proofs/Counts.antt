@@ -1,5 +1,6 @@
 -- How many rows of a program come from the graph of a node.
-use Rattle.std.proofs.Common.{◌≡◌, ◌≢◌, ℕ, zero, suc, ◌+◌, ◌<◌, ◌≤◌, Bool, true, false, List, [], ◌∷◌, ◌++◌, length, map, Option, Some, None, refl, sym, ap, ◌∙◌, true≢false, eq-eqb, ne_eqb, eqb-true, arith}
+use Rattle.std.proofs.Common.{◌≡◌, ◌≢◌, ℕ, zero, suc, ◌+◌, ◌<◌, ◌≤◌, Bool, true, false, List, [], ◌∷◌, ◌++◌, length, map, Option}
+use Rattle.std.proofs.Common.{Some, None, refl, sym, ap, ◌∙◌, true≢false, eq-eqb, ne_eqb, eqb-true, arith}
 use Rattle.std.specs.Prelude.{nat_eq, if◌then◌else◌}
 use Rattle.std.specs.List.{filter_map, cons_option, zip}
 use Rattle.dcx_shape.specs.Sides.{entries_of}
@@ -45,7 +46,8 @@ module _ (i : ℕ) where
   joined [] ys = omega arith
   joined (o ∷ xs) ys = by (joined xs ys) (comes_from i o)
     where
-      by : rows_in i (xs ++ ys) ≡ rows_in i xs + rows_in i ys → (b : Bool) → (if b then suc (rows_in i (xs ++ ys)) else rows_in i (xs ++ ys)) ≡ (if b then suc (rows_in i xs) else rows_in i xs) + rows_in i ys
+      by : rows_in i (xs ++ ys) ≡ rows_in i xs + rows_in i ys → (b : Bool)
+          → (if b then suc (rows_in i (xs ++ ys)) else rows_in i (xs ++ ys)) ≡ (if b then suc (rows_in i xs) else rows_in i xs) + rows_in i ys
       by h true = omega (arith, h)
       by h false = h
 

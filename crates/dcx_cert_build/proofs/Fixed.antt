@@ -26,7 +26,8 @@ within_same nodes zero i = refl
 within_same nodes (suc n) i = by (slice_get nodes i) (within_same nodes n)
   where
     by : (o : Option Node) → ((i : ℕ) → (told_within no_argument (judgement_by Parametrized) nodes n i).fixed ≡ (told_within no_argument (judgement_by Plain) nodes n i).fixed) →
-        (told no_argument (judgement_by Parametrized) (told_within no_argument (judgement_by Parametrized) nodes n) o).fixed ≡ (told no_argument (judgement_by Plain) (told_within no_argument (judgement_by Plain) nodes n) o).fixed
+        (told no_argument (judgement_by Parametrized) (told_within no_argument (judgement_by Parametrized) nodes n) o).fixed
+        ≡ (told no_argument (judgement_by Plain) (told_within no_argument (judgement_by Plain) nodes n) o).fixed
     by None ih = refl
     by (Some node) ih = head_same (told_within no_argument (judgement_by Parametrized) nodes n) (told_within no_argument (judgement_by Plain) nodes n) ih node.head node.args
 

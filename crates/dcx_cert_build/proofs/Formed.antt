@@ -1,5 +1,6 @@
 -- The numbers of the weights of rows are the multipliers of the rows of the atoms, atom by atom.
-use Rattle.std.proofs.Common.{◌≡◌, ℕ, zero, suc, ◌+◌, ◌<◌, ◌≤◌, Bool, true, false, List, [], ◌∷◌, ◌++◌, length, map, take, get_or, Option, Some, None, Ok, Err, refl, sym, ap, ap₂, ◌∙◌, subst, true≢false, eq-eqb, eqb-true, inl, inr, ◌⊎◌, arith}
+use Rattle.std.proofs.Common.{◌≡◌, ℕ, zero, suc, ◌+◌, ◌<◌, ◌≤◌, Bool, true, false, List, [], ◌∷◌, ◌++◌, length, map, take, get_or, Option, Some}
+use Rattle.std.proofs.Common.{None, Ok, Err, refl, sym, ap, ap₂, ◌∙◌, subst, true≢false, eq-eqb, eqb-true, inl, inr, ◌⊎◌, arith}
 use Rattle.std.specs.Prelude.{Result, nat_eq, if◌then◌else◌, ◌||◌, slice_get}
 use Rattle.std.specs.List.{filter_map, cons_option, zip}
 use Rattle.std.proofs.lemmas.List.{map_push, map_more, take_all, take_more, append-nil}
@@ -18,7 +19,8 @@ use Rattle.dcx_cert_build.specs.declared.forming.RowWeight.{RowWeight}
 use Rattle.dcx_cert_sections.specs.declared.weights.NodeWeights.{NodeWeights}
 use Rattle.dcx_cert_sections.specs.declared.outline.AtomRows.{AtomRows}
 use Rattle.dcx_cert_sections.specs.Outlines.{rows_shown}
-use Rattle.dcx_cert_build.specs.Weights.{graph_multiplier, is_listed, row_weight, row_weights, note_of, node_multipliers, number_for, numbers_for, node_numbers, atom_numbers, formed_weights, atom_multipliers, AreWeights}
+use Rattle.dcx_cert_build.specs.Weights.{graph_multiplier, is_listed, row_weight, row_weights, note_of, node_multipliers, number_for}
+use Rattle.dcx_cert_build.specs.Weights.{numbers_for, node_numbers, atom_numbers, formed_weights, atom_multipliers, AreWeights}
 
 -- a row, where it comes from and what is kept of it
 abbrev pub RowOf : Type 0
@@ -51,12 +53,14 @@ row_there from notes items i o note at lt is same =
 
 module _ {A B : Type 0} (f : A → Result B Passes) where
   -- one more
-  pub weights_more : (xs : List A) (ys new : List B) (i : ℕ) (x : A) → i < length xs → x ≡ get_or xs i x → map Ok ys ≡ map f (take i xs) → (y : B) → f x ≡ Ok y → new ≡ ys ++ y ∷ [] → map Ok new ≡ map f (take (i + 1) xs)
+  pub weights_more : (xs : List A) (ys new : List B) (i : ℕ) (x : A) → i < length xs → x ≡ get_or xs i x → map Ok ys ≡ map f (take i xs) → (y : B) → f x ≡ Ok y → new ≡ ys ++ y ∷ []
+      → map Ok new ≡ map f (take (i + 1) xs)
   weights_more xs ys new i x lt is made y e put =
       ap (map Ok) put ∙ map_push Ok ys y ∙ ap₂ (λ a b. a ++ b ∷ []) made (sym e ∙ ap f is) ∙ sym (map_more f xs i x lt)
 
 -- and all
-pub weights_all : {A B C : Type 0} (f : A × B → Result C Passes) (xs : List A) (ys items : List B) (zs : List C) (i : ℕ) → items ≡ ys → length items ≤ i → map Ok zs ≡ map f (take i (zip xs ys)) → map Ok zs ≡ map f (zip xs ys)
+pub weights_all : {A B C : Type 0} (f : A × B → Result C Passes) (xs : List A) (ys items : List B) (zs : List C) (i : ℕ) → items ≡ ys → length items ≤ i → map Ok zs ≡ map f (take i (zip xs ys))
+    → map Ok zs ≡ map f (zip xs ys)
 weights_all f xs ys items zs i same past made =
     let count = ap length same in
     let short = no_longer xs ys in
@@ -102,7 +106,8 @@ module _ (atoms : List (ℕ × ℕ)) (status : LpStatus) where
     tells_nothing : (o : Origin) (note : RowNote) (w : Option RowWeight) → ◌≡◌ {A = Answer} (Ok w) (Ok None) → note_of i (o, note) ≡ None → Tells o note w
     tells_nothing o note w h none = let is : w ≡ None = cc in inl (ap (number_for i) is, none)
 
-    tells_one : (node : NodeId) (e k : ℕ) (note : RowNote) (w : Option RowWeight) (x : Frac) → ◌≡◌ {A = Answer} (Ok w) (Ok (Some (record { node = node; number = x }))) → Ok x ≡ graph_multiplier status note → Tells (origins.Graph node e k) note w
+    tells_one : (node : NodeId) (e k : ℕ) (note : RowNote) (w : Option RowWeight) (x : Frac) → ◌≡◌ {A = Answer} (Ok w) (Ok (Some (record { node = node; number = x })))
+        → Ok x ≡ graph_multiplier status note → Tells (origins.Graph node e k) note w
     tells_one node e k note w x h formed = by (nat_eq node.0 i) refl
       where
         is : w ≡ Some (record { node = node; number = x })
@@ -153,7 +158,8 @@ module _ (atoms : List (ℕ × ℕ)) (status : LpStatus) where
   AllFormed zs = (rows : List (Option RowWeight)) × (map Ok rows ≡ map Weight zs)
 
   -- the rows behind the first one
-  behind : (i : ℕ) (o : Option RowNote) (notes : List RowNote) → ((xs : List Frac) × (map Ok xs ≡ map (graph_multiplier status) (cons_option o notes))) → (xs : List Frac) × (map Ok xs ≡ map (graph_multiplier status) notes)
+  behind : (i : ℕ) (o : Option RowNote) (notes : List RowNote) → ((xs : List Frac) × (map Ok xs ≡ map (graph_multiplier status) (cons_option o notes)))
+      → (xs : List Frac) × (map Ok xs ≡ map (graph_multiplier status) notes)
   behind i None notes h = h
   behind i (Some note) notes ([], e) = absurd cc
   behind i (Some note) notes (x ∷ xs, e) = (xs, cc)
@@ -212,8 +218,9 @@ unfolding with_formed
 numbers_shown rows [] = refl
 numbers_shown rows (a ∷ atoms) = ap (λ ys. (a.node.0, map Ok (numbers_for rows a.node.0)) ∷ ys) (numbers_shown rows atoms)
 
-pub weights_are : (status : LpStatus) (from : List Origin) (notes : List RowNote) (atoms : List AtomRows) (all : List (ℕ × ℕ)) (rows : List (Option RowWeight)) (ws : List NodeWeights) → map rows_shown atoms ≡ all →
-    map Ok rows ≡ row_weights (map rows_shown atoms) status from notes → map node_numbers ws ≡ map (atom_numbers rows) atoms → AreWeights all status from notes ws
+pub weights_are : (status : LpStatus) (from : List Origin) (notes : List RowNote) (atoms : List AtomRows) (all : List (ℕ × ℕ)) (rows : List (Option RowWeight)) (ws : List NodeWeights)
+    → map rows_shown atoms ≡ all
+    → map Ok rows ≡ row_weights (map rows_shown atoms) status from notes → map node_numbers ws ≡ map (atom_numbers rows) atoms → AreWeights all status from notes ws
 weights_are status from notes atoms all rows ws same formed numbered =
     formed_are ws ∙ ap (map with_formed) numbered ∙ numbers_shown rows atoms
     ∙ same_listed (map rows_shown atoms) (λ i. map Ok (numbers_for rows i)) (node_multipliers status from notes) (λ i t. numbers_are (map rows_shown atoms) status i t (zip from notes) rows formed)

@@ -55,12 +55,14 @@ module _ {C : Type 0} (of_number : Frac → C) (number_of : C → Option Frac) (
     node_origins true size h =
         mapped_rows
         ∙ joined_same (length es) (λ j. map graph_origin (kept.entry_rows of_number i j (Here j))) (entry_rows p.tree i n)
-        (λ j b. entry_origins i j (Here j) (entry_count p.tree n n.call j) (reduced_count of_number number_of Sums Changes Reads rules p setting forms i n n.call j (Here j) (h j (Here j) (slice_get-get_or es j (alone (zero_form of_number)) b))))
+        (λ j b. entry_origins i j (Here j) (entry_count p.tree n n.call j)
+        (reduced_count of_number number_of Sums Changes Reads rules p setting forms i n n.call j (Here j) (h j (Here j) (slice_get-get_or es j (alone (zero_form of_number)) b))))
         ∙ ap (λ k. joined_below k (entry_rows p.tree i n)) size
     node_origins false size h =
         mapped_rows
         ∙ joined_none (length es) (λ j. map graph_origin (kept.entry_rows of_number i j (Here j)))
-        (λ j b. entry_origins i j (Here j) 0 (number_rows of_number number_of Sums Changes Reads rules p setting n.call (arg_sides p.tree n) (args_among of_number forms n.args) j (Here j) (h j (Here j) (slice_get-get_or es j (alone (zero_form of_number)) b))))
+        (λ j b. entry_origins i j (Here j) 0 (number_rows of_number number_of Sums Changes Reads rules p setting n.call (arg_sides p.tree n) (args_among of_number forms n.args) j (Here j)
+        (h j (Here j) (slice_get-get_or es j (alone (zero_form of_number)) b))))
 
   -- ---- the rows of all nodes
   module _ (table : Table C) (formed : AreFormed of_number number_of Sums Changes Reads rules p setting (length p.tree) table) where

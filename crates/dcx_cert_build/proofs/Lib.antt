@@ -1,4 +1,4 @@
--- The lemmas by which the functions and the laws of this crate are proved.
+-- The lemmas by which the certificate that is built is of its problem, one, and has the multipliers as weights.
 pub mod Copied
 pub mod Formed
 pub mod Counts

@@ -78,7 +78,8 @@ module _ (p : Problem) (rules : Rules) (from : List Origin) (laid : from ≡ map
   up_to (suc k) le =
       let split : flat_map (atoms_at p) (range_with_len 0 (suc k)) ≡ flat_map (atoms_at p) (range_with_len 0 k) ++ atoms_at p k =
       let one : suc k ≡ k + 1 = omega arith in
-      ap (λ n. flat_map (atoms_at p) (range_with_len 0 n)) one ∙ ap (flat_map (atoms_at p)) (range_more k) ∙ flat_map-append (atoms_at p) (range_with_len 0 k) (k ∷ []) ∙ ap (λ t. flat_map (atoms_at p) (range_with_len 0 k) ++ t) (append-nil (atoms_at p k)) in
+      ap (λ n. flat_map (atoms_at p) (range_with_len 0 n)) one ∙ ap (flat_map (atoms_at p)) (range_more k) ∙ flat_map-append (atoms_at p) (range_with_len 0 k) (k ∷ [])
+      ∙ ap (λ t. flat_map (atoms_at p) (range_with_len 0 k) ++ t) (append-nil (atoms_at p k)) in
       subst (All HasRows) (sym split) (All-append HasRows (flat_map (atoms_at p) (range_with_len 0 k)) (atoms_at p k) (up_to k (omega (arith, le))) (at_node k (omega (arith, le))))
 
   -- ---- the weights

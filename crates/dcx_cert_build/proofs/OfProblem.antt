@@ -1,5 +1,5 @@
 -- The certificate of an answer has the names, the shapes, the counts and the order of the problem, and the setting's values.
-use Rattle.std.proofs.Common.{◌≡◌, ◌<◌, ◌^◌, List, length, sym, ◌∙◌, subst, arith}
+use Rattle.std.proofs.Common.{◌≡◌, List, length, sym, ◌∙◌, subst}
 use Rattle.dcx_frac.specs.declared.fraction.Frac.{Frac}
 use Rattle.dcx_point.specs.Pairs.{Pairs}
 use Rattle.dcx_convex.specs.Nodes.{Setting}
@@ -10,11 +10,8 @@ use Rattle.dcx_std.proofs.ScaledProgram.{scaled_program}
 use Rattle.dcx_answer.specs.declared.answer.Answer.{Answer}
 use Rattle.dcx_answer.specs.declared.answer.Answer.TheVariants as answers
 use Rattle.dcx_cert_sections.specs.declared.cert.Cert.{Cert}
-use Rattle.dcx_cert_sections.specs.declared.section.Format.TheVariants.{Two}
-use Rattle.dcx_cert_sections.specs.Formats.{IsOfFormat}
 use Rattle.dcx_cert_sections.specs.Shown.{IsCertOf}
 use Rattle.dcx_cert_outline.specs.Drawn.{problem_outline}
-use Rattle.dcx_graph.specs.declared.origin.Origin.{Origin}
 use Rattle.dcx_graph.specs.Program.{Program}
 use Rattle.dcx_graph.specs.Fixed.{HaveArrays}
 use Rattle.dcx_graph.specs.Answers.{rows_of, IsAnswered, IsRead}
@@ -27,13 +24,6 @@ use Rattle.dcx_cert_build.proofs.Shown.{variables_distinct, point_shown, duals_s
 module _ (p : Problem) (s : Setting) (q : Program Frac) (a : LpAnswer) (is : IsAnswered p s q a) where
   pub rows_noted : length a.rows ≡ length q.rows
   rows_noted = is.parts.notes ∙ (scaled_program (rows_of q) is.integer is.made).count
-
-  pub rows_few : length a.rows < 2 ^ 32
-  rows_few =
-      let fits = is.made.fits.0 in
-      let count = (scaled_program (rows_of q) is.integer is.made).count in
-      let notes = is.parts.notes in
-      omega (arith, fits, count, notes)
 
 module _ (p : Problem) (setting : Pairs) (given : HaveArrays p setting) (q : Program Frac) (laid : IsLaidOut p q) (a : LpAnswer) (noted : length a.rows ≡ length q.rows) (kinds : List UnknownKind) where
   pub cert_of : (x : Answer) (cert : Cert) → IsRead p kinds a x → IsBuilt p setting q.origins a x cert → IsCertOf (problem_outline p) cert
@@ -56,8 +46,3 @@ module _ (p : Problem) (setting : Pairs) (given : HaveArrays p setting) (q : Pro
         ray_variables = point_shown p.variables (variables_distinct p) read.4.unknowns ray read.4.of_variables;
         parameters = values_shown p setting given;
       })
-
-pub of_format : (p : Problem) (setting : Pairs) (from : List Origin) (a : LpAnswer) (x : Answer) (cert : Cert) → IsBuilt p setting from a x cert → IsOfFormat Two cert
-of_format p setting from a (answers.Optimal number point duals) cert (weights, are, is) = subst (IsOfFormat Two) (sym is) tt
-of_format p setting from a (answers.Infeasible duals gap) cert (weights, are, is) = subst (IsOfFormat Two) (sym is) tt
-of_format p setting from a (answers.Unbounded point ray bound slope) cert is = subst (IsOfFormat Two) (sym is) (tt, tt)

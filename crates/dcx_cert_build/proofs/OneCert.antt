@@ -47,7 +47,8 @@ one_list (w ∷ ws) (v ∷ vs) e =
 -- ---- none passes where there are weights
 module _ (status : LpStatus) (from : List Origin) (notes : List RowNote) where
   -- the numbers of a node that is listed
-  has_numbers : (atoms : List (ℕ × ℕ)) (ws : List NodeWeights) → AreWeights atoms status from notes ws → (i : ℕ) → is_listed atoms i ≡ true → (xs : List Frac) × (map Ok xs ≡ node_multipliers status from notes i)
+  has_numbers : (atoms : List (ℕ × ℕ)) (ws : List NodeWeights) → AreWeights atoms status from notes ws → (i : ℕ) → is_listed atoms i ≡ true
+      → (xs : List Frac) × (map Ok xs ≡ node_multipliers status from notes i)
   has_numbers [] ws h i t = absurd (true≢false (sym t))
   has_numbers (a ∷ atoms) [] h i t = absurd cc
   has_numbers (a ∷ atoms) (w ∷ ws) h i t =
@@ -57,7 +58,8 @@ module _ (status : LpStatus) (from : List Origin) (notes : List RowNote) where
       first : formed_weights w ≡ atom_multipliers status from notes a
       first = cc
 
-      by : (is_listed atoms i ≡ true → (xs : List Frac) × (map Ok xs ≡ node_multipliers status from notes i)) → (b : Bool) → nat_eq a.0 i ≡ b → (b || is_listed atoms i) ≡ true → (xs : List Frac) × (map Ok xs ≡ node_multipliers status from notes i)
+      by : (is_listed atoms i ≡ true → (xs : List Frac) × (map Ok xs ≡ node_multipliers status from notes i)) → (b : Bool) → nat_eq a.0 i ≡ b → (b || is_listed atoms i) ≡ true
+          → (xs : List Frac) × (map Ok xs ≡ node_multipliers status from notes i)
       by ih true e l = (w.numbers, ap (λ x. x.1) first ∙ ap (node_multipliers status from notes) (eqb-true a.0 i e))
       by ih false e l = ih l
 

@@ -6,12 +6,9 @@ use Rattle.std.proofs.Props.{props}
 use Rattle.std.proofs.Math.Logic.{∥∥₁_elim}
 use Rattle.std.proofs.lemmas.List.Elements.{All-head, All-tail}
 use Rattle.std.proofs.lemmas.Option.{same_Some, slice_get-map, slice_get_within, get_or_from_slice_get}
-use mathlib.Core.HLevel.{is_prop→PathP}
 use Rattle.dcx_frac.specs.declared.fraction.Frac.{Frac}
-use Rattle.dcx_shape.specs.declared.shape.Sides.{Sides}
 use Rattle.dcx_shape.specs.declared.shape.Shape.{Shape}
 use Rattle.dcx_shape.specs.Shape.{sides_of}
-use Rattle.dcx_shape.specs.Sides.{HasFewEntries}
 use Rattle.dcx_atom.specs.declared.array.Array.{Array}
 use Rattle.dcx_point.specs.Pairs.{Pairs, same_name, names_of, array_of}
 use Rattle.dcx_point.proofs.Puts.{same_name-refl}
@@ -31,13 +28,7 @@ use Rattle.dcx_postsolve.specs.Duals.{AreDuals}
 use Rattle.dcx_graph.specs.Fixed.{HaveArrays}
 use Rattle.dcx_cert_build.specs.Built.{value_if, values_in}
 use Rattle.dcx_cert_build.proofs.Copied.{value_of}
-
--- shapes with the same sides are equal
-one_shape : (a b : Shape) → sides_of a ≡ sides_of b → a ≡ b
-one_shape a b e = λ i. record { sides = e i; few = is_prop→PathP (λ j. HasFewEntries (e j)) (λ j. few_prop (e j)) a.few b.few i }
-  where
-    few_prop : (s : Sides) → IsProp (HasFewEntries s)
-    few_prop s = hlevel props
+use Rattle.dcx_shape.proofs.OneShape.{shape_from_sides}
 
 -- ---- names that stand once
 pub variables_distinct : (p : Problem) → IsDistinct same_name (map (λ v. v.name) p.variables)
@@ -52,7 +43,8 @@ abbrev HasShape : Pairs → List ℕ × Shape → Type 0
 HasShape ps e = (a : Array) × (array_of ps e.0 ≡ Some a) × (a.shape ≡ e.1)
 
 -- arrays of these names and shapes
-shapes_are : (ps : Pairs) (es : List (List ℕ × Shape)) → IsDistinct same_name (names_of ps) → names_of ps ≡ map (λ e. e.0) es → ((i : ℕ) (e : List ℕ × Shape) → slice_get es i ≡ Some e → HasShape ps e) → variables_of ps ≡ es
+shapes_are : (ps : Pairs) (es : List (List ℕ × Shape)) → IsDistinct same_name (names_of ps) → names_of ps ≡ map (λ e. e.0) es
+    → ((i : ℕ) (e : List ℕ × Shape) → slice_get es i ≡ Some e → HasShape ps e) → variables_of ps ≡ es
 unfolding IsDistinct
 shapes_are [] [] d n h = refl
 shapes_are [] (e ∷ es) d n h = absurd cc
@@ -78,8 +70,9 @@ module _ (vs : List Variable) (distinct : IsDistinct same_name (map (λ v. v.nam
   shaped_at : (i : ℕ) (e : List ℕ × Shape) (o : Option Variable) → slice_get vs i ≡ o → option_map shown_variable o ≡ Some e → HasShape point e
   shaped_at i e None at is = absurd cc
   shaped_at i e (Some v) at is =
-      let has : HasArray point v.name (sides_of v.shape) = subst (λ (w : Variable). HasArray point w.name (sides_of w.shape)) (get_or_from_slice_get vs i v v at) (of.shaped i v (slice_get_within vs i v at)) in
-      subst (HasShape point) (same_Some (shown_variable v) e is) (has.array, has.there, one_shape has.array.shape v.shape has.shape)
+      let has : HasArray point v.name (sides_of v.shape) =
+      subst (λ (w : Variable). HasArray point w.name (sides_of w.shape)) (get_or_from_slice_get vs i v v at) (of.shaped i v (slice_get_within vs i v at)) in
+      subst (HasShape point) (same_Some (shown_variable v) e is) (has.array, has.there, shape_from_sides has.array.shape v.shape has.shape)
 
   pub point_shown : variables_of point ≡ map shown_variable vs
   point_shown =
@@ -91,12 +84,12 @@ pub duals_shown : (status : LpStatus) (cs : List Constraint) (notes : List RowNo
 duals_shown status [] notes [] h = refl
 duals_shown status [] notes (x ∷ duals) h = absurd h
 duals_shown status (c ∷ cs) notes [] h = absurd h
-duals_shown status (c ∷ cs) notes (x ∷ duals) h = ap₂ ◌∷◌ (one_shape x.shape c.shape h.0.shape) (duals_shown status cs _ duals h.1)
+duals_shown status (c ∷ cs) notes (x ∷ duals) h = ap₂ ◌∷◌ (shape_from_sides x.shape c.shape h.0.shape) (duals_shown status cs _ duals h.1)
 
 -- ---- settings
 value_shown : (setting : Pairs) (q : Parameter) → HasArray setting q.name (sides_of q.shape) → (rest : Pairs) → variables_of (value_of setting q ++ rest) ≡ (q.name, q.shape) ∷ variables_of rest
 value_shown setting q has rest =
-    ap (λ o. variables_of (value_if q.name o ++ rest)) has.there ∙ ap (λ s. (q.name, s) ∷ variables_of rest) (one_shape has.array.shape q.shape has.shape)
+    ap (λ o. variables_of (value_if q.name o ++ rest)) has.there ∙ ap (λ s. (q.name, s) ∷ variables_of rest) (shape_from_sides has.array.shape q.shape has.shape)
 
 values_shown_of : (setting : Pairs) (qs : List Parameter) → All (λ q. HasArray setting q.name (sides_of q.shape)) qs → variables_of (flat_map (value_of setting) qs) ≡ map (λ q. (q.name, q.shape)) qs
 values_shown_of setting [] h = refl

@@ -1,4 +1,4 @@
--- The main statements, as the clauses of the laws say them.
+-- The laws of building: how the programs of problems are laid out, and that an answer has one certificate.
 use Rattle.std.specs.Prelude.{◌≡◌, List, Ok}
 use Rattle.dcx_frac.specs.declared.fraction.Frac.{Frac}
 use Rattle.dcx_point.specs.Pairs.{Pairs}

@@ -15,8 +15,9 @@ below_stays p roots before after stays kept i r = stays_some before after stays 
 
 -- the values below one more constraint are
 pub below_more : (p : Problem) (k : ℕ) (x : Constraint) → slice_get p.constraints k ≡ Some x → (before after : List (Option Array)) →
-    ((j : ℕ) (c : Constraint) → j < k → slice_get p.constraints j ≡ Some c → AreKeptBelow p (c.left.0 ∷ c.right.0 ∷ []) before) → StaysKept before after → AreKeptBelow p (x.left.0 ∷ x.right.0 ∷ []) after →
-    (j : ℕ) (c : Constraint) → j < k + 1 → slice_get p.constraints j ≡ Some c → AreKeptBelow p (c.left.0 ∷ c.right.0 ∷ []) after
+    ((j : ℕ) (c : Constraint) → j < k → slice_get p.constraints j ≡ Some c → AreKeptBelow p (c.left.0 ∷ c.right.0 ∷ []) before) → StaysKept before after
+    → AreKeptBelow p (x.left.0 ∷ x.right.0 ∷ []) after
+    → (j : ℕ) (c : Constraint) → j < k + 1 → slice_get p.constraints j ≡ Some c → AreKeptBelow p (c.left.0 ∷ c.right.0 ∷ []) after
 below_more p k x at before after kept stays here j c lt is = by (dec_lt j k)
   where
     by : Dec (j < k) → AreKeptBelow p (c.left.0 ∷ c.right.0 ∷ []) after

@@ -71,9 +71,6 @@ when_false : (b : Bool) (K L : Type 0) → MatchBool b K L → b ≡ false → L
 when_false true K L m f = absurd (true≢false f)
 when_false false K L m f = m
 
-pub multiplier_passes : (b : Bool) (k j : ℕ) (nought x : Frac) → value nought ≡ whole (pos 0) → b ≡ rat_le (value nought) (value x) → b ≡ true → (multiplier_signed AtMost k j (value x)).passes
-multiplier_passes b k j nought x z e t = when_true b _ _ (at_least_zero b nought x z e) t
-
 pub multiplier_fails : (b : Bool) (k j : ℕ) (nought x : Frac) → value nought ≡ whole (pos 0) → b ≡ rat_le (value nought) (value x) → b ≡ false →
     (faults.DualSign k j x ≡ faults.Memory) ⊎ (multiplier_signed AtMost k j (value x)).fails (faults.DualSign k j x)
 multiplier_fails b k j nought x z e f = inr (
@@ -85,11 +82,13 @@ multiplier_fails b k j nought x z e f = inr (
 pub same_multiplier_passes : (kind : Kind) (k j : ℕ) (x u : ℚ) → x ≡ u → (multiplier_signed kind k j x).passes → (multiplier_signed kind k j u).passes
 same_multiplier_passes kind k j x u e h = subst (λ (z : ℚ). (multiplier_signed kind k j z).passes) e h
 
-pub same_multiplier_fails : (kind : Kind) (k j : ℕ) (x u : ℚ) (f : CertFault) → x ≡ u → (f ≡ faults.Memory) ⊎ (multiplier_signed kind k j x).fails f → (f ≡ faults.Memory) ⊎ (multiplier_signed kind k j u).fails f
+pub same_multiplier_fails : (kind : Kind) (k j : ℕ) (x u : ℚ) (f : CertFault) → x ≡ u → (f ≡ faults.Memory) ⊎ (multiplier_signed kind k j x).fails f
+    → (f ≡ faults.Memory) ⊎ (multiplier_signed kind k j u).fails f
 same_multiplier_fails kind k j x u f e h = subst (λ (z : ℚ). (f ≡ faults.Memory) ⊎ (multiplier_signed kind k j z).fails f) e h
 
 -- the multipliers of constraint k, where its array was looked up
-pub looked_up : (duals : List Array) (k : ℕ) (c : Constraint) (o : Option Array) → o ≡ slice_get duals k → {T : Type 0} (r : Result T CertFault) → Checked (entries_signed k c (number_if o)) r → Checked (multipliers_signed duals k c) r
+pub looked_up : (duals : List Array) (k : ℕ) (c : Constraint) (o : Option Array) → o ≡ slice_get duals k → {T : Type 0} (r : Result T CertFault) → Checked (entries_signed k c (number_if o)) r
+    → Checked (multipliers_signed duals k c) r
 looked_up duals k c o e r h = subst (λ f. Checked (entries_signed k c f) r) (ap number_if e ∙ sym (numbers_are duals k)) h
 
 -- ---- the objective, which is x

@@ -1,11 +1,8 @@
 -- A setting that fits, and a point with the names and the shapes of the variables, give arrays.
-use Rattle.std.proofs.Common.{◌≡◌, ℕ, zero, suc, Bool, true, false, List, [], ◌∷◌, get_or, map, Option, Some, None, refl, sym, ap, ◌∙◌, true≢false}
+use Rattle.std.proofs.Common.{◌≡◌, ℕ, zero, suc, Bool, true, false, List, [], ◌∷◌, get_or, map, Some, refl, sym, ap, ◌∙◌, true≢false}
 use Rattle.std.specs.List.{slice_get, IsDistinct}
-use Rattle.std.proofs.Props.{props}
-use mathlib.Core.Logic.{∥∥₁_elim}
 use Rattle.std.proofs.lemmas.Option.{none-some, same_Some, slice_get-get_or}
 use Rattle.dcx_shape.specs.declared.shape.Shape.{Shape}
-use Rattle.dcx_shape.specs.declared.shape.Sides.{Sides}
 use Rattle.dcx_shape.specs.Shape.{sides_of}
 use Rattle.dcx_atom.specs.declared.array.Array.{Array}
 use Rattle.dcx_point.specs.Pairs.{Pairs, same_name, array_of}
@@ -17,6 +14,7 @@ use Rattle.dcx_tree.proofs.Sublists.{one_name, distinct_front}
 use Rattle.dcx_lines.specs.Shown.{variables_of}
 use Rattle.dcx_cert_values.specs.Forming.{GivesVariables}
 use Rattle.dcx_cert_check.specs.CheckLaws.{AreGivenArrays}
+use Rattle.dcx_cert_values.proofs.Known.{one_array}
 
 abbrev shown : Variable → List ℕ × Shape
 shown v = (v.name, v.shape)
@@ -62,16 +60,8 @@ found (p ∷ ps) (w ∷ ws) e k v at = by (same_name v.name p.0) refl (λ j late
         let f = later i here in
         record { array = f.array; there = rw t f.there; position = suc f.position; variable = f.variable; stands = f.stands; named = f.named; shaped = f.shaped }
 
--- there is one array, or none, under a name
-one_array : {D : Type 0} (given : Pairs) (name : List ℕ) (sides : Sides) (o : Option Array) → array_of given name ≡ o → ∥ D ∥₁ → (D → HasArray given name sides) → HasArray given name sides
-one_array given name sides None e d f = absurd (∥∥₁_elim d (hlevel props) (λ x. none-some (f x).array (sym e ∙ (f x).there)))
-one_array given name sides (Some a) e d f = record {
-  array = a;
-  there = e;
-  shape = ∥∥₁_elim d (hlevel props) (λ x. ap (λ (b : Array). sides_of b.shape) (same_Some a (f x).array (sym e ∙ (f x).there)) ∙ (f x).shape);
-}
-
-has_array : (point : Pairs) (vs : List Variable) → IsDistinct same_name (map (λ v. v.name) vs) → variables_of point ≡ map shown vs → (k : ℕ) (v : Variable) → slice_get vs k ≡ Some v → HasArray point v.name (sides_of v.shape)
+has_array : (point : Pairs) (vs : List Variable) → IsDistinct same_name (map (λ v. v.name) vs) → variables_of point ≡ map shown vs → (k : ℕ) (v : Variable) → slice_get vs k ≡ Some v
+    → HasArray point v.name (sides_of v.shape)
 has_array point vs distinct e k v at =
     let f = found point vs e k v at in
     let same : f.variable ≡ v = one_name (λ (x : Variable). x.name) vs distinct f.position k f.variable v f.stands at f.named in

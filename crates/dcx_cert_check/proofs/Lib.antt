@@ -1,4 +1,4 @@
--- The lemmas.
+-- The lemmas by which the checks of a certificate tell one thing, and what passes them shows its answer.
 pub mod Settled
 pub mod Shows
 pub mod KeptTables

@@ -30,8 +30,11 @@ module _ (p : Problem) (s : Pairs) where
 
 pub tells_one_thing : TellsOneThing
 tells_one_thing p s (Optimal number point duals weights params) =
-    both (setting_settled p s params) (both (point_settled p s point) (both (checks_settled.value_is p s point number) (both (checks_settled.duals_signed p duals) (bounds_settled p s duals weights true number))))
+    both (setting_settled p s params)
+    (both (point_settled p s point) (both (checks_settled.value_is p s point number) (both (checks_settled.duals_signed p duals) (bounds_settled p s duals weights true number))))
 tells_one_thing p s (Infeasible duals gap weights params) =
     both (setting_settled p s params) (both (checks_settled.duals_signed p duals) (both (checks_settled.gap_positive gap) (bounds_settled p s duals weights false gap)))
 tells_one_thing p s (Unbounded point ray bound slope params) =
-    both (setting_settled p s params) (both (point_settled p s point) (both (checks_settled.start_bounded p s point bound) (both (checks_settled.slope_positive slope) (both (checks_settled.ray_inside p ray) (ray_settled p s ray slope)))))
+    both (setting_settled p s params)
+    (both (point_settled p s point) (both (checks_settled.start_bounded p s point bound)
+    (both (checks_settled.slope_positive slope) (both (checks_settled.ray_inside p ray) (ray_settled p s ray slope)))))

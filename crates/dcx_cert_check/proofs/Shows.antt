@@ -48,6 +48,7 @@ passed_are_shown p s (Unbounded point ray bound slope params) ok of (fits, check
     )
 
 -- so does what comes to that
-pub shown_where : (p : Problem) (s : Pairs) (cert : Cert) → IsAccepted p → IsCertOf (problem_outline p) cert → {T : Type 0} (r : Result T CertFault) → Checked (checks_of p s cert) r → OnOk r (IsShown p s cert)
+pub shown_where : (p : Problem) (s : Pairs) (cert : Cert) → IsAccepted p → IsCertOf (problem_outline p) cert → {T : Type 0} (r : Result T CertFault) → Checked (checks_of p s cert) r
+    → OnOk r (IsShown p s cert)
 shown_where p s cert ok of (Ok x) h = passed_are_shown p s cert ok of h
 shown_where p s cert ok of (Err f) h = tt

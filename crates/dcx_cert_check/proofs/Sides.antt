@@ -86,11 +86,13 @@ module _ (p : Problem) (setting point : Pairs) where
       (subst (λ g. Checked (numbers_hold c.kind (length left.entries) (number_at left.entries) g k) r) (numbers_are_values c.right.0 right m) h))
 
   -- the number of the objective is the objective
-  pub objective_is_value : (v : Array) → IsValueOf p.tree setting point p.objective.0 v → (x : ℚ) → x ≡ minimized (sense_of p.sense) (number_at v.entries 0) → x ≡ objective_at p (setting_of p setting) (point_of p point)
+  pub objective_is_value : (v : Array) → IsValueOf p.tree setting point p.objective.0 v → (x : ℚ) → x ≡ minimized (sense_of p.sense) (number_at v.entries 0)
+      → x ≡ objective_at p (setting_of p setting) (point_of p point)
   objective_is_value v is x e = e ∙ ap (minimized (sense_of p.sense)) (number_is_value p.objective.0 v is 0)
 
 -- ---- the first entry that breaks a constraint
-pub broken_fails : (kind : Kind) (left right : List Frac) (k entry : ℕ) (x y : Frac) → IsFirstBroken kind left right entry x y → (numbers_hold kind (length left) (number_at left) (number_at right) k).fails (faults.Constraint k entry x y)
+pub broken_fails : (kind : Kind) (left right : List Frac) (k entry : ℕ) (x y : Frac) → IsFirstBroken kind left right entry x y
+    → (numbers_hold kind (length left) (number_at left) (number_at right) k).fails (faults.Constraint k entry x y)
 broken_fails kind left right k entry x y b = record {
   position = entry;
   there = slice_get_within left entry x b.left_is;

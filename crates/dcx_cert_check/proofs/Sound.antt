@@ -20,7 +20,7 @@ use Rattle.dcx_tree.proofs.Lawful.{mapped}
 use Rattle.dcx_domain.specs.Points.{IsInside}
 use Rattle.dcx_domain.proofs.Entries.{entries_hold}
 use Rattle.dcx_domain.proofs.Points.{points_hold}
-use Rattle.dcx_fit.proofs.Misfits.{holds_at}
+use Rattle.dcx_math.proofs.Lists.{holds_at}
 use Rattle.dcx_answer.specs.declared.cert_fault.CertFault.{CertFault}
 use Rattle.dcx_answer.specs.declared.cert_fault.CertFault.TheVariants as faults
 use Rattle.dcx_cert_values.proofs.Nonzero.{divisors_hold}
@@ -41,7 +41,8 @@ told_alike : (p : Problem) (told setting : Pairs) → (checks.setting_is p (Some
 unfolding Told
 told_alike p told setting = (
   (λ h. all_of _ p.parameters (λ k q at. passed_at p.parameters (checks.parameter_is told setting) h k q at)),
-  (λ h. passed_each p.parameters (checks.parameter_is told setting) (λ k q at. holds_at (λ q. (j : ℕ) → j < entries_of (sides_of q.shape) → given_by told q.name j ≡ given_by setting q.name j) p.parameters k q h at)),
+  (λ h. passed_each p.parameters (checks.parameter_is told setting) (λ k q at. holds_at
+      (λ q. (j : ℕ) → j < entries_of (sides_of q.shape) → given_by told q.name j ≡ given_by setting q.name j) p.parameters k q h at)),
 )
 
 -- ---- points

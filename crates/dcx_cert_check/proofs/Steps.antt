@@ -31,11 +31,6 @@ pub in_settled : {X : Type 0} (xs : List X) (check : ℕ → X → Check) → ((
 in_settled xs check settled = settled_together.many (length xs) (λ k. check_if (check k) (slice_get xs k)) (λ k. if_settled (check k) (settled k) (slice_get xs k))
 
 -- ---- one check and then another
--- the first one stops
-pub first_stops : (a b : Check) (f : CertFault) → (f ≡ Memory) ⊎ a.fails f → (f ≡ Memory) ⊎ (in_turn a b).fails f
-first_stops a b f (inl e) = inl e
-first_stops a b f (inr h) = inr (inl h)
-
 -- it passes, and the second one counts
 pub second_counts : (a b : Check) {T : Type 0} (r : Result T CertFault) → a.passes → Checked b r → Checked (in_turn a b) r
 second_counts a b (Ok x) p h = (p, h)

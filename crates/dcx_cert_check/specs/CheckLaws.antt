@@ -1,4 +1,4 @@
--- The main statements, as the clauses of the laws say them.
+-- The laws of single checks: each tells one thing, and what they show where they pass.
 use Rattle.std.specs.Prelude.{◌≡◌, ℕ, ◌<◌, ◌↔◌, List, map, Option, Some}
 use Rattle.std.specs.List.{All}
 use Rattle.dcx_math.specs.Rational.{◌≤ℚ◌}
@@ -35,7 +35,8 @@ pub record AreSettled : Type 0 where
 -- what is shown where the checks pass
 pub record AreSound : Type 0 where
   pub fitting : (p : Problem) (setting : Pairs) → IsAccepted p → (setting_fits p setting).passes → IsFitting p setting
-  pub told : (p : Problem) (told setting : Pairs) → (setting_is p (Some told) setting).passes ↔ All (λ q. (j : ℕ) → j < entries_of (sides_of q.shape) → given_by told q.name j ≡ given_by setting q.name j) p.parameters
+  pub told : (p : Problem) (told setting : Pairs) → (setting_is p (Some told) setting).passes
+      ↔ All (λ q. (j : ℕ) → j < entries_of (sides_of q.shape) → given_by told q.name j ≡ given_by setting q.name j) p.parameters
   pub point : (p : Problem) (point : Pairs) → (point_inside p point).passes ↔ IsInDomain p (point_of p point)
   pub domain_point : (p : Problem) (point : Pairs) → GivesVariables p point → (point_inside p point).passes → IsDomainPoint p point
   pub ray : (p : Problem) (ray : Pairs) → (ray_inside p ray).passes ↔ IsInDomain p (point_of p ray)

@@ -1,4 +1,4 @@
--- What the contracts of this crate cite.
+-- What contracts cite: the checks of a certificate, their demands and faults, and what passing them shows.
 pub mod Shown
 pub mod Checks
 pub mod Laws

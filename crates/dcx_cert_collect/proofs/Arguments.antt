@@ -65,8 +65,9 @@ share_next f xs t u i x b is e =
     shares-next t u (map f xs) i (f x) inside (item_of f xs i x is) e
 
 -- the slopes of an argument up to the next one
-pub slope_next : (nodes : List Node) (ids : List NodeId) (k : ℕ) (slope : ℕ → Frac) (t u : List Frac) (e : ℕ) (place : Option ℕ) (x : Frac) → place ≡ place_of nodes (slice_get (positions ids) k) e → x ≡ slope e →
-    with_shares t (list_below e (λ i. share_to nodes (positions ids) k i (Ok (slope i)))) ≡ Ok u →
+pub slope_next : (nodes : List Node) (ids : List NodeId) (k : ℕ) (slope : ℕ → Frac) (t u : List Frac) (e : ℕ) (place : Option ℕ) (x : Frac) → place ≡ place_of nodes (slice_get (positions ids) k) e
+    → x ≡ slope e
+    → with_shares t (list_below e (λ i. share_to nodes (positions ids) k i (Ok (slope i)))) ≡ Ok u →
     with_shares t (list_below (e + 1) (λ i. share_to nodes (positions ids) k i (Ok (slope i)))) ≡ with_share u (share_of place (Ok x))
 slope_next nodes ids k slope t u e place x at is so_far =
     below-next t u (λ i. share_to nodes (positions ids) k i (Ok (slope i))) e so_far ∙ ap (with_share u) (sym (same_share place _ (Ok x) _ at (ap Ok is)))
@@ -106,7 +107,8 @@ rest_next ss xs rest others k size b is so_far left =
     left ∙ ap (drop size) so_far ∙ drop_twice size (entries_before ss k) xs ∙ ap (λ n. drop n xs) (ap (λ n. entries_before ss k + n) is ∙ sym (entries_more ss k b))
 
 -- there are enough left
-pub rest_enough : (ss : List Sides) (xs rest : List Frac) (k size : ℕ) → k < length ss → size ≡ entries_of (sides_at ss k) → length xs ≡ all_entries ss → rest ≡ drop (entries_before ss k) xs → size ≤ length rest
+pub rest_enough : (ss : List Sides) (xs rest : List Frac) (k size : ℕ) → k < length ss → size ≡ entries_of (sides_at ss k) → length xs ≡ all_entries ss → rest ≡ drop (entries_before ss k) xs
+    → size ≤ length rest
 rest_enough ss xs rest k size b is all so_far =
     omega (arith, is, all, ap length so_far, length-drop (entries_before ss k) xs, entries_more ss k b, entries_fit ss (k + 1))
 
@@ -115,11 +117,13 @@ slopes_of_own xs rest own n size e left first b =
     ap (λ ys. get_or ys e zero_frac) first ∙ get_or-take size rest e zero_frac b ∙ ap (λ ys. get_or ys e zero_frac) left ∙ get_or-drop n xs e zero_frac
 
 -- what goes to the next argument
-pub argument_shares : (nodes : List Node) (args : List ℕ) (ss : List Sides) (xs rest own : List Frac) (k size : ℕ) → size ≡ entries_of (sides_at ss k) → rest ≡ drop (entries_before ss k) xs → own ≡ take size rest → length own ≡ size →
-    list_below (length own) (λ e. share_to nodes args k e (Ok (frac_in own e))) ≡ list_below (entries_of (sides_at ss k)) (λ e. share_to nodes args k e (Ok (frac_in xs (entries_before ss k + e))))
+pub argument_shares : (nodes : List Node) (args : List ℕ) (ss : List Sides) (xs rest own : List Frac) (k size : ℕ) → size ≡ entries_of (sides_at ss k) → rest ≡ drop (entries_before ss k) xs
+    → own ≡ take size rest → length own ≡ size
+    → list_below (length own) (λ e. share_to nodes args k e (Ok (frac_in own e))) ≡ list_below (entries_of (sides_at ss k)) (λ e. share_to nodes args k e (Ok (frac_in xs (entries_before ss k + e))))
 argument_shares nodes args ss xs rest own k size is left first count =
     ap (λ m. list_below m (λ e. share_to nodes args k e (Ok (frac_in own e)))) count
-    ∙ list_below-same size _ (λ e. share_to nodes args k e (Ok (frac_in xs (entries_before ss k + e)))) (λ e b. ap (λ x. share_to nodes args k e (Ok x)) (slopes_of_own xs rest own (entries_before ss k) size e left first b))
+    ∙ list_below-same size _ (λ e. share_to nodes args k e (Ok (frac_in xs (entries_before ss k + e))))
+    (λ e b. ap (λ x. share_to nodes args k e (Ok x)) (slopes_of_own xs rest own (entries_before ss k) size e left first b))
     ∙ ap (λ m. list_below m (λ e. share_to nodes args k e (Ok (frac_in xs (entries_before ss k + e))))) is
 
 -- the numbers of a node's entries up to the next one

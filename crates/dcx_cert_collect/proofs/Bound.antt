@@ -76,7 +76,7 @@ first_then t u ss rs e = by (with_shares t ss) refl (sym (shares-append t ss rs)
     by (Ok v) is h = (v, is, h)
     by (Err q) is h = cc
 
-more : (u v t a b : ℚ) → u ≡ v +ℚ b → v ≡ t +ℚ a → u ≡ t +ℚ (a +ℚ b)
+pub more : (u v t a b : ℚ) → u ≡ v +ℚ b → v ≡ t +ℚ a → u ≡ t +ℚ (a +ℚ b)
 more u v t a b e h = e ∙ ap (λ r. r +ℚ b) h ∙ +ℚ_assoc t a b
 
 pub single : (t u : List Frac) (s : Share) → with_shares t (s ∷ []) ≡ Ok u → with_share t s ≡ Ok u
@@ -87,8 +87,8 @@ single t u s e = by (with_share t s) e
     by (Err q) h = cc
 
 -- each item gives a share
-pub map_dot : {A : Type 0} (F : Numbers) (n : ℕ) (h : A → Share) (w : A → ℚ) (xs : List A) → All (λ a. IsWorth F n (h a) (w a)) xs → (t u : List Frac) → length t ≡ n → with_shares t (map h xs) ≡ Ok u →
-    dot u F ≡ dot t F +ℚ rat_sum_by w xs
+pub map_dot : {A : Type 0} (F : Numbers) (n : ℕ) (h : A → Share) (w : A → ℚ) (xs : List A) → All (λ a. IsWorth F n (h a) (w a)) xs → (t u : List Frac) → length t ≡ n → with_shares t (map h xs) ≡ Ok u
+    → dot u F ≡ dot t F +ℚ rat_sum_by w xs
 map_dot F n h w [] each t u count e = ap (λ v. dot v F) (sym (same_Ok {E = Passes} t u e)) ∙ sym (+ℚ_idr _)
 map_dot F n h w (x ∷ xs) each t u count e =
     let (v, first, rest) = one_then t u (h x) (map h xs) e in

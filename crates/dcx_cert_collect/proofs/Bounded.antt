@@ -33,7 +33,7 @@ use Rattle.dcx_call.specs.declared.call.Call.TheVariants as calls
 use Rattle.dcx_call.specs.Atoms.{atom_meaning, atom_lawful}
 use Rattle.dcx_call.specs.Linears.{linear_meaning, linear_lawful}
 use Rattle.dcx_call.specs.Calls.{shape_of, sides_of_two}
-use Rattle.dcx_call.specs.Exact.{HaveFewEntries}
+use Rattle.dcx_atom.specs.Fractions.{HaveFewEntries, AreFractionSlopes}
 use Rattle.dcx_call.proofs.Coefficients.{coefficients_fit}
 use Rattle.dcx_tree.specs.Nodes.{Names, Node, pairs_of, head_of, arg_sides}
 use Rattle.dcx_tree.specs.Values.{array_at}
@@ -43,7 +43,7 @@ use Rattle.dcx_cert_collect.specs.Shares.{frac_in, Share, with_shares}
 use Rattle.dcx_cert_collect.specs.Starts.{start_of, place_of}
 use Rattle.dcx_cert_collect.specs.Calls.{unless, slopes_stop, slope_shares, slope_frac, linear_shares, pairing_shares}
 use Rattle.dcx_cert_collect.specs.declared.pairs.Scaling.TheVariants.{ByRight, ByLeft, Divided}
-use Rattle.dcx_cert_collect.specs.Pass.{Kept, begin, or_passes, handed, with_below, with_total, counted, reached_by, reached_if, call_shares, pairing_hands, shares_if, node_reached, node_shares, AreFractions, HaveFractions, passed, step, then_on, pass_down}
+use Rattle.dcx_cert_collect.specs.Pass.{Kept, begin, or_passes, handed, with_below, with_total, counted, reached_by, reached_if, call_shares, pairing_hands, shares_if, node_reached, node_shares, HaveFractions, passed, step, then_on, pass_down}
 use Rattle.dcx_cert_collect.specs.Laws.{table_times, reached_times, HasKnownSide, MayHandOn, AreKnown}
 use Rattle.dcx_cert_collect.proofs.Starting.{start_next, start_within, start_all}
 use Rattle.dcx_cert_collect.proofs.Passing.{same_Ok, own_count, start_inside, passed_count}
@@ -228,7 +228,7 @@ module _ (names : Names) (nodes : List Node) (are : AreNodes shape_of nodes) (s 
     over_bound o None right same h e = cc
 
     -- what a node hands on or keeps is worth at most what its coefficients are
-    pub call_bound : (call : Call) → n.call ≡ call → MayHandOn values call n.args → ((m : AtomCall) → call ≡ calls.Atom m → AreFractions (atom_meaning m) ss ws) → handed t (call_shares nodes values i call n.args ss cs ws) ≡ Ok u →
+    pub call_bound : (call : Call) → n.call ≡ call → MayHandOn values call n.args → ((m : AtomCall) → call ≡ calls.Atom m → AreFractionSlopes (atom_meaning m) ss ws) → handed t (call_shares nodes values i call n.args ss cs ws) ≡ Ok u →
         dot u F +ℚ reached_times (reached_by i call cs) f ≤ℚ dot t F +ℚ own_times i cs
     call_bound (calls.Variable v) same may fit e = ≤ℚ-from_≡ (ap₂ ◌+ℚ◌ (ap (λ xs. dot xs F) (sym (same_Ok {E = CollectStop} t u e))) (+ℚ_idr (own_times i cs)))
     call_bound (calls.Parameter q) same may fit e = absurd may
@@ -284,7 +284,7 @@ module _ (names : Names) (nodes : List Node) (are : AreNodes shape_of nodes) (s 
 
   -- and else it hands on
   handed_bound : (i : ℕ) → i < length nodes → (n : Node) → IsNode nodes i n → array_at values i ≡ None → (cs ws : List Frac) (kept after : Kept) → length cs ≡ entries_of n.sides → length kept.below ≡ start_of nodes i →
-      ((m : AtomCall) → n.call ≡ calls.Atom m → AreFractions (atom_meaning m) (arg_sides nodes n) ws) →
+      ((m : AtomCall) → n.call ≡ calls.Atom m → AreFractionSlopes (atom_meaning m) (arg_sides nodes n) ws) →
       with_below kept (node_reached nodes i cs) (handed kept.below (node_shares nodes values i cs ws)) ≡ Ok after →
       worth after ≤ℚ value kept.total +ℚ reached_times kept.reached f +ℚ (dot kept.below F +ℚ own_times i cs)
   handed_bound i b n at none cs ws kept after size start fit e =
@@ -305,9 +305,9 @@ module _ (names : Names) (nodes : List Node) (are : AreNodes shape_of nodes) (s 
   node_there i b = (get_or nodes i (some_item nodes i b), slice_get-get_or nodes i (some_item nodes i b) b)
 
   own_fractions : (weights : ℕ → List Frac) → HasOwnFractions weights → (i : ℕ) → i < length nodes → array_at values i ≡ None → (n : Node) → IsNode nodes i n → (m : AtomCall) → n.call ≡ calls.Atom m →
-      AreFractions (atom_meaning m) (arg_sides nodes n) (weights i)
+      AreFractionSlopes (atom_meaning m) (arg_sides nodes n) (weights i)
   own_fractions weights fractions i b none n at m same =
-      subst (λ xs. AreFractions (atom_meaning m) (map (sides_of_node nodes) xs) (weights i)) (ap (λ (o : Option Node). unwrap_or (option_map (λ (k : Node). k.args) o) []) at)
+      subst (λ xs. AreFractionSlopes (atom_meaning m) (map (sides_of_node nodes) xs) (weights i)) (ap (λ (o : Option Node). unwrap_or (option_map (λ (k : Node). k.args) o) []) at)
       (fractions i b none m (ap (option_map (λ (k : Node). k.call)) at ∙ ap Some same))
 
   own_sides : (i : ℕ) (n : Node) → IsNode nodes i n → sides_of_node nodes i ≡ n.sides

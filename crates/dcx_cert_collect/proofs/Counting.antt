@@ -24,7 +24,7 @@ zero_quotient x y z e h =
     let is : value z ≡ value x /ℚ value y = h ∙ sym (over_zero (value x) (value y) e) in
     is_quotient_of x y (Ok z) (record { exact = is; fits = ((λ _. subst IsRepresentable is (value_representable z)), (λ _. refl)); told = tt })
 
-next : (n : ℕ) → n + 1 ≡ suc n
+pub next : (n : ℕ) → n + 1 ≡ suc n
 next n = omega arith
 
 -- one more entry
@@ -42,8 +42,9 @@ pub counted-within : (s : Frac) (f : ℕ → Frac × Frac) (m n : ℕ) (p : Pass
 counted-within s f m n p b e = let same : (n - m) + m ≡ n = omega (arith, b) in ap (λ k. products_from s (list_below k f)) (sym same) ∙ counted-later s f m (n - m) p e
 
 -- one more entry, where its two operations are told
-pub product_next : (s t c x : Frac) (f : ℕ → Frac × Frac) (n : ℕ) (product : Result Frac Passes) → ◌≡◌ {A = Frac × Frac} (f n) (c, x) → product ≡ added_product t (c, x) → products_from s (list_below n f) ≡ Ok t →
-    products_from s (list_below (n + 1) f) ≡ product
+pub product_next : (s t c x : Frac) (f : ℕ → Frac × Frac) (n : ℕ) (product : Result Frac Passes) → ◌≡◌ {A = Frac × Frac} (f n) (c, x) → product ≡ added_product t (c, x)
+    → products_from s (list_below n f) ≡ Ok t
+    → products_from s (list_below (n + 1) f) ≡ product
 product_next s t c x f n product is made e = counted-next s t f n e ∙ ap (added_product t) is ∙ sym made
 
 pub pair_is : (a c x y : Frac) → c ≡ a → y ≡ x → ◌≡◌ {A = Frac × Frac} (a, x) (c, y)

@@ -1,5 +1,6 @@
 -- Where all that reaches the variables may, the total bounds the Lagrangian.
-use Rattle.std.proofs.Common.{◌≡◌, ℕ, zero, suc, ◌+◌, ◌≤◌, arith, true, false, List, [], ◌∷◌, ◌++◌, map, length, take, drop, All, refl, sym, ap, ◌∙◌, subst, Option, Some, None, Result, Ok, Err, slice_get, pos}
+use Rattle.std.proofs.Common.{◌≡◌, ℕ, zero, suc, ◌+◌, ◌≤◌, arith, true, false, List, [], ◌∷◌, ◌++◌, map, length, take, drop, All}
+use Rattle.std.proofs.Common.{refl, sym, ap, ◌∙◌, subst, Option, Some, None, Result, Ok, Err, slice_get, pos}
 use Rattle.std.specs.Prelude.{option_map}
 use Rattle.std.proofs.lemmas.List.Elements.{All-head, All-tail, All-cons, All-nil, All-append}
 use Rattle.std.proofs.lemmas.Option.{same_Some, slice_get-map}
@@ -52,11 +53,11 @@ pub record IsOfVariable (nodes : List Node) (r : Reached) : Type 0 where
   pub at : call_at nodes r.node.0 ≡ Some (calls.Variable variable)
   pub size : length r.coefficients ≡ entries_of (sides_of variable.shape)
 
-after_below : (kept after : Kept) (more : List Reached) (r : Result (List Frac) CollectStop) → with_below kept more r ≡ Ok after → after.reached ≡ kept.reached ++ more
+pub after_below : (kept after : Kept) (more : List Reached) (r : Result (List Frac) CollectStop) → with_below kept more r ≡ Ok after → after.reached ≡ kept.reached ++ more
 after_below kept after more (Ok u) e = ap (λ (k : Kept). k.reached) (sym (same_Ok {E = CollectStop} (record { below = u; reached = kept.reached ++ more; total = kept.total }) after e))
 after_below kept after more (Err stop) e = cc
 
-after_total : (kept after : Kept) (r : Result Frac CollectStop) → with_total kept r ≡ Ok after → after.reached ≡ kept.reached
+pub after_total : (kept after : Kept) (r : Result Frac CollectStop) → with_total kept r ≡ Ok after → after.reached ≡ kept.reached
 after_total kept after (Ok z) e = ap (λ (k : Kept). k.reached) (sym (same_Ok {E = CollectStop} (record { below = kept.below; reached = kept.reached; total = z }) after e))
 after_total kept after (Err stop) e = cc
 
@@ -68,7 +69,11 @@ module _ (nodes : List Node) (are : AreNodes shape_of nodes) where
       by None at = All-nil (IsOfVariable nodes)
       by (Some (calls.Variable v)) at =
           All-cons (IsOfVariable nodes) (record { node = record { 0 = i }; coefficients = cs }) []
-          (record { variable = v; at = at; size = size ∙ ap entries_of (sym (own_is (sides_of v.shape) (map (sides_at nodes) (args_at nodes i)) (sides_at nodes i) (node_shape nodes are i (calls.Variable v) at))) })
+          (record {
+            variable = v;
+            at = at;
+            size = size ∙ ap entries_of (sym (own_is (sides_of v.shape) (map (sides_at nodes) (args_at nodes i)) (sides_at nodes i) (node_shape nodes are i (calls.Variable v) at)));
+          })
           (All-nil (IsOfVariable nodes))
       by (Some (calls.Parameter q)) at = All-nil (IsOfVariable nodes)
       by (Some (calls.Constant x)) at = All-nil (IsOfVariable nodes)
@@ -76,15 +81,19 @@ module _ (nodes : List Node) (are : AreNodes shape_of nodes) where
       by (Some (calls.Linear l)) at = All-nil (IsOfVariable nodes)
       by (Some (calls.Pairing q)) at = All-nil (IsOfVariable nodes)
 
-  passed_variables : (values : List (Option Array)) (weights : ℕ → List Frac) (i : ℕ) (o : Option Array) (cs : List Frac) (kept after : Kept) → length cs ≡ entries_of (sides_at nodes i) → All (IsOfVariable nodes) kept.reached →
-      passed nodes values weights i o cs kept ≡ Ok after → All (IsOfVariable nodes) after.reached
-  passed_variables values weights i (Some x) cs kept after size all e = subst (All (IsOfVariable nodes)) (sym (after_total kept after (or_passes (products_from kept.total (counted cs x.entries))) e)) all
+  passed_variables : (values : List (Option Array)) (weights : ℕ → List Frac) (i : ℕ) (o : Option Array) (cs : List Frac) (kept after : Kept) → length cs ≡ entries_of (sides_at nodes i)
+      → All (IsOfVariable nodes) kept.reached
+      → passed nodes values weights i o cs kept ≡ Ok after → All (IsOfVariable nodes) after.reached
+  passed_variables values weights i (Some x) cs kept after size all e =
+      subst (All (IsOfVariable nodes)) (sym (after_total kept after (or_passes (products_from kept.total (counted cs x.entries))) e)) all
   passed_variables values weights i None cs kept after size all e =
       subst (All (IsOfVariable nodes)) (sym (after_below kept after (node_reached nodes i cs) (handed kept.below (node_shares nodes values i cs (weights i))) e))
       (All-append (IsOfVariable nodes) kept.reached (node_reached nodes i cs) all (own_variable i cs size))
 
-module _ (names : Names) (nodes : List Node) (are : AreNodes shape_of nodes) (s : Setting) (values : List (Option Array)) (known : AreKnown names nodes s values) (weights : ℕ → List Frac) (y : Point) where
-  pass_variables : (m : ℕ) → m ≤ length nodes → (kept after : Kept) → length kept.below ≡ start_of nodes m → All (IsOfVariable nodes) kept.reached → pass_down nodes values weights m kept ≡ Ok after → All (IsOfVariable nodes) after.reached
+module _ (names : Names) (nodes : List Node) (are : AreNodes shape_of nodes) (s : Setting) (values : List (Option Array)) (known : AreKnown names nodes s values) (weights : ℕ → List Frac)
+    (y : Point) where
+  pass_variables : (m : ℕ) → m ≤ length nodes → (kept after : Kept) → length kept.below ≡ start_of nodes m → All (IsOfVariable nodes) kept.reached → pass_down nodes values weights m kept ≡ Ok after
+      → All (IsOfVariable nodes) after.reached
   pass_variables zero b kept after count all e = subst (λ (k : Kept). All (IsOfVariable nodes) k.reached) (same_Ok {E = CollectStop} kept after e) all
   pass_variables (suc m) b kept after count all e =
       by (step nodes values weights m kept) refl (λ mid k every h. pass_variables m (omega (arith, b)) mid after k every h) e
@@ -100,7 +109,8 @@ module _ (names : Names) (nodes : List Node) (are : AreNodes shape_of nodes) (s 
           then_on nodes values weights r (pass_down nodes values weights m) ≡ Ok after → All (IsOfVariable nodes) after.reached
       by (Ok mid) is rest h =
           rest mid (step_count names nodes are s values known y weights m (omega (arith, b)) kept mid counted_more is)
-          (passed_variables nodes are values weights m (array_at values m) (drop (start_of nodes m) kept.below) (record { below = take (start_of nodes m) kept.below; reached = kept.reached; total = kept.total }) mid
+          (passed_variables nodes are values weights m (array_at values m) (drop (start_of nodes m) kept.below)
+          (record { below = take (start_of nodes m) kept.below; reached = kept.reached; total = kept.total }) mid
           (parts names nodes are s values known y m (omega (arith, b)) kept.below counted_more).1 all is) h
       by (Err stop) is rest h = cc
 
@@ -130,17 +140,21 @@ module _ (names : Names) (nodes : List Node) (are : AreNodes shape_of nodes) (s 
     all_nonneg : (rs : List Reached) → All (IsOfVariable nodes) rs → All (MayReachIn nodes) rs → whole (pos 0) ≤ℚ reached_times rs (at_point names nodes are s y)
     all_nonneg [] of may = ≤ℚ_refl _
     all_nonneg (r ∷ rs) of may =
-        both_nonneg _ _ (one_nonneg r (All-head (IsOfVariable nodes) r rs of) (All-head (MayReachIn nodes) r rs may)) (all_nonneg rs (All-tail (IsOfVariable nodes) r rs of) (All-tail (MayReachIn nodes) r rs may))
+        both_nonneg _ _ (one_nonneg r (All-head (IsOfVariable nodes) r rs of) (All-head (MayReachIn nodes) r rs may))
+        (all_nonneg rs (All-tail (IsOfVariable nodes) r rs of) (All-tail (MayReachIn nodes) r rs may))
 
     pub below_total : HaveFractions nodes values weights → (table : List Frac) → length table ≡ entries_in nodes → (reached : List Reached) (total : Frac) →
-        pass_down nodes values weights (length nodes) (begin table) ≡ Ok (record { below = []; reached = reached; total = total }) → All (MayReachIn nodes) reached → value total ≤ℚ table_times nodes table (at_point names nodes are s y)
+        pass_down nodes values weights (length nodes) (begin table) ≡ Ok (record { below = []; reached = reached; total = total }) → All (MayReachIn nodes) reached
+        → value total ≤ℚ table_times nodes table (at_point names nodes are s y)
     below_total fractions table count reached total e may =
         drop_nonneg _ _ _
-        (all_nonneg reached (pass_variables (length nodes) (omega arith) (begin table) (record { below = []; reached = reached; total = total }) (count ∙ sym (start_all nodes)) (All-nil (IsOfVariable nodes)) e) may)
+        (all_nonneg reached (pass_variables (length nodes) (omega arith) (begin table) (record { below = []; reached = reached; total = total }) (count ∙ sym (start_all nodes))
+        (All-nil (IsOfVariable nodes)) e) may)
         (total_bounds names nodes are s values known y weights fractions table count reached total e)
 
-pub totals_are_bounds : (p : Problem) (s : Setting) (values : List (Option Array)) (weights : ℕ → List Frac) (duals : List Array) → AreKnown (names_in p) p.tree s values → HaveFractions p.tree values weights → AreSquareIn p.tree →
-    AreDuals p duals → TotalIsABound p s values weights duals
+pub totals_are_bounds : (p : Problem) (s : Setting) (values : List (Option Array)) (weights : ℕ → List Frac) (duals : List Array) → AreKnown (names_in p) p.tree s values
+    → HaveFractions p.tree values weights → AreSquareIn p.tree
+    → AreDuals p duals → TotalIsABound p s values weights duals
 totals_are_bounds p s values weights duals known fractions squares are = record {
   lagrangian = λ table first reached total e may y domain. (
       ≤ℚ_trans (below_total (names_in p) p.tree p.nodes s values known weights y squares domain fractions table (start_count p duals true table first) reached total e may)
@@ -150,8 +164,9 @@ totals_are_bounds p s values weights duals known fractions squares are = record 
       (≤ℚ-from_≡ (start_penalty p duals are (at_point (names_in p) p.tree p.nodes s y) table first)));
 }
 
-pub totals_show_answers : (p : Problem) (s : Setting) (values : List (Option Array)) (weights : ℕ → List Frac) (duals : List Array) → AreKnown (names_in p) p.tree s values → HaveFractions p.tree values weights → AreSquareIn p.tree →
-    AreDuals p duals → TotalShowsAnswers p s values weights duals
+pub totals_show_answers : (p : Problem) (s : Setting) (values : List (Option Array)) (weights : ℕ → List Frac) (duals : List Array) → AreKnown (names_in p) p.tree s values
+    → HaveFractions p.tree values weights → AreSquareIn p.tree
+    → AreDuals p duals → TotalShowsAnswers p s values weights duals
 totals_show_answers p s values weights duals known fractions squares are =
     let bounds = totals_are_bounds p s values weights duals known fractions squares are in
     record {

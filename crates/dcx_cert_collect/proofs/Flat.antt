@@ -114,7 +114,8 @@ split m (suc n) g =
     let e : m + suc n ≡ suc (m + n) = omega arith in
     ap (λ k. rat_sum_below k g) e ∙ ap (λ r. r +ℚ g (m + n)) (split m n g) ∙ +ℚ_assoc _ _ _
 
-pub by_nodes : (nodes : List Node) (g : Numbers) (n : ℕ) → n ≤ length nodes → rat_sum_below (start_of nodes n) g ≡ rat_sum_below n (λ i. rat_sum_below (entries_of (sides_at nodes i)) (λ e. g (start_of nodes i + e)))
+pub by_nodes : (nodes : List Node) (g : Numbers) (n : ℕ) → n ≤ length nodes
+    → rat_sum_below (start_of nodes n) g ≡ rat_sum_below n (λ i. rat_sum_below (entries_of (sides_at nodes i)) (λ e. g (start_of nodes i + e)))
 by_nodes nodes g zero b = refl
 by_nodes nodes g (suc n) b =
     let h : n < length nodes = omega (arith, b) in

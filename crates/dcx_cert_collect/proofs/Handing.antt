@@ -6,8 +6,7 @@ use Rattle.std.proofs.Math.ListN.{get_or-map}
 use Rattle.dcx_frac.specs.declared.fraction.Frac.{Frac}
 use Rattle.dcx_frac.specs.declared.fraction.Passes.{Passes}
 use Rattle.dcx_frac.specs.Fits.{IsRepresentable}
-use Rattle.dcx_frac.proofs.Parts.{value_representable}
-use Rattle.dcx_call.proofs.CallValues.{zero_fits}
+use Rattle.dcx_atom.proofs.Fractions.{number_fits}
 use Rattle.dcx_shape.specs.declared.shape.Shape.{Shape}
 use Rattle.dcx_shape.specs.declared.shape.Sides.{Sides}
 use Rattle.dcx_shape.specs.Sides.{entries_of}
@@ -34,7 +33,8 @@ use Rattle.dcx_cert_collect.specs.declared.pairs.Scaling.{Scaling}
 use Rattle.dcx_cert_collect.specs.declared.stop.CollectStop.{CollectStop}
 use Rattle.dcx_cert_collect.specs.Shares.{frac_in, Share, with_shares}
 use Rattle.dcx_cert_collect.specs.Calls.{share_to, term_share, linear_shares, first_of_entries, slope_frac, slope_shares, stop_of, unless, atom_shares, scaling_of, scaling_numbers, pair_share, pairing_shares}
-use Rattle.dcx_cert_collect.specs.Pass.{or_passes, IsOrMemory, handed, pairing_hands, AreFractions}
+use Rattle.dcx_cert_collect.specs.Pass.{or_passes, IsOrMemory, handed, pairing_hands}
+use Rattle.dcx_atom.specs.Fractions.{AreFractionSlopes}
 use Rattle.dcx_cert_collect.proofs.Starting.{listed, many}
 
 -- ---- shares that are told in two ways
@@ -172,12 +172,7 @@ unfolding first
 argument_number ids k = get_or-map (λ (i : NodeId). i.0) ids k first
 
 -- ---- listed slopes are fractions
-number_fits : (xs : List Frac) (p : ℕ) → IsRepresentable (number_at xs p)
-number_fits [] p = zero_fits
-number_fits (x ∷ xs) zero = value_representable x
-number_fits (x ∷ xs) (suc p) = number_fits xs p
-
-pub slopes_fit : (m : Meaning) (ss : List Sides) (size : ℕ) (cs ws gs : List Frac) → AreSlopesOf m ss size cs ws gs → AreFractions m ss ws
+pub slopes_fit : (m : Meaning) (ss : List Sides) (size : ℕ) (cs ws gs : List Frac) → AreSlopesOf m ss size cs ws gs → AreFractionSlopes m ss ws
 slopes_fit m ss size cs ws gs are = λ k e b c. subst IsRepresentable (are.slopes k e b c) (number_fits gs (entries_before ss k + e))
 
 pub on_ok : {A E P : Type 0} (r : Result A E) → P → OnOk r P

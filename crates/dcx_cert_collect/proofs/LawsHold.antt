@@ -1,4 +1,4 @@
--- The laws hold.
+-- The pass raises no bound, begins at the Lagrangian, and its total bounds that: the laws' proofs.
 use Rattle.dcx_cert_collect.specs.Laws.{CollectedIsABound, StartsAreLagrangians, TotalsAreBounds, TotalsShowAnswers}
 use Rattle.dcx_cert_collect.proofs.Bounded.{total_bounds}
 use Rattle.dcx_cert_collect.proofs.Final.{totals_are_bounds, totals_show_answers}

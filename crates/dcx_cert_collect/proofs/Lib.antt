@@ -1,4 +1,4 @@
--- The lemmas.
+-- The lemmas by which the pass raises no bound, so that the total bounds the Lagrangian.
 pub mod Sharing
 pub mod Starting
 pub mod Arguments

@@ -1,5 +1,6 @@
 -- The coefficients at the start times the numbers of the nodes are the Lagrangian.
-use Rattle.std.proofs.Common.{◌≡◌, ℕ, zero, suc, ◌+◌, ◌<◌, arith, Bool, true, false, nat_lt, if◌then◌else◌, List, [], ◌∷◌, map, length, replicate, refl, sym, ap, ap₂, ◌∙◌, subst, Option, Some, None, Ok, slice_get, pos, negsuc}
+use Rattle.std.proofs.Common.{◌≡◌, ℕ, suc, ◌+◌, ◌<◌, arith, Bool, true, false, nat_lt, if◌then◌else◌, List, [], ◌∷◌, map, length}
+use Rattle.std.proofs.Common.{replicate, refl, sym, ap, ap₂, ◌∙◌, subst, Option, Some, None, Ok, slice_get, pos, negsuc}
 use Rattle.std.specs.Prelude.{option_map}
 use Rattle.std.proofs.lemmas.Bool.{false≢true, lt-ltb}
 use Rattle.std.proofs.lemmas.List.{length-map, length-replicate}
@@ -7,7 +8,7 @@ use Rattle.std.proofs.lemmas.Option.{slice_get-map, get_or_from_slice_get}
 use Rattle.dcx_math.specs.Rational.{ℚ, whole, ◌+ℚ◌, ◌-ℚ◌, ◌*ℚ◌, neg_ℚ}
 use Rattle.dcx_math.specs.Sums.{rat_sum_below}
 use Rattle.dcx_math.proofs.Ring.{ring, reads}
-use Rattle.dcx_math.proofs.Orders.{+ℚ_idl, +ℚ_assoc, *ℚ_idl}
+use Rattle.dcx_math.proofs.Orders.{+ℚ_idl, *ℚ_idl}
 use Rattle.dcx_math.proofs.Sums.{rat_sum_below-same, rat_sum_below-first, rat_sum_below-+ℚ}
 use Rattle.dcx_frac.specs.declared.fraction.Frac.{Frac}
 use Rattle.dcx_frac.specs.Frac.{value}
@@ -21,8 +22,7 @@ use Rattle.dcx_convex.specs.Nodes.{Numbers}
 use Rattle.dcx_convex.specs.Problems as convex
 use Rattle.dcx_convex.specs.Problems.{minimized, gap_of, objective_of}
 use Rattle.dcx_convex.specs.Answers.{Multipliers, weighed, penalty_of, lagrangian_of}
-use Rattle.dcx_call.proofs.Products.{value-frac_at}
-use Rattle.dcx_call.proofs.Fractions.{negative_fits}
+use Rattle.dcx_atom.proofs.Fractions.{value-frac_at, negative_fits, one_fits, minus_one_fits}
 use Rattle.dcx_frac.proofs.Parts.{value_representable}
 use Rattle.dcx_tree.specs.declared.constraint.Sense.{Sense}
 use Rattle.dcx_tree.specs.declared.constraint.Sense.TheVariants.{Minimize, Maximize}
@@ -30,7 +30,6 @@ use Rattle.dcx_tree.specs.declared.constraint.Constraint.{Constraint}
 use Rattle.dcx_tree.specs.declared.problem.Problem.{Problem}
 use Rattle.dcx_tree.specs.Nodes.{Node}
 use Rattle.dcx_tree.specs.Meaning.{sense_of, convex_constraint, convex_problem}
-use Rattle.dcx_call.proofs.Coefficients.{one_fits, minus_one_fits}
 use Rattle.dcx_cert_collect.specs.Shares.{frac_in, share_of, with_shares}
 use Rattle.dcx_cert_collect.specs.Starts.{start_of, place_of}
 use Rattle.dcx_cert_collect.specs.Laws.{table_times, StartIsLagrangian}
@@ -38,7 +37,8 @@ use Rattle.dcx_cert_collect.specs.Multipliers.{objective_number, objective_share
 use Rattle.dcx_cert_collect.proofs.Starting.{start_next, start_within}
 use Rattle.dcx_cert_collect.proofs.Passing.{shares_count}
 use Rattle.dcx_cert_collect.proofs.Flat.{frac_value, dot, dot-zeros, dot-table, flat, flat-place}
-use Rattle.dcx_cert_collect.proofs.Bound.{number_of, IsBefore, IsWorth, worth_of, share_dot, below_dot, joined_dot, first_then, single}
+use Rattle.dcx_cert_collect.proofs.Bound.{number_of, IsBefore, IsWorth, worth_of, share_dot, below_dot, joined_dot, first_then, single, more}
+use Rattle.dcx_math.proofs.Lists.{element_at}
 
 -- ---- arithmetic
 times_one : (x : ℚ) → whole (pos 1) *ℚ x ≡ x
@@ -49,9 +49,6 @@ times_minus_one x = ring (x ∷ []) (search reads depth 30) tt
 
 gap_of_two : (m a b : ℚ) → m *ℚ a +ℚ neg_ℚ m *ℚ b ≡ m *ℚ (a -ℚ b)
 gap_of_two m a b = ring (m ∷ a ∷ b ∷ []) (search reads depth 30) tt
-
-after_two : (u v t a b : ℚ) → u ≡ v +ℚ b → v ≡ t +ℚ a → u ≡ t +ℚ (a +ℚ b)
-after_two u v t a b e h = e ∙ ap (λ r. r +ℚ b) h ∙ +ℚ_assoc t a b
 
 -- ---- the sum over constraints, by their numbers
 row_of : (convex.Constraint → ℕ → ℚ) → (ℕ → ℚ) → Option convex.Constraint → ℚ
@@ -66,14 +63,10 @@ weighed_below gap (c ∷ cs) m =
     ∙ sym (rat_sum_below-first (length cs) (λ k. row_of gap (m k) (slice_get (c ∷ cs) k)))
 
 -- ---- what is there
-there : {A : Type 0} (xs : List A) (k : ℕ) → k < length xs → (x : A) × (slice_get xs k ≡ Some x)
-there [] k b = absurd (omega arith)
-there (x ∷ xs) zero b = (x, refl)
-there (x ∷ xs) (suc k) b = there xs k (omega arith)
-
 number_there : (duals : List Array) (k : ℕ) (x : Array) → slice_get duals k ≡ Some x → (j : ℕ) → numbers_of duals k j ≡ number_at x.entries j
 number_there duals k x at j =
-    ap (λ xs. number_at xs j) (get_or_from_slice_get (map (λ (y : Array). y.entries) duals) k x.entries [] (slice_get-map (λ (y : Array). y.entries) duals k ∙ ap (option_map (λ (y : Array). y.entries)) at))
+    ap (λ xs. number_at xs j) (get_or_from_slice_get (map (λ (y : Array). y.entries) duals) k x.entries []
+    (slice_get-map (λ (y : Array). y.entries) duals k ∙ ap (option_map (λ (y : Array). y.entries)) at))
 
 module _ (nodes : List Node) (f : ℕ → Numbers) where
   abbrev F : Numbers
@@ -98,8 +91,9 @@ module _ (nodes : List Node) (f : ℕ → Numbers) where
       (ap (λ o. value x *ℚ number_of F o) place ∙ ap (λ z. value x *ℚ z) (flat-place nodes f i e b c) ∙ h)
 
   -- ---- a constraint
-  constraint_dot : (c : Constraint) (x : Array) → c.left.0 < length nodes → c.right.0 < length nodes → sides_at nodes c.left.0 ≡ sides_of c.shape → sides_at nodes c.right.0 ≡ sides_of c.shape → sides_of x.shape ≡ sides_of c.shape →
-      (t u : List Frac) → length t ≡ L → with_shares t (constraint_shares nodes (Some c) (Some x)) ≡ Ok u →
+  constraint_dot : (c : Constraint) (x : Array) → c.left.0 < length nodes → c.right.0 < length nodes → sides_at nodes c.left.0 ≡ sides_of c.shape → sides_at nodes c.right.0 ≡ sides_of c.shape
+      → sides_of x.shape ≡ sides_of c.shape
+      → (t u : List Frac) → length t ≡ L → with_shares t (constraint_shares nodes (Some c) (Some x)) ≡ Ok u →
       dot u F ≡ dot t F +ℚ rat_sum_below (entries_of (sides_of c.shape)) (λ j. number_at x.entries j *ℚ (f c.left.0 j -ℚ f c.right.0 j))
   constraint_dot c x l r left right shape t u count e =
       let (v, first, rest) = first_then t u (array_shares nodes c.left.0 x) (negated_shares nodes c.right.0 x) e in
@@ -107,10 +101,11 @@ module _ (nodes : List Node) (f : ℕ → Numbers) where
       let n = entries_of (sides_of x.shape) in
       let a = λ (j : ℕ). number_at x.entries j *ℚ f c.left.0 j in
       let b = λ (j : ℕ). neg_ℚ (number_at x.entries j) *ℚ f c.right.0 j in
-      after_two (dot u F) (dot v F) (dot t F) (rat_sum_below n a) (rat_sum_below n b)
+      more (dot u F) (dot v F) (dot t F) (rat_sum_below n a) (rat_sum_below n b)
       (below_dot F L (λ j. share_of (place_of nodes (Some c.right.0) j) (Ok (frac_at (neg_ℚ (value (frac_in x.entries j)))))) b n
       (λ j k. entry_worth c.right.0 j (frac_at (neg_ℚ (value (frac_in x.entries j)))) (b j) r (omega (arith, k, ap entries_of (right ∙ sym shape)))
-      (ap (λ z. z *ℚ f c.right.0 j) (value-frac_at (neg_ℚ (value (frac_in x.entries j))) (negative_fits (value (frac_in x.entries j)) (value_representable (frac_in x.entries j))) ∙ ap neg_ℚ (frac_value x.entries j)))) v u same rest)
+      (ap (λ z. z *ℚ f c.right.0 j) (value-frac_at (neg_ℚ (value (frac_in x.entries j))) (negative_fits (value (frac_in x.entries j)) (value_representable (frac_in x.entries j)))
+      ∙ ap neg_ℚ (frac_value x.entries j)))) v u same rest)
       (below_dot F L (λ j. share_of (place_of nodes (Some c.left.0) j) (Ok (frac_in x.entries j))) a n
       (λ j k. entry_worth c.left.0 j (frac_in x.entries j) (a j) l (omega (arith, k, ap entries_of (left ∙ sym shape))) (ap (λ z. z *ℚ f c.left.0 j) (frac_value x.entries j))) t v count first)
       ∙ ap (λ z. dot t F +ℚ z) (sym (rat_sum_below-+ℚ n a b) ∙ rat_sum_below-same n _ _ (λ j k. gap_of_two (number_at x.entries j) (f c.left.0 j) (f c.right.0 j))
@@ -131,20 +126,24 @@ module _ (p : Problem) (duals : List Array) (are : AreDuals p duals) (f : ℕ �
       ∙ rat_sum_below-same (entries_of (sides_of c.shape)) _ _ (λ j b. ap (λ z. z *ℚ (f c.left.0 j -ℚ f c.right.0 j)) (number_there duals k x given j))
 
   -- constraint k
-  each_dot : (k : ℕ) → k < length p.constraints → (t u : List Frac) → length t ≡ entries_in p.tree → with_shares t (constraint_shares p.tree (slice_get p.constraints k) (slice_get duals k)) ≡ Ok u → dot u G ≡ dot t G +ℚ row k
+  each_dot : (k : ℕ) → k < length p.constraints → (t u : List Frac) → length t ≡ entries_in p.tree → with_shares t (constraint_shares p.tree (slice_get p.constraints k) (slice_get duals k)) ≡ Ok u
+      → dot u G ≡ dot t G +ℚ row k
   each_dot k b t u count e =
-      let (c, at) = there p.constraints k b in
-      let (x, given) = there duals k (omega (arith, b, are.count)) in
+      let (c, at) = element_at p.constraints k b in
+      let (x, given) = element_at duals k (omega (arith, b, are.count)) in
       let kept = p.constraints_kept in
       constraint_dot p.tree f c x (kept.left k c at).there (kept.right k c at).there (kept.left k c at).same (kept.right k c at).same (are.shaped k c x at given) t u count
       (ap₂ (λ o q. with_shares t (constraint_shares p.tree o q)) (sym at) (sym given) ∙ e)
       ∙ ap (λ z. dot t G +ℚ z) (sym (row_is k c x at given))
 
-  penalty_dot : (t u : List Frac) → length t ≡ entries_in p.tree → with_shares t (joined_below (length p.constraints) (λ k. constraint_shares p.tree (slice_get p.constraints k) (slice_get duals k))) ≡ Ok u →
-      dot u G ≡ dot t G +ℚ penalty_of (convex_problem p) (numbers_of duals) f
+  penalty_dot : (t u : List Frac) → length t ≡ entries_in p.tree → with_shares t
+      (joined_below (length p.constraints) (λ k. constraint_shares p.tree (slice_get p.constraints k) (slice_get duals k))) ≡ Ok u
+      → dot u G ≡ dot t G +ℚ penalty_of (convex_problem p) (numbers_of duals) f
   penalty_dot t u count e =
-      joined_dot G (entries_in p.tree) (λ k. constraint_shares p.tree (slice_get p.constraints k) (slice_get duals k)) row (length p.constraints) (λ k b t u count e. each_dot k b t u count e) t u count e
-      ∙ ap (λ z. dot t G +ℚ z) (ap (λ n. rat_sum_below n row) (sym (length-map p.constraints convex_constraint)) ∙ sym (weighed_below (gap_of f) (map convex_constraint p.constraints) (numbers_of duals)))
+      joined_dot G (entries_in p.tree) (λ k. constraint_shares p.tree (slice_get p.constraints k) (slice_get duals k)) row (length p.constraints)
+      (λ k b t u count e. each_dot k b t u count e) t u count e
+      ∙ ap (λ z. dot t G +ℚ z) (ap (λ n. rat_sum_below n row) (sym (length-map p.constraints convex_constraint))
+      ∙ sym (weighed_below (gap_of f) (map convex_constraint p.constraints) (numbers_of duals)))
 
   -- the objective
   sense_worth : (sense : Sense) (z : ℚ) → value (objective_number sense) *ℚ z ≡ minimized (sense_of sense) z
@@ -170,7 +169,8 @@ module _ (p : Problem) (duals : List Array) (are : AreDuals p duals) (f : ℕ �
       let same : length v ≡ entries_in p.tree = shares_count zeros v (objective_shares true p) first ∙ zeros_count in
       let all : length table ≡ entries_in p.tree = shares_count zeros table (all_shares true p duals) e ∙ zeros_count in
       sym (dot-table p.tree f table all)
-      ∙ after_two (dot table G) (dot v G) (dot zeros G) (objective_of (convex_problem p) f) (penalty_of (convex_problem p) (numbers_of duals) f) (penalty_dot v table same rest) (objective_dot zeros v zeros_count first)
+      ∙ more (dot table G) (dot v G) (dot zeros G) (objective_of (convex_problem p) f) (penalty_of (convex_problem p) (numbers_of duals) f) (penalty_dot v table same rest)
+      (objective_dot zeros v zeros_count first)
       ∙ ap (λ z. z +ℚ lagrangian_of (convex_problem p) (numbers_of duals) f) (dot-zeros (entries_in p.tree) G) ∙ +ℚ_idl _
 
   pub start_penalty : (table : List Frac) → start_table false p duals ≡ Ok table → table_times p.tree table f ≡ penalty_of (convex_problem p) (numbers_of duals) f

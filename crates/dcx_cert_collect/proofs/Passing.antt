@@ -1,5 +1,6 @@
 -- One node of the pass: its call has its sides, its coefficients are the last, and those of the nodes before it are as many as before.
-use Rattle.std.proofs.Common.{◌≡◌, ℕ, suc, ◌+◌, ◌-◌, ◌<◌, ◌≤◌, arith, Bool, true, false, nat_lt, List, [], ◌∷◌, ◌++◌, map, length, take, drop, set, refl, sym, ap, ◌∙◌, subst, Option, Some, None, Result, Ok, Err, OnOk, IfErr, inl, inr, ap₂, slice_get}
+use Rattle.std.proofs.Common.{◌≡◌, ℕ, suc, ◌+◌, ◌-◌, ◌<◌, ◌≤◌, arith, Bool, true, false, nat_lt, List, [], ◌∷◌, ◌++◌, map, length, take, drop, set}
+use Rattle.std.proofs.Common.{refl, sym, ap, ◌∙◌, subst, Option, Some, None, Result, Ok, Err, OnOk, IfErr, inl, inr, ap₂, slice_get}
 use Rattle.std.specs.Prelude.{option_map, unwrap_or}
 use Rattle.std.specs.Option.{IsSomeAnd}
 use Rattle.std.proofs.lemmas.Bool.{ltb-true, ltb-false}
@@ -41,7 +42,8 @@ node_shape nodes are i call h = by (slice_get nodes i) refl h
     by (Some n) e k = subst (λ c. shape_of c (map (sides_at nodes) n.args) ≡ Some n.sides) (same_Some n.call call k) (are.shaped i n e)
 
 pub call_shaped : (nodes : List Node) → AreNodes shape_of nodes → (i : ℕ) (found call : Call) → call_at nodes i ≡ Some found → found ≡ call → (shown : List Shape) →
-    sides_list shown ≡ map (sides_at nodes) (args_at nodes i) → (cs : List Frac) → length cs ≡ entries_of (sides_at nodes i) → IsSomeAnd (shape_of call (sides_list shown)) (λ s. length cs ≡ entries_of s)
+    sides_list shown ≡ map (sides_at nodes) (args_at nodes i) → (cs : List Frac) → length cs ≡ entries_of (sides_at nodes i)
+    → IsSomeAnd (shape_of call (sides_list shown)) (λ s. length cs ≡ entries_of s)
 call_shaped nodes are i found call at is shown sides cs count =
     subst (λ o. IsSomeAnd o (λ s. length cs ≡ entries_of s)) (sym (ap (shape_of call) sides ∙ node_shape nodes are i call (at ∙ ap Some is))) count
 
@@ -59,10 +61,12 @@ ok_fact (Ok x) f h = f h
 ok_fact (Err e) f h = h
 
 -- ---- what a call hands on is what its node does
-pub ok_as : (r : Result (Unit {0}) CollectStop) (old new : List Frac) (given asked : Result (List Share) CollectStop) → given ≡ asked → OnOk r (handed old given ≡ Ok new) → OnOk r (handed old asked ≡ Ok new)
+pub ok_as : (r : Result (Unit {0}) CollectStop) (old new : List Frac) (given asked : Result (List Share) CollectStop) → given ≡ asked → OnOk r (handed old given ≡ Ok new)
+    → OnOk r (handed old asked ≡ Ok new)
 ok_as r old new given asked same h = subst (λ (s : Result (List Share) CollectStop). OnOk r (handed old s ≡ Ok new)) same h
 
-pub stop_as : (r : Result (Unit {0}) CollectStop) (old : List Frac) (given asked : Result (List Share) CollectStop) → given ≡ asked → IfErr r (IsOrMemory (handed old given)) → IfErr r (IsOrMemory (handed old asked))
+pub stop_as : (r : Result (Unit {0}) CollectStop) (old : List Frac) (given asked : Result (List Share) CollectStop) → given ≡ asked → IfErr r (IsOrMemory (handed old given))
+    → IfErr r (IsOrMemory (handed old asked))
 stop_as r old given asked same h = subst (λ (s : Result (List Share) CollectStop). IfErr r (IsOrMemory (handed old s))) same h
 
 -- ---- how many coefficients there are
@@ -94,7 +98,8 @@ shares_count t u (s ∷ ss) e = by (with_share t s) refl (λ v. shares_count v u
     by (Err q) is rest h = cc
 
 -- ---- the coefficients of the last node
-pub own_count : (nodes : List Node) (below own : List Frac) (i start : ℕ) → i < length nodes → start ≡ start_of nodes i → length below ≡ start_of nodes (i + 1) → own ≡ drop start below → length own ≡ entries_of (sides_at nodes i)
+pub own_count : (nodes : List Node) (below own : List Frac) (i start : ℕ) → i < length nodes → start ≡ start_of nodes i → length below ≡ start_of nodes (i + 1) → own ≡ drop start below
+    → length own ≡ entries_of (sides_at nodes i)
 own_count nodes below own i start b is count e = omega (arith, ap length e, length-drop start below, is, count, start_next nodes i b)
 
 pub start_inside : (nodes : List Node) (below : List Frac) (i start : ℕ) → i < length nodes → start ≡ start_of nodes i → length below ≡ start_of nodes (i + 1) → start ≤ length below
@@ -107,8 +112,9 @@ passed_same : (nodes : List Node) (values : List (Option Array)) (weights : ℕ 
 passed_same nodes values weights ws i None cs kept e = ap (λ us. with_below kept (node_reached nodes i cs) (handed kept.below (node_shares nodes values i cs us))) e
 passed_same nodes values weights ws i (Some x) cs kept e = refl
 
-pub step_told : (nodes : List Node) (values : List (Option Array)) (weights : ℕ → List Frac) (ws : List Frac) (i start : ℕ) (kept : Kept) (below own : List Frac) → ws ≡ weights i → start ≡ start_of nodes i →
-    below ≡ take start kept.below → own ≡ drop start kept.below →
+pub step_told : (nodes : List Node) (values : List (Option Array)) (weights : ℕ → List Frac) (ws : List Frac) (i start : ℕ) (kept : Kept) (below own : List Frac) → ws ≡ weights i
+    → start ≡ start_of nodes i
+    → below ≡ take start kept.below → own ≡ drop start kept.below →
     passed nodes values (λ _. ws) i (array_at values i) own (record { below = below; reached = kept.reached; total = kept.total }) ≡ step nodes values weights i kept
 step_told nodes values weights ws i start kept below own same is first rest =
     passed_same nodes values weights ws i (array_at values i) own (record { below = below; reached = kept.reached; total = kept.total }) same
@@ -126,7 +132,8 @@ below_count kept after more (Ok shares) e = by (with_shares kept.below shares) r
   where
     by : (r : Result (List Frac) Passes) → with_shares kept.below shares ≡ r → with_below kept more (or_passes r) ≡ Ok after → length after.below ≡ length kept.below
     by (Ok below) is h =
-        ap (λ (k : Kept). length k.below) (sym (same_Ok {E = CollectStop} (record { below = below; reached = kept.reached ++ more; total = kept.total }) after h)) ∙ shares_count kept.below below shares is
+        ap (λ (k : Kept). length k.below) (sym (same_Ok {E = CollectStop} (record { below = below; reached = kept.reached ++ more; total = kept.total }) after h))
+        ∙ shares_count kept.below below shares is
     by (Err p) is h = cc
 
 pub passed_count : (nodes : List Node) (values : List (Option Array)) (weights : ℕ → List Frac) (i : ℕ) (o : Option Array) (cs : List Frac) (kept after : Kept) →
@@ -137,12 +144,14 @@ passed_count nodes values weights i (Some x) cs kept after e = total_count kept 
 -- ---- all nodes
 module _ (nodes : List Node) (values : List (Option Array)) (weights : ℕ → List Frac) where
   -- one node more is passed
-  pub pass_next : (n k m : ℕ) (start kept after : Kept) → m + k + 1 ≡ n → pass_down nodes values weights n start ≡ pass_down nodes values weights (n - k) kept → step nodes values weights m kept ≡ Ok after →
-      pass_down nodes values weights n start ≡ pass_down nodes values weights (n - (k + 1)) after
+  pub pass_next : (n k m : ℕ) (start kept after : Kept) → m + k + 1 ≡ n → pass_down nodes values weights n start ≡ pass_down nodes values weights (n - k) kept
+      → step nodes values weights m kept ≡ Ok after
+      → pass_down nodes values weights n start ≡ pass_down nodes values weights (n - (k + 1)) after
   pass_next n k m start kept after e so_far is =
       let left : n - k ≡ suc m = omega (arith, e) in
       let then : m ≡ n - (k + 1) = omega (arith, e) in
-      so_far ∙ ap (λ j. pass_down nodes values weights j kept) left ∙ ap (λ r. then_on nodes values weights r (pass_down nodes values weights m)) is ∙ ap (λ j. pass_down nodes values weights j after) then
+      so_far ∙ ap (λ j. pass_down nodes values weights j kept) left ∙ ap (λ r. then_on nodes values weights r (pass_down nodes values weights m)) is
+      ∙ ap (λ j. pass_down nodes values weights j after) then
 
   -- a node that stops stops the pass
   pub pass_stops : (n k m : ℕ) (start kept : Kept) (stop : CollectStop) → m + k + 1 ≡ n → pass_down nodes values weights n start ≡ pass_down nodes values weights (n - k) kept →
@@ -152,7 +161,8 @@ module _ (nodes : List Node) (values : List (Option Array)) (weights : ℕ → L
       let left : n - k ≡ suc m = omega (arith, e) in
       inr (so_far ∙ ap (λ j. pass_down nodes values weights j kept) left ∙ ap (λ r. then_on nodes values weights r (pass_down nodes values weights m)) is)
 
-pub kept_same : (below : List Frac) (reached : List Reached) (total : Frac) → reached ≡ [] → value total ≡ whole (pos 0) → ◌≡◌ {A = Kept} (record { below = below; reached = reached; total = total }) (begin below)
+pub kept_same : (below : List Frac) (reached : List Reached) (total : Frac) → reached ≡ [] → value total ≡ whole (pos 0)
+    → ◌≡◌ {A = Kept} (record { below = below; reached = reached; total = total }) (begin below)
 kept_same below reached total none zero_total = λ j. record { below = below; reached = none j; total = zero_frac-unique total zero_total j }
 
 -- where no node is left, none has coefficients
@@ -163,7 +173,8 @@ all_passed nodes values weights n m table start kept reached none first count so
     ap (pass_down nodes values weights n) (sym first) ∙ so_far ∙ ap (λ k. pass_down nodes values weights k kept) none
     ∙ ap Ok (whole_of kept.below kept.reached reached kept.total (nil_from_length kept.below (count ∙ ap (start_of nodes) none)) (sym same))
   where
-    whole_of : (below : List Frac) (r s : List Reached) (total : Frac) → below ≡ [] → r ≡ s → ◌≡◌ {A = Kept} (record { below = below; reached = r; total = total }) (record { below = []; reached = s; total = total })
+    whole_of : (below : List Frac) (r s : List Reached) (total : Frac) → below ≡ [] → r ≡ s
+        → ◌≡◌ {A = Kept} (record { below = below; reached = r; total = total }) (record { below = []; reached = s; total = total })
     whole_of below r s total e h = λ j. record { below = e j; reached = h j; total = total }
 
 -- what holds of the nodes passed, and of the next one, holds of one more

@@ -1,5 +1,6 @@
 -- The values of nodes at a point: what stands at the place of an argument's entry.
-use Rattle.std.proofs.Common.{◌≡◌, ℕ, zero, suc, ◌+◌, ◌-◌, ◌<◌, ◌≤◌, arith, Bool, true, false, nat_lt, if◌then◌else◌, List, [], ◌∷◌, map, length, All, refl, sym, ap, ◌∙◌, subst, Option, Some, None, slice_get, pos}
+use Rattle.std.proofs.Common.{◌≡◌, ℕ, zero, suc, ◌+◌, ◌-◌, ◌<◌, ◌≤◌, arith, Bool, true, false, nat_lt, if◌then◌else◌, List, [], ◌∷◌}
+use Rattle.std.proofs.Common.{map, length, All, refl, sym, ap, ◌∙◌, subst, Option, Some, None, slice_get, pos}
 use Rattle.std.specs.Prelude.{option_map, unwrap_or}
 use Rattle.std.proofs.lemmas.Bool.{false≢true, lt-ltb, le-ltb, ltb-true, ltb-false}
 use Rattle.std.proofs.lemmas.List.{length-map, get_or_past}
@@ -46,8 +47,10 @@ first_past n g j b = by (nat_lt j n) (le-ltb j n b)
 -- the value of a call is 0 from its size on
 pub past_size : (names : Names) (s : Setting) (y : Point) (call : Call) (args : List Sides) (sides : Sides) (values : List Numbers) → shape_of call args ≡ Some sides → (j : ℕ) → entries_of sides ≤ j →
     value_by s y (head_of names call args sides) values j ≡ whole (pos 0)
-past_size names s y (calls.Variable v) args sides values e j b = first_past (entries_of (sides_of v.shape)) (y (number_in names.variables v.name)) j (omega (arith, ap entries_of (own_is (sides_of v.shape) args sides e), b))
-past_size names s y (calls.Parameter q) args sides values e j b = first_past (entries_of (sides_of q.shape)) (s (number_in names.parameters q.name)) j (omega (arith, ap entries_of (own_is (sides_of q.shape) args sides e), b))
+past_size names s y (calls.Variable v) args sides values e j b =
+    first_past (entries_of (sides_of v.shape)) (y (number_in names.variables v.name)) j (omega (arith, ap entries_of (own_is (sides_of v.shape) args sides e), b))
+past_size names s y (calls.Parameter q) args sides values e j b =
+    first_past (entries_of (sides_of q.shape)) (s (number_in names.parameters q.name)) j (omega (arith, ap entries_of (own_is (sides_of q.shape) args sides e), b))
 past_size names s y (calls.Constant x) args sides values e j b = number_past x.entries j (omega (arith, x.full, ap entries_of (own_is (sides_of x.shape) args sides e), b))
 past_size names s y (calls.Atom m) args sides values e j b = first_past (entries_of sides) ((atom_meaning m).value args (arguments values)) j b
 past_size names s y (calls.Linear l) args sides values e j b = first_past (entries_of sides) ((linear_meaning l).value args (arguments values)) j b

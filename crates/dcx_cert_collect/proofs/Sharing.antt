@@ -7,6 +7,7 @@ use Rattle.dcx_atom.specs.Arrays.{list_below, joined_below}
 use Rattle.dcx_atom.specs.Formed.{and_then}
 use Rattle.dcx_atom.proofs.FormedSums.{take-next}
 use Rattle.dcx_cert_collect.specs.Shares.{Share, with_share, with_shares}
+use Rattle.dcx_cert_collect.proofs.Counting.{next}
 
 -- ---- numbers of a list
 -- within the list the default doesn't matter
@@ -56,9 +57,6 @@ pub shares-within : (t : List Frac) (ss : List Share) (i : ℕ) (p : Passes) →
 shares-within t ss i p e = ap (with_shares t) (sym (take-append-drop i ss)) ∙ shares-stopped t (take i ss) (drop i ss) p e
 
 -- ---- shares of entries, entry by entry
-next : (n : ℕ) → n + 1 ≡ suc n
-next n = omega arith
-
 pub joined-next : (t u : List Frac) (f : ℕ → List Share) (n : ℕ) → with_shares t (joined_below n f) ≡ Ok u → with_shares t (joined_below (n + 1) f) ≡ with_shares u (f n)
 joined-next t u f n e = ap (λ m. with_shares t (joined_below m f)) (next n) ∙ shares-after t u (joined_below n f) (f n) e
 

@@ -1,6 +1,6 @@
--- Where nodes begin.
+-- Where the entries of nodes begin in one list of all entries.
 use Rattle.std.proofs.Common.{◌≡◌, ℕ, zero, suc, ◌+◌, ◌<◌, ◌≤◌, arith, Bool, true, false, nat_lt, if◌then◌else◌, List, [], ◌∷◌, ◌++◌, length, get_or, refl, sym, ap, ap₂, ◌∙◌, Some, None}
-use Rattle.std.proofs.lemmas.Bool.{false≢true, lt-ltb, ltb-true}
+use Rattle.std.proofs.lemmas.Bool.{false≢true, lt-ltb}
 use Rattle.std.proofs.lemmas.List.{length-append}
 use Rattle.std.proofs.Math.Seq.{take-length}
 use Rattle.std.proofs.lemmas.List.Sums.{sum_by_more, sum_by-take-le}
@@ -11,10 +11,6 @@ use Rattle.dcx_atom.proofs.BoundRows.{list_below-first}
 use Rattle.dcx_atom.proofs.Lists.{list_below-next}
 use Rattle.dcx_tree.specs.Nodes.{Node}
 use Rattle.dcx_cert_collect.specs.Starts.{start_of, AreStarts, place_of}
-
--- the first begins at 0
-pub start_zero : (nodes : List Node) → start_of nodes 0 ≡ 0
-start_zero nodes = refl
 
 -- the sides of a node that is there
 sides_is : (nodes : List Node) (i : ℕ) (d : Node) → i < length nodes → sides_at nodes i ≡ (get_or nodes i d).sides
@@ -67,13 +63,6 @@ place_there nodes starts i e size are b same within =
     by : (t : Bool) → t ≡ true → Some (start_of nodes i + e) ≡ (if t then Some (start_of nodes i + e) else None)
     by true h = refl
     by false h = absurd (false≢true h)
-
-pub place_past : (nodes : List Node) (i e size : ℕ) → size ≡ entries_of (sides_at nodes i) → size ≤ e → None ≡ place_of nodes (Some i) e
-place_past nodes i e size same past = by (nat_lt e (entries_of (sides_at nodes i))) (λ h. absurd (omega (arith, ltb-true e _ h, past, same)))
-  where
-    by : (t : Bool) → (t ≡ true → ⊥) → None ≡ (if t then Some (start_of nodes i + e) else None)
-    by true h = absurd (h refl)
-    by false h = refl
 
 -- the starts with the next one
 pub start_item : (nodes : List Node) (i : ℕ) (before after : List ℕ) (next : ℕ) → after ≡ before ++ next ∷ [] → before ≡ list_below i (start_of nodes) → next ≡ start_of nodes i →

@@ -24,14 +24,14 @@ use Rattle.dcx_atom.proofs.Accepted.{accepted_of, earlier-none}
 use Rattle.dcx_atom.proofs.BoundRows.{below_or_last}
 use Rattle.dcx_affine.specs.declared.pairing.Pair.{Pair}
 use Rattle.dcx_convex.specs.Nodes.{Numbers}
-use Rattle.dcx_call.proofs.Products.{value-frac_at}
+use Rattle.dcx_atom.proofs.Fractions.{value-frac_at}
 use Rattle.dcx_tree.specs.Nodes.{Node}
 use Rattle.dcx_cert_collect.specs.declared.pairs.Scaling.{Scaling}
 use Rattle.dcx_cert_collect.specs.declared.pairs.Scaling.TheVariants.{ByRight, ByLeft, Divided}
 use Rattle.dcx_cert_collect.specs.Shares.{frac_in, with_shares}
 use Rattle.dcx_cert_collect.specs.Starts.{place_of}
 use Rattle.dcx_cert_collect.specs.Calls.{share_to, term_share, linear_shares, pair_share, pairing_shares, first_of_entries, slopes_stop, slope_frac, slope_shares}
-use Rattle.dcx_cert_collect.specs.Pass.{AreFractions}
+use Rattle.dcx_atom.specs.Fractions.{AreFractionSlopes}
 use Rattle.dcx_cert_collect.proofs.Flat.{dot, frac_value}
 use Rattle.dcx_cert_collect.proofs.Bound.{number_of, IsBefore, IsWorth, worth_of, map_dot, below_dot, joined_dot}
 
@@ -147,7 +147,7 @@ module _ (nodes : List Node) (args : List ℕ) (F : Numbers) (L : ℕ) (a : Entr
       let both = earlier-none (first_of_entries n f) (f n) e in
       ⊎_elim (λ l. none_stopped n f both.0 j l) (λ r. ap f r ∙ both.1) (below_or_last j n b)
 
-  pub slopes_worth : (m : Meaning) → HasSubgradients m → (ss : List Sides) (sides : Sides) → m.shape ss ≡ Some sides → length args ≡ length ss → (cs ws : List Frac) → length cs ≡ entries_of sides → AreFractions m ss ws →
+  pub slopes_worth : (m : Meaning) → HasSubgradients m → (ss : List Sides) (sides : Sides) → m.shape ss ≡ Some sides → length args ≡ length ss → (cs ws : List Frac) → length cs ≡ entries_of sides → AreFractionSlopes m ss ws →
       slopes_stop m ss cs ws ≡ None → (t u : List Frac) → length t ≡ L → with_shares t (slope_shares nodes args ss (slope_frac m ss ws)) ≡ Ok u →
       dot u F ≤ℚ dot t F +ℚ rat_sum_below (length cs) (λ j. number_at cs j *ℚ m.value ss a j)
   slopes_worth m law ss sides is same cs ws size fit none t u count e =

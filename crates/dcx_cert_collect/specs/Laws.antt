@@ -63,8 +63,9 @@ pub record AreKnown (names : Names) (nodes : List Node) (s : Setting) (values : 
 
 -- at every point of any numbers the total and what reaches the variables are at most the coefficients at the start times the values
 abbrev pub CollectedIsABound : Type 0
-CollectedIsABound = (names : Names) (nodes : List Node) (s : Setting) (values : List (Option Array)) (weights : ℕ → List Frac) → AreNodes shape_of nodes → AreKnown names nodes s values → HaveFractions nodes values weights →
-    (table : List Frac) → length table ≡ entries_in nodes → (reached : List Reached) (total : Frac) →
+CollectedIsABound = (names : Names) (nodes : List Node) (s : Setting) (values : List (Option Array)) (weights : ℕ → List Frac) → AreNodes shape_of nodes → AreKnown names nodes s values
+    → HaveFractions nodes values weights
+    → (table : List Frac) → length table ≡ entries_in nodes → (reached : List Reached) (total : Frac) →
     pass_down nodes values weights (length nodes) (begin table) ≡ Ok (record { below = []; reached = reached; total = total }) →
     (y : Point) → value total +ℚ reached_times reached (value_at (convex_nodes names nodes) s y) ≤ℚ table_times nodes table (value_at (convex_nodes names nodes) s y)
 
@@ -94,8 +95,9 @@ pub record TotalIsABound (p : Problem) (s : Setting) (values : List (Option Arra
       (y : Point) → IsInDomain p y → value total ≤ℚ meant.penalty (convex_problem p) s y (numbers_of duals)
 
 abbrev pub TotalsAreBounds : Type 0
-TotalsAreBounds = (p : Problem) (s : Setting) (values : List (Option Array)) (weights : ℕ → List Frac) (duals : List Array) → AreKnown (names_in p) p.tree s values → HaveFractions p.tree values weights → AreSquareIn p.tree →
-    AreDuals p duals → TotalIsABound p s values weights duals
+TotalsAreBounds = (p : Problem) (s : Setting) (values : List (Option Array)) (weights : ℕ → List Frac) (duals : List Array) → AreKnown (names_in p) p.tree s values
+    → HaveFractions p.tree values weights → AreSquareIn p.tree
+    → AreDuals p duals → TotalIsABound p s values weights duals
 
 -- what such a total shows: a feasible point whose value is at most the total is optimal; and where the total without the objective
 -- is at least a gap above 0, no point is feasible
@@ -108,5 +110,6 @@ pub record TotalShowsAnswers (p : Problem) (s : Setting) (values : List (Option 
       (gap : ℚ) → whole (pos 0) <ℚ gap → meant.AreMultipliers (convex_problem p) (numbers_of duals) → gap ≤ℚ value total → IsInfeasible p s (numbers_of duals) gap
 
 abbrev pub TotalsShowAnswers : Type 0
-TotalsShowAnswers = (p : Problem) (s : Setting) (values : List (Option Array)) (weights : ℕ → List Frac) (duals : List Array) → AreKnown (names_in p) p.tree s values → HaveFractions p.tree values weights → AreSquareIn p.tree →
-    AreDuals p duals → TotalShowsAnswers p s values weights duals
+TotalsShowAnswers = (p : Problem) (s : Setting) (values : List (Option Array)) (weights : ℕ → List Frac) (duals : List Array) → AreKnown (names_in p) p.tree s values
+    → HaveFractions p.tree values weights → AreSquareIn p.tree
+    → AreDuals p duals → TotalShowsAnswers p s values weights duals

@@ -1,4 +1,4 @@
--- What the contracts of this crate cite.
+-- What contracts cite: the pass from the last node down, what each call hands on, and what the total bounds.
 pub mod Shares
 pub mod Starts
 pub mod Calls

@@ -6,14 +6,13 @@ use Rattle.dcx_frac.specs.declared.fraction.Passes.{Passes}
 use Rattle.dcx_atom.specs.declared.array.Array.{Array}
 use Rattle.dcx_atom.specs.Arrays.{list_below, sides_at}
 use Rattle.dcx_atom.specs.Entrywise.{products_from}
-use Rattle.dcx_atom.specs.Formed.{zero_frac, exact}
-use Rattle.dcx_atom.specs.Meaning.{Meaning}
-use Rattle.dcx_frac.specs.Fits.{IsRepresentable}
+use Rattle.dcx_atom.specs.Formed.{zero_frac}
 use Rattle.dcx_affine.specs.Pairing.{pairs_at}
 use Rattle.dcx_affine.specs.declared.pairing.Pairing.{Pairing}
 use Rattle.dcx_shape.specs.declared.shape.Sides.{Sides}
 use Rattle.dcx_shape.specs.Sides.{entries_of}
-use Rattle.dcx_atom.specs.Steps.{rows_before, weights_of}
+use Rattle.dcx_atom.specs.Steps.{rows_before}
+use Rattle.dcx_atom.specs.Fractions.{AreFractionSlopes}
 use Rattle.dcx_arena.specs.Nodes.{call_at, args_at}
 use Rattle.dcx_arena.specs.Nodes.{sides_at as sides_of_node}
 use Rattle.dcx_call.specs.declared.atoms.AtomCall.{AtomCall}
@@ -116,13 +115,9 @@ abbrev pub HasWeights : List Node → ℕ → List Frac → Type 0
 HasWeights nodes i ws = (m : AtomCall) → call_at nodes i ≡ Some (calls.Atom m) →
     length ws ≡ rows_before (atom_meaning m) (map (sides_of_node nodes) (args_at nodes i)) (entries_of (sides_of_node nodes i))
 
--- the slopes that weights give for the entries of arguments of these sides are fractions of 128 bits
-abbrev pub AreFractions : Meaning → List Sides → List Frac → Type 0
-AreFractions m sides ws = (k e : ℕ) → k < length sides → e < entries_of (sides_at sides k) → IsRepresentable (exact (m.slope sides (weights_of m sides ws) k e))
-
 -- where node i is a nonlinear call, its slopes are
 abbrev pub HasFractions : List Node → ℕ → List Frac → Type 0
-HasFractions nodes i ws = (m : AtomCall) → call_at nodes i ≡ Some (calls.Atom m) → AreFractions (atom_meaning m) (map (sides_of_node nodes) (args_at nodes i)) ws
+HasFractions nodes i ws = (m : AtomCall) → call_at nodes i ≡ Some (calls.Atom m) → AreFractionSlopes (atom_meaning m) (map (sides_of_node nodes) (args_at nodes i)) ws
 
 module _ (nodes : List Node) (values : List (Option Array)) (weights : ℕ → List Frac) where
   -- node i with the coefficients cs: where its value is known, it counts, and else it hands on

@@ -38,8 +38,10 @@ pub(crate) fn hand_linear(
 ) -> Result<(), Passes>
     requires places { ArePlaces places.now.tree.now places.now.starts.now (positions places.now.args.now) }
     requires terms { length terms.now ≡ length coefficients.now }
-    ensures ok { OnOk result (with_shares table.old.items (linear_shares places.now.tree.now (positions places.now.args.now) coefficients.now (λ j. map linear_term (slice_index_or terms.now j []))) ≡ Ok table.new.items) }
-    ensures passes { IfErr result (λ p. with_shares table.old.items (linear_shares places.now.tree.now (positions places.now.args.now) coefficients.now (λ j. map linear_term (slice_index_or terms.now j []))) ≡ Err p) }
+    ensures ok { OnOk result (with_shares table.old.items (linear_shares places.now.tree.now (positions places.now.args.now) coefficients.now
+        (λ j. map linear_term (slice_index_or terms.now j []))) ≡ Ok table.new.items) }
+    ensures passes { IfErr result (λ p. with_shares table.old.items (linear_shares places.now.tree.now (positions places.now.args.now) coefficients.now
+        (λ j. map linear_term (slice_index_or terms.now j []))) ≡ Err p) }
 {
     for (j, coefficient) in coefficients.iter().enumerate() {
         hand_terms(places, *coefficient, terms[j].as_slice(), table)?;

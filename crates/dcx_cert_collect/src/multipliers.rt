@@ -102,8 +102,10 @@ fn add_constraints(
     requires constraints { AreConstraints tree.now constraints.now }
     requires starts { AreStarts tree.now starts.now }
     requires count { length duals.now ≡ length constraints.now }
-    ensures ok { OnOk result (with_shares table.old.items (joined_below (length constraints.now) (λ k. constraint_shares tree.now (slice_get constraints.now k) (slice_get duals.now k))) ≡ Ok table.new.items) }
-    ensures passes { IfErr result (λ p. with_shares table.old.items (joined_below (length constraints.now) (λ k. constraint_shares tree.now (slice_get constraints.now k) (slice_get duals.now k))) ≡ Err p) }
+    ensures ok { OnOk result (with_shares table.old.items (joined_below (length constraints.now) (λ k. constraint_shares tree.now (slice_get constraints.now k) (slice_get duals.now k)))
+        ≡ Ok table.new.items) }
+    ensures passes { IfErr result (λ p. with_shares table.old.items (joined_below (length constraints.now)
+        (λ k. constraint_shares tree.now (slice_get constraints.now k) (slice_get duals.now k))) ≡ Err p) }
 {
     for (k, constraint) in constraints.iter().enumerate() {
         add_constraint(tree, starts, constraint, &duals[k], table)?;

@@ -13,7 +13,8 @@ ghost use Rattle.dcx_call.specs.Calls.{shape_of, sides_of_two};
 ghost use Rattle.dcx_tree.specs.Values.{array_at};
 ghost use Rattle.dcx_cert_collect.specs.Starts.{AreStarts, ArePlaces};
 ghost use Rattle.dcx_cert_collect.specs.Calls.{numbers_of, scaling_numbers, linear_shares, atom_shares};
-ghost use Rattle.dcx_cert_collect.specs.Pass.{counted, or_passes, IsOrMemory, handed, pairing_hands, node_reached, node_shares, HasWeights, AreFractions, HasFractions};
+ghost use Rattle.dcx_cert_collect.specs.Pass.{counted, or_passes, IsOrMemory, handed, pairing_hands, node_reached, node_shares, HasWeights, HasFractions};
+ghost use Rattle.dcx_atom.specs.Fractions.{AreFractionSlopes};
 
 use crate::collected::Reached;
 use crate::linear::hand_linear;
@@ -118,7 +119,7 @@ fn hand_atom(
     requires shape { IsSomeAnd ((atom_meaning atom.now).shape (sides_list shapes.now)) (λ s. length coefficients.now ≡ entries_of s) }
     requires weights { length weights.now ≡ rows_before (atom_meaning atom.now) (sides_list shapes.now) (length coefficients.now) }
     ensures ok { OnOk result (handed table.old.items (atom_shares places.now.tree.now node.0 (positions places.now.args.now) (atom_meaning atom.now) (sides_list shapes.now) coefficients.now weights.now) ≡ Ok table.new.items) }
-    ensures fractions { OnOk result (AreFractions (atom_meaning atom.now) (sides_list shapes.now) weights.now) }
+    ensures fractions { OnOk result (AreFractionSlopes (atom_meaning atom.now) (sides_list shapes.now) weights.now) }
     ensures stop { IfErr result (IsOrMemory (handed table.old.items (atom_shares places.now.tree.now node.0 (positions places.now.args.now) (atom_meaning atom.now) (sides_list shapes.now) coefficients.now weights.now))) }
 {
     match atom.slopes(alloc, shapes, coefficients, weights) {

@@ -90,8 +90,10 @@ pub(crate) fn hand_pairs(
 ) -> Result<(), Passes>
     requires places { ArePlaces places.now.tree.now places.now.starts.now (positions places.now.args.now) }
     requires pairs { length pairs.now ≡ length coefficients.now }
-    ensures ok { OnOk result (with_shares table.old.items (pairing_shares places.now.tree.now (positions places.now.args.now) scaling numbers.now coefficients.now (λ j. slice_index_or pairs.now j [])) ≡ Ok table.new.items) }
-    ensures passes { IfErr result (λ p. with_shares table.old.items (pairing_shares places.now.tree.now (positions places.now.args.now) scaling numbers.now coefficients.now (λ j. slice_index_or pairs.now j [])) ≡ Err p) }
+    ensures ok { OnOk result (with_shares table.old.items (pairing_shares places.now.tree.now (positions places.now.args.now) scaling numbers.now coefficients.now
+        (λ j. slice_index_or pairs.now j [])) ≡ Ok table.new.items) }
+    ensures passes { IfErr result (λ p. with_shares table.old.items (pairing_shares places.now.tree.now (positions places.now.args.now) scaling numbers.now coefficients.now
+        (λ j. slice_index_or pairs.now j [])) ≡ Err p) }
 {
     for (j, coefficient) in coefficients.iter().enumerate() {
         hand_entry(

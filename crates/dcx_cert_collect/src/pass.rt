@@ -6,7 +6,8 @@ ghost use Rattle.dcx_arena.specs.Nodes.{AreNodes, entries_in, sides_at};
 ghost use Rattle.dcx_call.specs.Calls.{shape_of};
 ghost use Rattle.dcx_tree.specs.Values.{array_at};
 ghost use Rattle.dcx_cert_collect.specs.Starts.{start_of, AreStarts};
-ghost use Rattle.dcx_cert_collect.specs.Pass.{kept_of, begin, counted, or_passes, with_below, node_reached, node_shares, handed, passed, step, pass_down, IsOrMemory, HasWeights, HaveWeights, HasFractions, HaveFractions, IsGiven};
+ghost use Rattle.dcx_cert_collect.specs.Pass.{kept_of, begin, counted, or_passes, with_below, node_reached, node_shares, handed, passed, step};
+ghost use Rattle.dcx_cert_collect.specs.Pass.{pass_down, IsOrMemory, HasWeights, HaveWeights, HasFractions, HaveFractions, IsGiven};
 
 use crate::collected::{Collected, Collecting, ReachedList};
 use crate::node::{CallWeights, add_products, hand_call, keep};
@@ -45,9 +46,11 @@ fn hand_on(
     requires starts { AreStarts given.now.tree.now given.now.starts.now }
     requires coefficients { length coefficients.items ≡ entries_of (sides_at given.now.tree.now node.0) }
     requires weights { HasWeights given.now.tree.now node.0 weights.now }
-    ensures ok { OnOk result (with_below (kept_of state.old) (node_reached given.now.tree.now node.0 coefficients.items) (handed state.old.below.items (node_shares given.now.tree.now given.now.values.now node.0 coefficients.items weights.now)) ≡ Ok (kept_of state.new)) }
+    ensures ok { OnOk result (with_below (kept_of state.old) (node_reached given.now.tree.now node.0 coefficients.items)
+        (handed state.old.below.items (node_shares given.now.tree.now given.now.values.now node.0 coefficients.items weights.now)) ≡ Ok (kept_of state.new)) }
     ensures fractions { OnOk result (HasFractions given.now.tree.now node.0 weights.now) }
-    ensures stop { IfErr result (IsOrMemory (with_below (kept_of state.old) (node_reached given.now.tree.now node.0 coefficients.items) (handed state.old.below.items (node_shares given.now.tree.now given.now.values.now node.0 coefficients.items weights.now)))) }
+    ensures stop { IfErr result (IsOrMemory (with_below (kept_of state.old) (node_reached given.now.tree.now node.0 coefficients.items)
+        (handed state.old.below.items (node_shares given.now.tree.now given.now.values.now node.0 coefficients.items weights.now)))) }
 {
     hand_call(
         alloc,
@@ -77,7 +80,8 @@ fn pass_node(
     requires given { IsGiven given.now.tree.now given.now.starts.now given.now.values.now }
     requires coefficients { length coefficients.items ≡ entries_of (sides_at given.now.tree.now node.0) }
     requires weights { array_at given.now.values.now node.0 ≡ None → HasWeights given.now.tree.now node.0 weights.now }
-    ensures ok { OnOk result (passed given.now.tree.now given.now.values.now (λ i. weights.now) node.0 (array_at given.now.values.now node.0) coefficients.items (kept_of state.old) ≡ Ok (kept_of state.new)) }
+    ensures ok { OnOk result (passed given.now.tree.now given.now.values.now (λ i. weights.now) node.0 (array_at given.now.values.now node.0) coefficients.items (kept_of state.old)
+        ≡ Ok (kept_of state.new)) }
     ensures fractions { OnOk result (array_at given.now.values.now node.0 ≡ None → HasFractions given.now.tree.now node.0 weights.now) }
     ensures stop { IfErr result (IsOrMemory (passed given.now.tree.now given.now.values.now (λ i. weights.now) node.0 (array_at given.now.values.now node.0) coefficients.items (kept_of state.old))) }
 {
@@ -127,7 +131,8 @@ pub fn collect<W: CallWeights>(
     requires given { IsGiven given.now.tree.now given.now.starts.now given.now.values.now }
     requires weights { HaveWeights given.now.tree.now given.now.values.now (W.weights weights.now) }
     requires table { length table.items ≡ entries_in given.now.tree.now }
-    ensures ok { IfOk result (λ k. pass_down given.now.tree.now given.now.values.now (W.weights weights.now) (length given.now.tree.now) (begin table.items) ≡ Ok (record { below = []; reached = k.reached; total = k.total })) }
+    ensures ok { IfOk result (λ k. pass_down given.now.tree.now given.now.values.now (W.weights weights.now) (length given.now.tree.now) (begin table.items)
+        ≡ Ok (record { below = []; reached = k.reached; total = k.total })) }
     ensures fractions { OnOk result (HaveFractions given.now.tree.now given.now.values.now (W.weights weights.now)) }
     ensures stop { IfErr result (IsOrMemory (pass_down given.now.tree.now given.now.values.now (W.weights weights.now) (length given.now.tree.now) (begin table.items))) }
 {

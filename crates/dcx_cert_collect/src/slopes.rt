@@ -21,8 +21,10 @@ fn hand_argument(
 ) -> Result<(), Passes>
     requires places { ArePlaces places.now.tree.now places.now.starts.now (positions places.now.args.now) }
     requires few { length slopes.now < 2 ^ 32 }
-    ensures ok { OnOk result (with_shares table.old.items (list_below (length slopes.now) (λ e. share_to places.now.tree.now (positions places.now.args.now) argument e (Ok (frac_in slopes.now e)))) ≡ Ok table.new.items) }
-    ensures passes { IfErr result (λ p. with_shares table.old.items (list_below (length slopes.now) (λ e. share_to places.now.tree.now (positions places.now.args.now) argument e (Ok (frac_in slopes.now e)))) ≡ Err p) }
+    ensures ok { OnOk result (with_shares table.old.items (list_below (length slopes.now)
+        (λ e. share_to places.now.tree.now (positions places.now.args.now) argument e (Ok (frac_in slopes.now e)))) ≡ Ok table.new.items) }
+    ensures passes { IfErr result (λ p. with_shares table.old.items (list_below (length slopes.now)
+        (λ e. share_to places.now.tree.now (positions places.now.args.now) argument e (Ok (frac_in slopes.now e)))) ≡ Err p) }
 {
     for (e, slope) in slopes.iter().enumerate() {
         add_share(table, places.place(argument, e as u32), Ok(*slope))?;
@@ -40,8 +42,10 @@ pub(crate) fn hand_slopes(
     requires places { ArePlaces places.now.tree.now places.now.starts.now (positions places.now.args.now) }
     requires shapes { length shapes.now ≡ length places.now.args.now }
     requires slopes { length slopes.now ≡ all_entries (sides_list shapes.now) }
-    ensures ok { OnOk result (with_shares table.old.items (slope_shares places.now.tree.now (positions places.now.args.now) (sides_list shapes.now) (λ k e. frac_in slopes.now (entries_before (sides_list shapes.now) k + e))) ≡ Ok table.new.items) }
-    ensures passes { IfErr result (λ p. with_shares table.old.items (slope_shares places.now.tree.now (positions places.now.args.now) (sides_list shapes.now) (λ k e. frac_in slopes.now (entries_before (sides_list shapes.now) k + e))) ≡ Err p) }
+    ensures ok { OnOk result (with_shares table.old.items (slope_shares places.now.tree.now (positions places.now.args.now) (sides_list shapes.now)
+        (λ k e. frac_in slopes.now (entries_before (sides_list shapes.now) k + e))) ≡ Ok table.new.items) }
+    ensures passes { IfErr result (λ p. with_shares table.old.items (slope_shares places.now.tree.now (positions places.now.args.now) (sides_list shapes.now)
+        (λ k e. frac_in slopes.now (entries_before (sides_list shapes.now) k + e))) ≡ Err p) }
 {
     let mut rest = slopes;
     for (k, shape) in shapes.iter().enumerate() {

@@ -6,7 +6,7 @@ use Rattle.std.specs.List.{All, slice_get}
 use native.Mathlib.Decide.{ℕ_discrete}
 use Rattle.std.proofs.lemmas.Bool.{false≢true}
 use Rattle.std.proofs.lemmas.List.Elements.{All-head, All-tail}
-use Rattle.std.proofs.lemmas.Option.{none-some, same_Some}
+use Rattle.std.proofs.lemmas.Option.{same_Some}
 use Rattle.dcx_math.specs.Rational.{ℚ, whole, ◌+ℚ◌, ◌-ℚ◌, ◌*ℚ◌, ◌≤ℚ◌}
 use Rattle.dcx_math.specs.Sums.{IsNonnegative, rat_sum_below}
 use Rattle.dcx_math.proofs.Ring.{ring, reads}
@@ -25,7 +25,7 @@ use Rattle.dcx_convex.specs.Certificates.{times, IsInDualCone}
 use Rattle.dcx_call.specs.declared.attribute.Variable.{Variable}
 use Rattle.dcx_call.specs.declared.call.Call.{Call}
 use Rattle.dcx_call.specs.declared.call.Call.TheVariants as calls
-use Rattle.dcx_call.specs.Calls.{shape_of, own_sides}
+use Rattle.dcx_call.specs.Calls.{shape_of}
 use Rattle.dcx_tree.specs.declared.problem.Problem.{Problem}
 use Rattle.dcx_tree.specs.Nodes.{Node, number_in, variable_attribute}
 use Rattle.dcx_tree.specs.Problems.{AreDeclared}
@@ -39,7 +39,7 @@ use Rattle.dcx_cert_collect.specs.Laws.{reached_times}
 use Rattle.dcx_cert_collect.proofs.Points.{first_in, first_past}
 use Rattle.dcx_cert_bound.specs.Variables.{is_named, reaching}
 use Rattle.dcx_cert_bound.proofs.Falling.{AreFalling}
-use Rattle.dcx_cert_bound.proofs.Reaching.{listed}
+use Rattle.dcx_cert_bound.proofs.Reaching.{listed, no_sides, no_nodes}
 use Rattle.dcx_cert_complete.specs.Families.{variable_by, variable_if, variable_numbers}
 use Rattle.dcx_cert_complete.proofs.Scaling.{bounded_multiples}
 use Rattle.dcx_cert_complete.proofs.Sums.{further_zero}
@@ -92,14 +92,6 @@ first_zeros n j = by (nat_lt j n)
 
 zero_times : (cs : List Frac) (y : Numbers) → ((j : ℕ) → y j ≡ whole (pos 0)) → times (length cs) (number_at cs) y ≡ whole (pos 0)
 zero_times cs y h = rat_sum_below-same (length cs) _ (λ _. whole (pos 0)) (λ j b. ap (λ z. number_at cs j *ℚ z) (h j) ∙ *ℚ-zero (number_at cs j)) ∙ rat_sum_below-zero (length cs)
-
-no_sides : (own : Sides) (args : List Sides) (sides : Sides) → own_sides own args ≡ Some sides → length args ≡ 0
-no_sides own [] sides e = refl
-no_sides own (a ∷ args) sides e = absurd (none-some sides e)
-
-no_nodes : (f : ℕ → Sides) (args : List ℕ) → length (map f args) ≡ 0 → args ≡ []
-no_nodes f [] e = refl
-no_nodes f (a ∷ args) e = absurd (omega (arith, e))
 
 module _ (p : Problem) (d : AreDeclared p.tree p.variables p.parameters) where
   -- variables of one name are one, with one node
@@ -161,7 +153,8 @@ module _ (p : Problem) (d : AreDeclared p.tree p.variables p.parameters) where
       none_behind : (i : ℕ) → call_at p.tree i ≡ Some (calls.Variable v) → (reached : List Reached) → All (λ q. q.node.0 < i) reached → reached_times reached vn ≡ whole (pos 0)
       none_behind i here [] before = refl
       none_behind i here (r ∷ reached) before =
-          ap₂ ◌+ℚ◌ (zero_times r.coefficients (vn r.node.0) (by (is_named v.name (call_at p.tree r.node.0)) refl)) (none_behind i here reached (All-tail (λ q. q.node.0 < i) r reached before)) ∙ +ℚ_idr _
+          ap₂ ◌+ℚ◌ (zero_times r.coefficients (vn r.node.0) (by (is_named v.name (call_at p.tree r.node.0)) refl)) (none_behind i here reached (All-tail (λ q. q.node.0 < i) r reached before))
+          ∙ +ℚ_idr _
         where
           less : r.node.0 < i
           less = All-head (λ q. q.node.0 < i) r reached before
@@ -171,14 +164,16 @@ module _ (p : Problem) (d : AreDeclared p.tree p.variables p.parameters) where
           by false e = other_numbers (call_at p.tree r.node.0) e r.node.0 refl
 
       -- all that is reached, at this array alone
-      reached_alone : (reached : List Reached) → AreFalling reached → reached_times reached vn ≡ times (length (reaching p.tree reached v.name)) (number_at (reaching p.tree reached v.name)) (first_of (entries_of (sides_in v)) y)
+      reached_alone : (reached : List Reached) → AreFalling reached → reached_times reached vn
+          ≡ times (length (reaching p.tree reached v.name)) (number_at (reaching p.tree reached v.name)) (first_of (entries_of (sides_in v)) y)
       reached_alone [] falling = refl
       reached_alone (r ∷ reached) falling = by (is_named v.name (call_at p.tree r.node.0)) refl (reached_alone reached falling.1)
         where
           by : (t : Bool) → is_named v.name (call_at p.tree r.node.0) ≡ t →
               reached_times reached vn ≡ times (length (reaching p.tree reached v.name)) (number_at (reaching p.tree reached v.name)) (first_of (entries_of (sides_in v)) y) →
               times (length r.coefficients) (number_at r.coefficients) (vn r.node.0) +ℚ reached_times reached vn
-              ≡ times (length (if t then r.coefficients else reaching p.tree reached v.name)) (number_at (if t then r.coefficients else reaching p.tree reached v.name)) (first_of (entries_of (sides_in v)) y)
+              ≡ times (length (if t then r.coefficients else reaching p.tree reached v.name)) (number_at (if t then r.coefficients else reaching p.tree reached v.name))
+              (first_of (entries_of (sides_in v)) y)
           by true e rest =
               let here = named_is (call_at p.tree r.node.0) e r.node.0 refl in
               ap₂ ◌+ℚ◌

@@ -31,7 +31,8 @@ use Rattle.dcx_cert_complete.specs.Rows.{rows_until, BoundsForms}
 use Rattle.dcx_cert_complete.proofs.Numbered.{numbers_at, numbers_at-length}
 
 -- ---- multipliers that are the same at the entries of the constraints
-weighed_same : (gap : convex.Constraint → ℕ → ℚ) (cs : List Constraint) (m n : Multipliers) → AreSameMultipliers cs m n → weighed gap (map convex_constraint cs) m ≡ weighed gap (map convex_constraint cs) n
+weighed_same : (gap : convex.Constraint → ℕ → ℚ) (cs : List Constraint) (m n : Multipliers) → AreSameMultipliers cs m n
+    → weighed gap (map convex_constraint cs) m ≡ weighed gap (map convex_constraint cs) n
 weighed_same gap [] m n h = refl
 weighed_same gap (c ∷ cs) m n h =
     ap₂ ◌+ℚ◌ (rat_sum_below-same (constraint_rows c) _ _ (λ j b. ap (λ z. z *ℚ gap (convex_constraint c) j) (h 0 c refl j b)))

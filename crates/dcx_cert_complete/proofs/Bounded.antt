@@ -48,7 +48,8 @@ module _ (p : Problem) (duals : List Array) (f g : ℕ → Numbers) (same : (i :
   started_same false = penalty_same
 
 -- a node whose value isn't known reaches a variable
-pub unfixed : (p : Problem) (setting : Pairs) (values : List (Option Array)) → AreFixedValues p setting values → (i : ℕ) → i < length p.tree → array_at values i ≡ None → is_fixed (convex_problem p).nodes i ≡ false
+pub unfixed : (p : Problem) (setting : Pairs) (values : List (Option Array)) → AreFixedValues p setting values → (i : ℕ) → i < length p.tree → array_at values i ≡ None
+    → is_fixed (convex_problem p).nodes i ≡ false
 unfixed p setting values fixed i b none = by (is_fixed (convex_problem p).nodes i) refl
   where
     by : (t : Bool) → is_fixed (convex_problem p).nodes i ≡ t → t ≡ false
@@ -69,7 +70,8 @@ forms_bound_programs rules p setting values forms duals weights with_objective v
       let w = u rules p setting values fixed forms all x dom t filled in
       let f = forms w in
       let mine = family rules p setting values fixed forms all x dom t filled in
-      let same : (i : ℕ) → i < length p.tree → f i ≡ g i = λ i b. first_same (names_in p) p.tree p.nodes (setting_of p setting) values x t t f g mine own (length p.tree) (omega arith) (λ k l. refl) i b in
+      let same : (i : ℕ) → i < length p.tree → f i ≡ g i =
+      λ i b. first_same (names_in p) p.tree p.nodes (setting_of p setting) values x t t f g mine own (length p.tree) (omega arith) (λ k l. refl) i b in
       ≤ℚ_trans (bound w (of_kinds rules p setting values fixed forms all x dom t filled))
       (≤ℚ_trans (+ℚ-≤ℚ_left (started with_objective p duals f) (all_rows rules p setting values fixed forms all x dom t filled weights m first are))
       (≤ℚ-from_≡ (ap₂ ◌+ℚ◌ (started_same p duals f g same with_objective) (first_rows p.tree p.nodes values weights (length p.tree) (omega arith) f g t t same (λ k l. refl)))));

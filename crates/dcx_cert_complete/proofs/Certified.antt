@@ -63,8 +63,9 @@ duals_count t [] notes (x ∷ ds) h = absurd h
 duals_count t (c ∷ cs) notes [] h = absurd h
 duals_count t (c ∷ cs) notes (x ∷ ds) h = ap suc (duals_count t cs (drop _ notes) ds h.1)
 
-duals_shaped : (t : LpStatus) (cs : List Constraint) (notes : List RowNote) (ds : List Array) → AreDuals t cs notes ds → (k : ℕ) (c : Constraint) (x : Array) → slice_get cs k ≡ Some c → slice_get ds k ≡ Some x →
-    sides_of x.shape ≡ sides_of c.shape
+duals_shaped : (t : LpStatus) (cs : List Constraint) (notes : List RowNote) (ds : List Array) → AreDuals t cs notes ds → (k : ℕ) (c : Constraint) (x : Array) → slice_get cs k ≡ Some c
+    → slice_get ds k ≡ Some x
+    → sides_of x.shape ≡ sides_of c.shape
 duals_shaped t [] notes ds h k c x at there = absurd (none-some c at)
 duals_shaped t (d ∷ cs) notes [] h k c x at there = absurd h
 duals_shaped t (d ∷ cs) notes (y ∷ ds) h zero c x at there =
@@ -74,7 +75,8 @@ duals_shaped t (d ∷ cs) notes (y ∷ ds) h (suc k) c x at there = duals_shaped
 are_duals : (p : Problem) (t : LpStatus) (notes : List RowNote) (ds : List Array) → AreDuals t p.constraints notes ds → collect.AreDuals p ds
 are_duals p t notes ds h = record { count = duals_count t p.constraints notes ds h; shaped = duals_shaped t p.constraints notes ds h }
 
-module _ (p : Problem) (setting : Pairs) (q : Program Frac) (a : LpAnswer) (known : HasKinds (rows_of q)) (own : HasForms p (setting_of p setting) q) (is : IsAnswered p (setting_of p setting) q a) where
+module _ (p : Problem) (setting : Pairs) (q : Program Frac) (a : LpAnswer) (known : HasKinds (rows_of q)) (own : HasForms p (setting_of p setting) q)
+    (is : IsAnswered p (setting_of p setting) q a) where
   abbrev M : ℕ → ℚ
   M = m p setting q a known own is
 
@@ -145,8 +147,9 @@ answered check fails (Err f) (inl memory) = inl memory
 answered check fails (Err f) (inr h) = inr (fails f h)
 
 -- of an answer of the rows
-rows_certified : (p : Problem) (setting : Pairs) (q : Program Frac) (lp : LpAnswer) (x : Answer) (cert : Cert) → IsAccepted p → FitsParameters p.parameters setting → IsProgramThere p setting q → HasKinds (rows_of q) →
-    IsAnswered p (setting_of p setting) q lp → IsRead p q.kinds lp x → IsBuilt p setting q.origins lp x cert → IsCertified (checks_of p setting cert)
+rows_certified : (p : Problem) (setting : Pairs) (q : Program Frac) (lp : LpAnswer) (x : Answer) (cert : Cert) → IsAccepted p → FitsParameters p.parameters setting → IsProgramThere p setting q
+    → HasKinds (rows_of q)
+    → IsAnswered p (setting_of p setting) q lp → IsRead p q.kinds lp x → IsBuilt p setting q.origins lp x cert → IsCertified (checks_of p setting cert)
 rows_certified p setting q lp x cert ok met there known is read built =
     let own = programs_there_have_forms p setting q ok met there in
     let fails = certified p setting q lp known own is ok met x cert read (read_right p (setting_of p setting) q lp known is x read) built in
@@ -155,6 +158,8 @@ rows_certified p setting q lp x cert ok met there known is read built =
 pub built_is_certified : BuiltIsCertified
 built_is_certified = record {
   rows = rows_certified;
-  solved = λ p setting limit q s x cert ok h built. rows_certified p setting q s.answer x cert ok h.fits (inl h.program) h.known (is_answered p setting ok h.fits limit q s h.program h.is_solved) h.read built;
-  warm = λ p setting limit columns q s x cert ok h built. rows_certified p setting q s.answer x cert ok h.fits (inl h.program) h.known (warm_is_answered p setting limit columns q s ok h.fits h.program h.is_solved) h.read built;
+  solved = λ p setting limit q s x cert ok h built. rows_certified p setting q s.answer x cert ok h.fits (inl h.program) h.known
+      (is_answered p setting ok h.fits limit q s h.program h.is_solved) h.read built;
+  warm = λ p setting limit columns q s x cert ok h built. rows_certified p setting q s.answer x cert ok h.fits (inl h.program) h.known
+      (warm_is_answered p setting limit columns q s ok h.fits h.program h.is_solved) h.read built;
 }

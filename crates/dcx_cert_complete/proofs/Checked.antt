@@ -60,7 +60,7 @@ use Rattle.dcx_cert_complete.specs.Bounded.{IsWide, started, BoundsPrograms}
 use Rattle.dcx_cert_complete.specs.Laws.{BoundsFailWide}
 use Rattle.dcx_cert_complete.proofs.Handed.{IsPassing}
 use Rattle.dcx_cert_complete.proofs.Passed.{IsEnd, passes_down}
-use Rattle.dcx_cert_complete.proofs.Fractions.{atom_fractions}
+use Rattle.dcx_call.specs.Atoms.{atom_lawful}
 use Rattle.dcx_cert_complete.proofs.Cones.{entry_may, not_both}
 use Rattle.dcx_cert_complete.proofs.Alone.{reached_cone, zeros_in, all_zero}
 
@@ -156,7 +156,7 @@ module _ (p : Problem) (setting : Pairs) (duals : List Array) (weights : List No
   s = setting_of p setting
 
   abbrev End : Result Kept CollectStop → Type 0
-  End r = IsEnd (names_in p) p.tree p.nodes s values (are_known p setting values fixed ok) (weights_at weights) (IsInDomain p) (value stated) (bounded values fixed).families (λ k. zeros) (zeros_in p) (bounded values fixed).weighed atom_fractions r
+  End r = IsEnd (names_in p) p.tree p.nodes s values (are_known p setting values fixed ok) (weights_at weights) (IsInDomain p) (value stated) (bounded values fixed).families (λ k. zeros) (zeros_in p) (bounded values fixed).weighed (λ m. (atom_lawful m).fraction_slopes) r
 
   table_is : (b : Bool) (table : List Frac) → start_table b p duals ≡ Ok table → (g : ℕ → Numbers) → table_times p.tree table g ≡ started b p duals g
   table_is true table e g = (starts_are_lagrangians p duals are).lagrangian table e g
@@ -168,7 +168,7 @@ module _ (p : Problem) (setting : Pairs) (duals : List Array) (weights : List No
       by : (r : Result (List Frac) Passes) → start_table with_objective p duals ≡ r → End (then_on p.tree values (weights_at weights) (begun r) (pass_down p.tree values (weights_at weights) (length p.tree)))
       by (Err passes) e = tt
       by (Ok table) e =
-          passes_down (names_in p) p.tree p.nodes s values (are_known p setting values fixed ok) (weights_at weights) (IsInDomain p) (value stated) (bounded values fixed).families (λ k. zeros) (zeros_in p) (bounded values fixed).weighed atom_fractions
+          passes_down (names_in p) p.tree p.nodes s values (are_known p setting values fixed ok) (weights_at weights) (IsInDomain p) (value stated) (bounded values fixed).families (λ k. zeros) (zeros_in p) (bounded values fixed).weighed (λ m. (atom_lawful m).fraction_slopes)
           table (start_count p duals with_objective table e)
           (λ x d t filled g family.
           subst (λ q. value stated ≤ℚ q +ℚ rows_below p.tree values (weights_at weights) (length p.tree) g t) (sym (table_is with_objective table e g)) ((bounded values fixed).bound x d t filled g family))

@@ -30,7 +30,7 @@ use Rattle.dcx_unknowns.proofs.Sources.{row_is, column_is, turned, mirror_entry,
 use Rattle.dcx_cert_collect.specs.Shares.{frac_in}
 use Rattle.dcx_cert_collect.proofs.Flat.{frac_value}
 use Rattle.dcx_cert_bound.specs.Variables.{mirrored, reaching_entry, MayReachEntry, MayNotReachEntry}
-use Rattle.dcx_cert_complete.proofs.Units.{only_at, at_itself, at_other, one_nonnegative, only_nonnegative, minus_nonpositive, only_nonpositive}
+use Rattle.dcx_atom.proofs.Units.{only_at, at_itself, at_other, one_nonnegative, only_nonnegative, minus_nonpositive, only_nonpositive}
 
 -- ---- numbers from what they are at 1 and at -1
 up : (c : ℚ) → IsNonnegative (c *ℚ whole (pos 1)) → IsNonnegative c
@@ -125,7 +125,8 @@ module _ (s : Sides) (cs : List Frac) where
       by false same h = summed (sum_of (frac_in cs e) (frac_in cs (mirror_of s e))) (sum_of_is (frac_in cs e) (frac_in cs (mirror_of s e))).exact h
 
   -- what reaches an entry that is asked may
-  pub entry_may : (a : Attribute) → IsSquareFor a s → IsInDualCone (attribute_of a) s c → (e : ℕ) → e < entries_of s → is_own a s e ≡ true → (x : Frac) → reaching_entry a s cs e ≡ Ok x → MayReachEntry a (value x)
+  pub entry_may : (a : Attribute) → IsSquareFor a s → IsInDualCone (attribute_of a) s c → (e : ℕ) → e < entries_of s → is_own a s e ≡ true → (x : Frac) → reaching_entry a s cs e ≡ Ok x
+      → MayReachEntry a (value x)
   entry_may Free square cone e b own x h = let is : frac_in cs e ≡ x = cc in ap value (sym is) ∙ frac_value cs e ∙ free_entry (λ y. cone y tt) e b
   entry_may Nonneg square cone e b own x h =
       let is : frac_in cs e ≡ x = cc in

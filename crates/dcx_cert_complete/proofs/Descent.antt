@@ -5,13 +5,14 @@ use Rattle.std.proofs.lemmas.Bool.{and_parts}
 use Rattle.dcx_math.specs.Rational.{ℚ, whole, ◌+ℚ◌, ◌-ℚ◌, ◌*ℚ◌, neg_ℚ, inverse, ◌≤ℚ◌, ◌<ℚ◌}
 use Rattle.dcx_math.specs.Sums.{IsNonnegative}
 use Rattle.dcx_math.proofs.Ring.{ring, reads}
-use Rattle.dcx_math.proofs.Orders.{linear, ≤ℚ_refl, ≤ℚ_trans, ≤ℚ_antisym, ≤ℚ-from_≡, ≤ℚ-or-<ℚ, <ℚ-≤ℚ, <ℚ-not, +ℚ-≤ℚ, +ℚ-positive, *ℚ_assoc, *ℚ_comm, *ℚ_idr, whole-≤ℤ, +ℚ_comm}
+use Rattle.dcx_math.proofs.Orders.{linear, ≤ℚ_refl, ≤ℚ_trans, ≤ℚ_antisym, ≤ℚ-from_≡, ≤ℚ-or-<ℚ, <ℚ-≤ℚ, <ℚ-not, +ℚ-≤ℚ, +ℚ-positive, *ℚ_assoc, *ℚ_comm, *ℚ_idr, +ℚ_comm}
 use Rattle.dcx_math.proofs.Products.{square-nonnegative, zero-<ℚ-one, *ℚ-positive, *ℚ-inverse_positive, inverse-positive}
 use Rattle.dcx_shape.specs.declared.shape.Sides.{Sides}
 use Rattle.dcx_atom.specs.declared.flags.Bend.TheVariants.{Convex, Concave}
 use Rattle.dcx_atom.specs.Arrays.{entry_at}
 use Rattle.dcx_atom.specs.Signs.{shifted}
-use Rattle.dcx_convex.specs.Nodes.{Attribute, Free, Nonneg, Nonpos, Symmetric, Diag, Head, Variable, Parameter, Constant, Apply, Numbers, Point, Setting, IsOrdered, Keeps, VariableKeeps, IsInDomain, value_at, Fits, AreLawful}
+use Rattle.dcx_convex.specs.Nodes.{Attribute, Free, Nonneg, Nonpos, Symmetric, Diag, Head, Variable, Parameter, Constant, Apply, Numbers}
+use Rattle.dcx_convex.specs.Nodes.{Point, Setting, IsOrdered, Keeps, VariableKeeps, IsInDomain, value_at, Fits, AreLawful}
 use Rattle.dcx_convex.specs.Rules.{Plain, Judgement, is_affine, judgement_at}
 use Rattle.dcx_convex.specs.Problems.{Sense, Minimize, Maximize, Relation, AtMost, Equal, Constraint, Problem, may_be_objective, may_be_sides, IsAccepted, minimized, Holds, IsFeasible, objective_at}
 use Rattle.dcx_convex.specs.Answers.{IsUnbounded}
@@ -25,6 +26,7 @@ use Rattle.dcx_right.proofs.TreeValues.{tree_recedes}
 use Rattle.dcx_cert_complete.specs.Laws.{UnboundedGoesByRays}
 use Rattle.dcx_cert_complete.proofs.Level.{AreStarting, tree_starts}
 use Rattle.dcx_cert_complete.proofs.Rests.{IsRest, rest_of}
+use Rattle.dcx_atom.proofs.Units.{one_nonnegative}
 
 -- ---- what is never more than a number is at most 0 for each step
 above : (c : ℚ) → c *ℚ c +ℚ whole (pos 1) ≤ℚ c → c ≤ℚ whole (pos 0)
@@ -61,9 +63,6 @@ no_step x d = ring (x ∷ d ∷ []) (search reads depth 30) tt
 
 none_less : (z : ℚ) → z -ℚ z ≡ whole (pos 0)
 none_less z = ring (z ∷ []) (search reads depth 30) tt
-
-one_nonnegative : whole (pos 0) ≤ℚ whole (pos 1)
-one_nonnegative = whole-≤ℤ (pos 0) (pos 1) (record { le = tt })
 
 keeps_ray : (a : Attribute) (sides : Sides) (x d : Numbers) → ((k : ℚ) → IsNonnegative k → Keeps a sides (λ j. x j +ℚ k *ℚ d j)) → Keeps a sides d
 keeps_ray Free sides x d h = tt
@@ -122,7 +121,8 @@ sides_steep Equal g h f w v u l r t left right along =
     ≤ℚ_antisym (steps_low (f -ℚ w) (u -ℚ v) (λ k low. gap_level k (l k) (r k) v u f w (p k low) (q k low) (along k low)))
     (turned_low (f -ℚ w) (steps_low (neg_ℚ (f -ℚ w)) (v -ℚ u) (λ k low. gap_level_back k (l k) (r k) v u f w (p k low) (q k low) (along k low))))
 
-module _ (p : Problem) (ordered : IsOrdered p.nodes) (law : AreLawful p.nodes) (recede : AreReceding p.nodes) (start : AreStarting p.nodes) (ok : IsAccepted p) (s : Setting) (fit : Fits p.nodes s) (x d : Point) (b e : ℚ)
+module _ (p : Problem) (ordered : IsOrdered p.nodes) (law : AreLawful p.nodes) (recede : AreReceding p.nodes) (start : AreStarting p.nodes) (ok : IsAccepted p) (s : Setting) (fit : Fits p.nodes s)
+    (x d : Point) (b e : ℚ)
     (h : IsUnbounded p s x d b e) where
   abbrev sides_taken : Constraint → Bool
   sides_taken c = may_be_sides c.relation (judgement_at Plain p.nodes c.left) (judgement_at Plain p.nodes c.right)
@@ -150,10 +150,12 @@ module _ (p : Problem) (ordered : IsOrdered p.nodes) (law : AreLawful p.nodes) (
     start = ≤ℚ_trans (≤ℚ-from_≡ (ap (objective_at p s) (sym nowhere))) (≤ℚ_trans (h.falls (whole (pos 0)) (≤ℚ_refl (whole (pos 0)))) (≤ℚ-from_≡ (less_none b e)));
     domain = domain;
     rows = λ n c at j below.
-        sides_steep c.relation (judgement_at Plain p.nodes c.left) (judgement_at Plain p.nodes c.right) (steep_at p.nodes s d c.left j) (steep_at p.nodes s d c.right j) ((rest c.left).0 j) ((rest c.right).0 j)
+        sides_steep c.relation (judgement_at Plain p.nodes c.left) (judgement_at Plain p.nodes c.right) (steep_at p.nodes s d c.left j) (steep_at p.nodes s d c.right j) ((rest c.left).0 j)
+        ((rest c.right).0 j)
         (λ k. value_at p.nodes s (shifted x k d) c.left j) (λ k. value_at p.nodes s (shifted x k d) c.right j) (all_at sides_taken p.constraints taken.1 n c at)
         (λ k low. (rest c.left).1 k low j) (λ k low. (rest c.right).1 k low j) (λ k low. (h.feasible k (<ℚ-≤ℚ low)).holds n c at j below);
-    falls = objective_steep p.sense (judgement_at Plain p.nodes p.objective) b e (steep_at p.nodes s d p.objective 0) ((rest p.objective).0 0) (λ k. value_at p.nodes s (shifted x k d) p.objective 0) taken.0
+    falls = objective_steep p.sense (judgement_at Plain p.nodes p.objective) b e (steep_at p.nodes s d p.objective 0) ((rest p.objective).0 0)
+        (λ k. value_at p.nodes s (shifted x k d) p.objective 0) taken.0
         (λ k low. (rest p.objective).1 k low 0) (λ k low. h.falls k (<ℚ-≤ℚ low));
   }
 

@@ -59,18 +59,22 @@ node_sides nodes i n at = ap (λ (o : Option Node). unwrap_or (option_map (λ (k
 
 -- ---- where numbers stand
 -- coefficients of the first nodes alone
-pub first_dots : (nodes : List Node) (i : ℕ) → i ≤ length nodes → (t : List Frac) → length t ≡ start_of nodes i → (f g : ℕ → Numbers) → ((k : ℕ) → k < i → f k ≡ g k) → dot t (flat nodes f) ≡ dot t (flat nodes g)
-first_dots nodes i b t count f g same = sums f ∙ rat_sum_below-same i _ _ (λ k l. ap (λ (v : Numbers). rat_sum_below (entries_of (sides_at nodes k)) (λ e. number_at t (start_of nodes k + e) *ℚ v e)) (same k l)) ∙ sym (sums g)
+pub first_dots : (nodes : List Node) (i : ℕ) → i ≤ length nodes → (t : List Frac) → length t ≡ start_of nodes i → (f g : ℕ → Numbers) → ((k : ℕ) → k < i → f k ≡ g k)
+    → dot t (flat nodes f) ≡ dot t (flat nodes g)
+first_dots nodes i b t count f g same =
+    sums f ∙ rat_sum_below-same i _ _ (λ k l. ap (λ (v : Numbers). rat_sum_below (entries_of (sides_at nodes k)) (λ e. number_at t (start_of nodes k + e) *ℚ v e)) (same k l)) ∙ sym (sums g)
   where
     sums : (f : ℕ → Numbers) → dot t (flat nodes f) ≡ rat_sum_below i (λ k. rat_sum_below (entries_of (sides_at nodes k)) (λ e. number_at t (start_of nodes k + e) *ℚ f k e))
     sums f =
         dot-sum t (flat nodes f) ∙ ap (λ n. rat_sum_below n (λ q. number_at t q *ℚ flat nodes f q)) count
         ∙ by_nodes nodes (λ q. number_at t q *ℚ flat nodes f q) i b
-        ∙ rat_sum_below-same i _ _ (λ k l. rat_sum_below-same (entries_of (sides_at nodes k)) _ _ (λ e c. ap (λ z. number_at t (start_of nodes k + e) *ℚ z) (flat-place nodes f k e (omega (arith, l, b)) c)))
+        ∙ rat_sum_below-same i _ _ (λ k l. rat_sum_below-same (entries_of (sides_at nodes k)) _ _ (λ e c. ap (λ z. number_at t (start_of nodes k + e) *ℚ z)
+        (flat-place nodes f k e (omega (arith, l, b)) c)))
 
 module _ (names : Names) (nodes : List Node) (are : AreNodes shape_of nodes) (s : Setting) (values : List (Option Array)) where
   -- a family is 0 past the ends
-  node_ends : (x : Point) (t : ℕ → Filling) (g : ℕ → Numbers) → IsFamily names nodes s values x t g → (i e : ℕ) → i < length nodes → (n : Node) → IsNode nodes i n → entries_of n.sides ≤ e → g i e ≡ whole (pos 0)
+  node_ends : (x : Point) (t : ℕ → Filling) (g : ℕ → Numbers) → IsFamily names nodes s values x t g → (i e : ℕ) → i < length nodes → (n : Node) → IsNode nodes i n → entries_of n.sides ≤ e
+      → g i e ≡ whole (pos 0)
   node_ends x t g family i e b n at beyond = by (array_at values i) refl
     where
       told : value_at (convex_nodes names nodes) s x i ≡ value_by s x (head_of names n.call (arg_sides nodes n) n.sides) (map (value_at (convex_nodes names nodes) s x) n.args)

@@ -1,6 +1,7 @@
 -- One node of the pass: what bounds the coefficients of the nodes up to it, with the weighted rows of their graphs, bounds those of the
 -- nodes before it, and its weights meet the conditions of slopes.
-use Rattle.std.proofs.Common.{◌≡◌, ◌⊎◌, ℕ, zero, suc, ◌+◌, ◌<◌, ◌≤◌, arith, List, [], ◌∷◌, ◌++◌, map, length, get_or, All, refl, sym, ap, ap₂, ◌∙◌, subst, inl, inr, append-nil, Option, Some, None, IsSome, Result, Ok, Err, slice_get, pos, ⊎_elim}
+use Rattle.std.proofs.Common.{◌≡◌, ◌⊎◌, ℕ, zero, suc, ◌+◌, ◌<◌, ◌≤◌, arith, List, [], ◌∷◌, ◌++◌, map, length, get_or, All, refl, sym, ap, ap₂, ◌∙◌}
+use Rattle.std.proofs.Common.{subst, append-nil, Option, Some, None, Result, Ok, Err, slice_get, pos, ⊎_elim}
 use Rattle.std.proofs.lemmas.List.{length-map, get_or-map}
 use Rattle.std.specs.Prelude.{option_map}
 use Rattle.dcx_math.specs.Rational.{ℚ, whole, ◌+ℚ◌, ◌*ℚ◌, ◌-ℚ◌, ◌≤ℚ◌}
@@ -26,7 +27,8 @@ use Rattle.dcx_atom.specs.Formed.{exact}
 use Rattle.dcx_atom.specs.Meaning.{Meaning}
 use Rattle.dcx_atom.specs.Laws.{slopes_times}
 use Rattle.dcx_atom.specs.Steps.{entry_stop, weights_of}
-use Rattle.dcx_atom.proofs.Duality.{no_entries, no_filling, balance, weighted_parts}
+use Rattle.dcx_atom.proofs.Duality.{weighted_parts}
+use Rattle.dcx_atom.specs.Duality.{no_entries, no_filling, balance}
 use Rattle.dcx_affine.specs.declared.pairing.Pairing.{Pairing}
 use Rattle.dcx_affine.specs.declared.pairing.Pairing.TheVariants.{Times, MatTimes, Over}
 use Rattle.dcx_affine.specs.Pairing.{pairs_at}
@@ -36,12 +38,12 @@ use Rattle.dcx_convex.proofs.Told.{map-same}
 use Rattle.dcx_call.specs.declared.atoms.AtomCall.{AtomCall}
 use Rattle.dcx_call.specs.declared.call.Call.{Call}
 use Rattle.dcx_call.specs.declared.call.Call.TheVariants as calls
-use Rattle.dcx_call.specs.Atoms.{atom_meaning}
+use Rattle.dcx_call.specs.Atoms.{atom_meaning, atom_lawful}
 use Rattle.dcx_call.specs.Linears.{linear_meaning, linear_lawful}
 use Rattle.dcx_call.specs.Calls.{shape_of, sides_of_two}
-use Rattle.dcx_call.proofs.Products.{value-frac_at}
+use Rattle.dcx_atom.proofs.Fractions.{value-frac_at}
 use Rattle.dcx_call.proofs.CallLaws.{own_is}
-use Rattle.dcx_call.specs.Exact.{HaveFewEntries}
+use Rattle.dcx_atom.specs.Fractions.{HaveFewEntries, HasFractionSlopes}
 use Rattle.dcx_call.proofs.Coefficients.{coefficients_fit}
 use Rattle.dcx_tree.specs.Nodes.{Names, Node, arg_sides, number_in}
 use Rattle.dcx_shape.specs.Shape.{sides_of}
@@ -61,23 +63,17 @@ use Rattle.dcx_cert_collect.proofs.Flat.{dot, flat}
 use Rattle.dcx_cert_collect.proofs.Bound.{number_of, IsBefore, worth_of, below_dot, joined_dot, IsWorth}
 use Rattle.dcx_cert_collect.proofs.Points.{first_in, argument_place, place_before}
 use Rattle.dcx_cert_collect.proofs.Worth.{linear_worth, products_worth_right, products_worth_left, quotients_worth}
-use Rattle.dcx_cert_complete.specs.Demanded.{GiveFractions}
 use Rattle.dcx_cert_complete.specs.Families.{IsFamily, AreFilled, AreWeighed, atom_rows, call_rows, rows_below, variable_if, variable_numbers}
-use Rattle.dcx_cert_complete.proofs.Atoms.{atom_dual}
 use Rattle.dcx_cert_complete.proofs.Scaling.{times_filling, balance_times, nothing_lowers}
 use Rattle.dcx_cert_complete.proofs.Soft.{IsSoft, soft_entry, soft_entries}
 use Rattle.dcx_cert_complete.proofs.Families.{changed, changed_itself, changed_other, first_dots, ends, first_same, first_rows}
+use Rattle.dcx_cert_collect.proofs.Bounded.{neither}
 
 -- the stop is an operation that passes
 abbrev pub IsPassing : CollectStop → Type 0
 IsPassing (stops.Slope node entry stated found) = ⊥
 IsPassing (stops.Passes passes) = Unit {0}
 IsPassing stops.Memory = ⊥
-
--- neither of two is there
-neither : (IsSome {T = Array} None ⊎ IsSome {T = Array} None) → ⊥
-neither (inl h) = cc
-neither (inr h) = cc
 
 two_sides : (p : Pairing) (ss : List Sides) (sides : Sides) → sides_of_two p ss ≡ Some sides → length ss ≡ 2
 two_sides p [] sides e = cc
@@ -97,7 +93,8 @@ module _ (names : Names) (nodes : List Node) (are : AreNodes shape_of nodes) (s 
   few : (i : ℕ) → i < length nodes → entries_of (sides_of_node nodes i) ≤ 20000
   few i b = omega (arith, start_next nodes i b, start_within nodes (i + 1), are.room.few_entries)
 
-  module _ (i : ℕ) (b : i < length nodes) (n : Node) (at : IsNode nodes i n) (none : array_at values i ≡ None) (cs t0 : List Frac) (size : length cs ≡ entries_of n.sides) (start : length t0 ≡ start_of nodes i)
+  module _ (i : ℕ) (b : i < length nodes) (n : Node) (at : IsNode nodes i n) (none : array_at values i ≡ None) (cs t0 : List Frac) (size : length cs ≡ entries_of n.sides)
+      (start : length t0 ≡ start_of nodes i)
       (counted : ℚ) (reached : List Reached) where
     abbrev ss : List Sides
     ss = arg_sides nodes n
@@ -135,7 +132,8 @@ module _ (names : Names) (nodes : List Node) (are : AreNodes shape_of nodes) (s 
     many = sym (length-map n.args (sides_of_node nodes))
 
     few_sides : HaveFewEntries ss
-    few_sides = λ k d c. subst (λ (r : Sides). entries_of r ≤ 20000) (sym (get_or-map (sides_of_node nodes) n.args k 0 d (omega (arith, c, many)))) (few (get_or n.args k 0) (there k 0 (omega (arith, c, many))))
+    few_sides = λ k d c. subst (λ (r : Sides). entries_of r ≤ 20000) (sym (get_or-map (sides_of_node nodes) n.args k 0 d (omega (arith, c, many))))
+        (few (get_or n.args k 0) (there k 0 (omega (arith, c, many))))
 
     shaped : (call : Call) → n.call ≡ call → shape_of call ss ≡ Some n.sides
     shaped call same = subst (λ c. shape_of c ss ≡ Some n.sides) same (are.shaped i n at)
@@ -161,8 +159,9 @@ module _ (names : Names) (nodes : List Node) (are : AreNodes shape_of nodes) (s 
       two : (p : Pairing) → n.call ≡ calls.Pairing p → length n.args ≡ 2
       two p same = many ∙ two_sides p ss n.sides (shaped (calls.Pairing p) same)
 
-      exact_of : (u : List Frac) (w : Numbers) → ((j : ℕ) → j < entries_of n.sides → g i j ≡ w j) → dot u (flat nodes g) ≡ dot t0 (flat nodes g) +ℚ rat_sum_below (length cs) (λ j. number_at cs j *ℚ w j) →
-          dot u (flat nodes g) +ℚ whole (pos 0) ≡ dot t0 (flat nodes g) +ℚ own_times g
+      exact_of : (u : List Frac) (w : Numbers) → ((j : ℕ) → j < entries_of n.sides → g i j ≡ w j)
+          → dot u (flat nodes g) ≡ dot t0 (flat nodes g) +ℚ rat_sum_below (length cs) (λ j. number_at cs j *ℚ w j)
+          → dot u (flat nodes g) +ℚ whole (pos 0) ≡ dot t0 (flat nodes g) +ℚ own_times g
       exact_of u w is e = +ℚ_idr _ ∙ e ∙ ap (λ z. dot t0 (flat nodes g) +ℚ z) (entries_are w is)
 
       pub linear_exact : (l : _) → n.call ≡ calls.Linear l → (u : List Frac) → with_shares t0 (linear_shares nodes n.args cs ((linear_meaning l).terms ss)) ≡ Ok u →
@@ -175,40 +174,49 @@ module _ (names : Names) (nodes : List Node) (are : AreNodes shape_of nodes) (s 
           (linear_worth nodes n.args (flat nodes g) (start_of nodes i) (a g) before placed m ss cs (λ j c. coefficients_fit l ss n.sides j shape (omega (arith, c, size)) few_sides)
           (λ j c. law j (omega (arith, c, size))) t0 u start e)
 
-      pub times_exact : (o r : Option Array) → array_at values (get_or n.args 0 0) ≡ o → array_at values (get_or n.args 1 0) ≡ r → n.call ≡ calls.Pairing Times → HasKnownSide Times o r → (u : List Frac) →
-          with_shares t0 (pairing_hands nodes n.args Times ss o r cs) ≡ Ok u → dot u (flat nodes g) +ℚ whole (pos 0) ≡ dot t0 (flat nodes g) +ℚ own_times g
+      pub times_exact : (o r : Option Array) → array_at values (get_or n.args 0 0) ≡ o → array_at values (get_or n.args 1 0) ≡ r → n.call ≡ calls.Pairing Times → HasKnownSide Times o r
+          → (u : List Frac)
+          → with_shares t0 (pairing_hands nodes n.args Times ss o r cs) ≡ Ok u → dot u (flat nodes g) +ℚ whole (pos 0) ≡ dot t0 (flat nodes g) +ℚ own_times g
       times_exact (Some y) r left right same h u e =
           exact_of u (call_entry names s x (calls.Pairing Times) ss (a g) (t i)) (told (calls.Pairing Times) same)
-          (products_worth_left nodes n.args (flat nodes g) (start_of nodes i) (a g) before placed y.entries cs (pairs_at Times (sides_at ss 0) (sides_at ss 1)) (side_is 0 y (omega (arith, two Times same)) left) t0 u start e)
+          (products_worth_left nodes n.args (flat nodes g) (start_of nodes i) (a g) before placed y.entries cs (pairs_at Times (sides_at ss 0) (sides_at ss 1))
+          (side_is 0 y (omega (arith, two Times same)) left) t0 u start e)
       times_exact None (Some y) left right same h u e =
           exact_of u (call_entry names s x (calls.Pairing Times) ss (a g) (t i)) (told (calls.Pairing Times) same)
-          (products_worth_right nodes n.args (flat nodes g) (start_of nodes i) (a g) before placed y.entries cs (pairs_at Times (sides_at ss 0) (sides_at ss 1)) (side_is 1 y (omega (arith, two Times same)) right) t0 u start e)
+          (products_worth_right nodes n.args (flat nodes g) (start_of nodes i) (a g) before placed y.entries cs (pairs_at Times (sides_at ss 0) (sides_at ss 1))
+          (side_is 1 y (omega (arith, two Times same)) right) t0 u start e)
       times_exact None None left right same h u e = absurd (neither h)
 
-      pub mat_times_exact : (o r : Option Array) → array_at values (get_or n.args 0 0) ≡ o → array_at values (get_or n.args 1 0) ≡ r → n.call ≡ calls.Pairing MatTimes → HasKnownSide MatTimes o r → (u : List Frac) →
-          with_shares t0 (pairing_hands nodes n.args MatTimes ss o r cs) ≡ Ok u → dot u (flat nodes g) +ℚ whole (pos 0) ≡ dot t0 (flat nodes g) +ℚ own_times g
+      pub mat_times_exact : (o r : Option Array) → array_at values (get_or n.args 0 0) ≡ o → array_at values (get_or n.args 1 0) ≡ r → n.call ≡ calls.Pairing MatTimes → HasKnownSide MatTimes o r
+          → (u : List Frac)
+          → with_shares t0 (pairing_hands nodes n.args MatTimes ss o r cs) ≡ Ok u → dot u (flat nodes g) +ℚ whole (pos 0) ≡ dot t0 (flat nodes g) +ℚ own_times g
       mat_times_exact (Some y) r left right same h u e =
           exact_of u (call_entry names s x (calls.Pairing MatTimes) ss (a g) (t i)) (told (calls.Pairing MatTimes) same)
-          (products_worth_left nodes n.args (flat nodes g) (start_of nodes i) (a g) before placed y.entries cs (pairs_at MatTimes (sides_at ss 0) (sides_at ss 1)) (side_is 0 y (omega (arith, two MatTimes same)) left) t0 u start e)
+          (products_worth_left nodes n.args (flat nodes g) (start_of nodes i) (a g) before placed y.entries cs (pairs_at MatTimes (sides_at ss 0) (sides_at ss 1))
+          (side_is 0 y (omega (arith, two MatTimes same)) left) t0 u start e)
       mat_times_exact None (Some y) left right same h u e =
           exact_of u (call_entry names s x (calls.Pairing MatTimes) ss (a g) (t i)) (told (calls.Pairing MatTimes) same)
-          (products_worth_right nodes n.args (flat nodes g) (start_of nodes i) (a g) before placed y.entries cs (pairs_at MatTimes (sides_at ss 0) (sides_at ss 1)) (side_is 1 y (omega (arith, two MatTimes same)) right) t0 u start e)
+          (products_worth_right nodes n.args (flat nodes g) (start_of nodes i) (a g) before placed y.entries cs (pairs_at MatTimes (sides_at ss 0) (sides_at ss 1))
+          (side_is 1 y (omega (arith, two MatTimes same)) right) t0 u start e)
       mat_times_exact None None left right same h u e = absurd (neither h)
 
       pub over_exact : (o r : Option Array) → array_at values (get_or n.args 1 0) ≡ r → n.call ≡ calls.Pairing Over → HasKnownSide Over o r → (u : List Frac) →
           with_shares t0 (pairing_hands nodes n.args Over ss o r cs) ≡ Ok u → dot u (flat nodes g) +ℚ whole (pos 0) ≡ dot t0 (flat nodes g) +ℚ own_times g
       over_exact o (Some y) right same h u e =
           exact_of u (call_entry names s x (calls.Pairing Over) ss (a g) (t i)) (told (calls.Pairing Over) same)
-          (quotients_worth nodes n.args (flat nodes g) (start_of nodes i) (a g) before placed y.entries cs (pairs_at Over (sides_at ss 0) (sides_at ss 1)) (side_is 1 y (omega (arith, two Over same)) right) t0 u start e)
+          (quotients_worth nodes n.args (flat nodes g) (start_of nodes i) (a g) before placed y.entries cs (pairs_at Over (sides_at ss 0) (sides_at ss 1))
+          (side_is 1 y (omega (arith, two Over same)) right) t0 u start e)
       over_exact o None right same h u e = cc
 
     -- ---- calls that hand on all that they are worth
     pub hands_all : (call : Call) (u : List Frac) (more : List Reached) →
-        ((x : Point) (t : ℕ → Filling) (g : ℕ → Numbers) → IsFamily names nodes s values x t g → dot u (flat nodes g) +ℚ reached_times more (variable_numbers names nodes x) ≡ dot t0 (flat nodes g) +ℚ own_times g) →
-        ((g : ℕ → Numbers) (t : ℕ → Filling) → call_rows call ss (entries_of n.sides) (weights i) (a g) (t i) ≡ whole (pos 0)) → Before call → After u more
+        ((x : Point) (t : ℕ → Filling) (g : ℕ → Numbers) → IsFamily names nodes s values x t g
+        → dot u (flat nodes g) +ℚ reached_times more (variable_numbers names nodes x) ≡ dot t0 (flat nodes g) +ℚ own_times g)
+        → ((g : ℕ → Numbers) (t : ℕ → Filling) → call_rows call ss (entries_of n.sides) (weights i) (a g) (t i) ≡ whole (pos 0)) → Before call → After u more
     hands_all call u more exact rows bound x d t filled g family =
         let vn = variable_numbers names nodes x in
-        subst (λ q. v ≤ℚ counted +ℚ q +ℚ dot u (flat nodes g) +ℚ rows_below nodes values weights i g t) (sym (rat_sum_by-++ (λ (r : Reached). rat_sum_below (length r.coefficients) (λ e. number_at r.coefficients e *ℚ vn r.node.0 e)) reached more))
+        subst (λ q. v ≤ℚ counted +ℚ q +ℚ dot u (flat nodes g) +ℚ rows_below nodes values weights i g t)
+        (sym (rat_sum_by-++ (λ (r : Reached). rat_sum_below (length r.coefficients) (λ e. number_at r.coefficients e *ℚ vn r.node.0 e)) reached more))
         (carried v counted (reached_times reached vn) (dot t0 (flat nodes g)) (own_times g) (reached_times more vn) (dot u (flat nodes g)) (rows_below nodes values weights i g t)
         (call_rows call ss (entries_of n.sides) (weights i) (a g) (t i)) (bound x d t filled g family) (exact x t g family) (rows g t))
 
@@ -240,7 +248,8 @@ module _ (names : Names) (nodes : List Node) (are : AreNodes shape_of nodes) (s 
       left u = balance M ss (entries_of n.sides) (number_at cs) w u
 
       -- what the node has with its rows is its slopes' part and what its unknowns leave
-      parts : (x : Point) (t : ℕ → Filling) (g : ℕ → Numbers) → IsFamily names nodes s values x t g → own_times g +ℚ atom_rows M ss (entries_of n.sides) (weights i) (a g) (t i) ≡ slopes g +ℚ left (t i)
+      parts : (x : Point) (t : ℕ → Filling) (g : ℕ → Numbers) → IsFamily names nodes s values x t g
+          → own_times g +ℚ atom_rows M ss (entries_of n.sides) (weights i) (a g) (t i) ≡ slopes g +ℚ left (t i)
       parts x t g family =
           let count = entries_of n.sides in
           let c = number_at cs in
@@ -253,7 +262,7 @@ module _ (names : Names) (nodes : List Node) (are : AreNodes shape_of nodes) (s 
           ∙ sym (rat_sum_below-+ℚ count f whole_rows)
           ∙ rat_sum_below-same count _ _ (λ j _. ap (λ z. f j +ℚ z) (weighted_parts (M.rows ss j) (w j) (a g) (t i)) ∙ turn (f j) (over_arguments j) (over_unknowns j))
           ∙ rat_sum_below-+ℚ count over_arguments (λ j. f j +ℚ over_unknowns j)
-          ∙ ap (λ z. z +ℚ left (t i)) (sym ((atom_dual m).slopes ss n.sides (shaped (calls.Atom m) same) w (a g)))
+          ∙ ap (λ z. z +ℚ left (t i)) (sym ((atom_lawful m).duality.slopes ss n.sides (shaped (calls.Atom m) same) w (a g)))
         where
           turn : (p q r : ℚ) → p +ℚ (q +ℚ r) ≡ q +ℚ (p +ℚ r)
           turn p q r = ring (p ∷ q ∷ r ∷ []) (search reads depth 30) tt
@@ -264,7 +273,8 @@ module _ (names : Names) (nodes : List Node) (are : AreNodes shape_of nodes) (s 
 
       apart : Before (calls.Atom m) → Everywhere (λ x t g. Apart x t g (t i))
       apart bound x d t filled g family =
-          swapped v counted (reached_times reached (variable_numbers names nodes x)) (dot t0 (flat nodes g)) (own_times g) (rows_below nodes values weights i g t) (atom_rows M ss (entries_of n.sides) (weights i) (a g) (t i)) (slopes g) (left (t i))
+          swapped v counted (reached_times reached (variable_numbers names nodes x)) (dot t0 (flat nodes g)) (own_times g) (rows_below nodes values weights i g t)
+          (atom_rows M ss (entries_of n.sides) (weights i) (a g) (t i)) (slopes g) (left (t i))
           (bound x d t filled g family) (parts x t g family)
         where
           swapped : (v c r d o l z p q : ℚ) → v ≤ℚ c +ℚ r +ℚ (d +ℚ o) +ℚ (l +ℚ z) → o +ℚ z ≡ p +ℚ q → v ≤ℚ c +ℚ r +ℚ (d +ℚ p) +ℚ (l +ℚ q)
@@ -302,7 +312,8 @@ module _ (names : Names) (nodes : List Node) (are : AreNodes shape_of nodes) (s 
             let c = counted +ℚ reached_times reached (variable_numbers names nodes x) in
             subst (λ z. v ≤ℚ c +ℚ (dot t0 (flat nodes g) +ℚ slopes g) +ℚ (z +ℚ left u)) (first_rows nodes are values weights i (omega (arith, b)) h g t' t arrays unknowns)
             (subst (λ z. v ≤ℚ c +ℚ (z +ℚ slopes g) +ℚ (rows_below nodes values weights i h t' +ℚ left u)) (first_dots nodes i (omega (arith, b)) t0 start h g arrays)
-            (subst (λ (fs : List Numbers). v ≤ℚ c +ℚ (dot t0 (flat nodes h) +ℚ slopes_times M ss w (arguments fs)) +ℚ (rows_below nodes values weights i h t' +ℚ left u)) (map-same (λ k. k < i) h g arrays n.args (are.earlier i n at))
+            (subst (λ (fs : List Numbers). v ≤ℚ c +ℚ (dot t0 (flat nodes h) +ℚ slopes_times M ss w (arguments fs)) +ℚ (rows_below nodes values weights i h t' +ℚ left u))
+            (map-same (λ k. k < i) h g arrays n.args (are.earlier i n at))
             (subst (λ (f : Filling). v ≤ℚ c +ℚ (dot t0 (flat nodes h) +ℚ slopes h) +ℚ (rows_below nodes values weights i h t' +ℚ left f)) (changed_itself t i u)
             (apart bound x d t' filled' h family'))))
 
@@ -319,9 +330,11 @@ module _ (names : Names) (nodes : List Node) (are : AreNodes shape_of nodes) (s 
         zero_kinds k e = *ℚ-nonnegative (≤ℚ_refl (whole (pos 0))) (≤ℚ_refl (whole (pos 0)))
 
         -- the slopes' part alone is bounded
-        slopes_bound : Before (calls.Atom m) → Everywhere (λ x t g. v ≤ℚ counted +ℚ reached_times reached (variable_numbers names nodes x) +ℚ (dot t0 (flat nodes g) +ℚ slopes g) +ℚ rows_below nodes values weights i g t)
+        slopes_bound : Before (calls.Atom m) → Everywhere (λ x t g. v ≤ℚ counted +ℚ reached_times reached (variable_numbers names nodes x) +ℚ (dot t0 (flat nodes g) +ℚ slopes g)
+            +ℚ rows_below nodes values weights i g t)
         slopes_bound bound x d t filled g family =
-            subst (λ z. v ≤ℚ counted +ℚ reached_times reached (variable_numbers names nodes x) +ℚ (dot t0 (flat nodes g) +ℚ slopes g) +ℚ z) (ap (λ z. rows_below nodes values weights i g t +ℚ z) nothing_left ∙ +ℚ_idr _)
+            subst (λ z. v ≤ℚ counted +ℚ reached_times reached (variable_numbers names nodes x) +ℚ (dot t0 (flat nodes g) +ℚ slopes g) +ℚ z)
+            (ap (λ z. rows_below nodes values weights i g t +ℚ z) nothing_left ∙ +ℚ_idr _)
             (any_unknowns bound x d t filled g family no_unknowns zero_kinds)
 
         module _ (origin : Point) (inside : D origin) (weighed : AreWeighed nodes values weights) (bound : Before (calls.Atom m)) where
@@ -336,7 +349,7 @@ module _ (names : Names) (nodes : List Node) (are : AreNodes shape_of nodes) (s 
               let lowers = nothing_lowers M ss (entries_of n.sides) (number_at cs) w (v -ℚ (c +ℚ r)) (λ u kinds. moved v c r (left u) (any_unknowns bound origin inside t filled g family u kinds)) in
               soft_entries (length cs) (entry_stop M ss (number_at cs) w) (λ j k.
               let l : j < entries_of n.sides = omega (arith, k, size) in
-              soft_entry M ss (number_at cs) w j (λ e h. weighed i n at none m same j e l h) ((atom_dual m).demanded ss n.sides (shaped (calls.Atom m) same) (number_at cs) w lowers j l))
+              soft_entry M ss (number_at cs) w j (λ e h. weighed i n at none m same j e l h) ((atom_lawful m).duality.demanded ss n.sides (shaped (calls.Atom m) same) (number_at cs) w lowers j l))
             where
               moved : (v c r q : ℚ) → v ≤ℚ c +ℚ (r +ℚ q) → v -ℚ (c +ℚ r) ≤ℚ q
               moved v c r q h = linear (v ∷ c ∷ r ∷ q ∷ []) h (search reads depth 30) tt
@@ -348,7 +361,7 @@ module _ (names : Names) (nodes : List Node) (are : AreNodes shape_of nodes) (s 
               ⊎_elim (λ h. none_stopped k f both.0 j h) (λ r. ap f r ∙ both.1) (below_or_last j k l)
 
           -- what the slopes are worth
-          slopes_exact : GiveFractions M → slopes_stop M ss cs (weights i) ≡ None → (u : List Frac) → with_shares t0 (slope_shares nodes n.args ss (slope_frac M ss (weights i))) ≡ Ok u →
+          slopes_exact : HasFractionSlopes M → slopes_stop M ss cs (weights i) ≡ None → (u : List Frac) → with_shares t0 (slope_shares nodes n.args ss (slope_frac M ss (weights i))) ≡ Ok u →
               (x : Point) (t : ℕ → Filling) (g : ℕ → Numbers) → IsFamily names nodes s values x t g → dot u (flat nodes g) ≡ dot t0 (flat nodes g) +ℚ slopes g
           slopes_exact fractions none u e x t g family =
               let ws = weights i in
@@ -359,17 +372,21 @@ module _ (names : Names) (nodes : List Node) (are : AreNodes shape_of nodes) (s 
               let one : (k : ℕ) → k < length n.args → (e : ℕ) → e < entries_of (sides_at ss k) → IsWorth F L (share_to nodes n.args k e (Ok (slope_frac M ss ws k e))) (slope k e *ℚ a g k e) =
               λ k c e l. worth_of F L (share_to nodes n.args k e (Ok (slope_frac M ss ws k e))) (slope k e *ℚ a g k e) (before k e)
               (ap₂ ◌*ℚ◌ (value-frac_at (slope k e) (fit k e (omega (arith, c, many)) l)) (placed x t g family k e)) in
-              joined_dot F L (λ k. list_below (entries_of (sides_at ss k)) (λ e. share_to nodes n.args k e (Ok (slope_frac M ss ws k e)))) (λ k. rat_sum_below (entries_of (sides_at ss k)) (λ e. slope k e *ℚ a g k e)) (length n.args)
-              (λ k c t u count e. below_dot F L (λ e. share_to nodes n.args k e (Ok (slope_frac M ss ws k e))) (λ e. slope k e *ℚ a g k e) (entries_of (sides_at ss k)) (one k c) t u count e) t0 u start e
+              joined_dot F L (λ k. list_below (entries_of (sides_at ss k)) (λ e. share_to nodes n.args k e (Ok (slope_frac M ss ws k e))))
+              (λ k. rat_sum_below (entries_of (sides_at ss k)) (λ e. slope k e *ℚ a g k e)) (length n.args)
+              (λ k c t u count e. below_dot F L (λ e. share_to nodes n.args k e (Ok (slope_frac M ss ws k e))) (λ e. slope k e *ℚ a g k e) (entries_of (sides_at ss k)) (one k c) t u count e) t0 u
+              start e
               ∙ ap (λ z. dot t0 F +ℚ rat_sum_below z (λ k. rat_sum_below (entries_of (sides_at ss k)) (λ e. slope k e *ℚ a g k e))) many
 
-          pub atom_fair : GiveFractions M → AreFair (calls.Atom m) (call_shares nodes values i (calls.Atom m) n.args ss cs (weights i))
+          pub atom_fair : HasFractionSlopes M → AreFair (calls.Atom m) (call_shares nodes values i (calls.Atom m) n.args ss cs (weights i))
           atom_fair fractions = by (slopes_stop M ss cs (weights i)) refl soft
             where
               by : (o : Option SlopeStop) → slopes_stop M ss cs (weights i) ≡ o → IsSoft o → AreFair (calls.Atom m) (unless i o (slope_shares nodes n.args ss (slope_frac M ss (weights i))))
               by None is h = λ u e x d t filled g family.
-                  subst (λ (rs : List Reached). v ≤ℚ counted +ℚ reached_times rs (variable_numbers names nodes x) +ℚ dot u (flat nodes g) +ℚ rows_below nodes values weights i g t) (sym (append-nil reached))
-                  (subst (λ z. v ≤ℚ counted +ℚ reached_times reached (variable_numbers names nodes x) +ℚ z +ℚ rows_below nodes values weights i g t) (sym (slopes_exact fractions is u e x t g family)) (slopes_bound bound x d t filled g family))
+                  subst (λ (rs : List Reached). v ≤ℚ counted +ℚ reached_times rs (variable_numbers names nodes x) +ℚ dot u (flat nodes g) +ℚ rows_below nodes values weights i g t)
+                  (sym (append-nil reached))
+                  (subst (λ z. v ≤ℚ counted +ℚ reached_times reached (variable_numbers names nodes x) +ℚ z +ℚ rows_below nodes values weights i g t)
+                  (sym (slopes_exact fractions is u e x t g family)) (slopes_bound bound x d t filled g family))
               by (Some (slope_stops.Refused entry stated found)) is h = h
               by (Some (slope_stops.Passes passes)) is h = tt
               by (Some slope_stops.Memory) is h = h

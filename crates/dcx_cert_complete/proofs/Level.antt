@@ -49,7 +49,8 @@ rows_level : (rows : List Row) → RowsHold rows nothing none
 rows_level [] = tt
 rows_level (row ∷ rows) = (≤ℚ-from_≡ (row_level row), rows_level rows)
 
-atom_level : (m : Meaning) → IsSoundGraph m → (args : List Sides) (sides : Sides) → m.shape args ≡ Some sides → (j : ℕ) → j < entries_of sides → IsBeyond m.bend (m.value args nothing j) (whole (pos 0))
+atom_level : (m : Meaning) → IsSoundGraph m → (args : List Sides) (sides : Sides) → m.shape args ≡ Some sides → (j : ℕ) → j < entries_of sides
+    → IsBeyond m.bend (m.value args nothing j) (whole (pos 0))
 atom_level m sound args sides is j below =
     subst (λ z. IsBeyond m.bend (m.value args nothing j) z) (form_level (m.result args j))
     (sound args sides is nothing none (record { kinds = λ k e. ≤ℚ_refl (whole (pos 0)); rows = λ i b. rows_level (m.rows args i) }) j below)

@@ -1,17 +1,9 @@
 -- The lemmas by which the laws are proved.
-pub mod Units
-pub mod Kinks
-pub mod Extremes
-pub mod Folds
-pub mod Largest
-pub mod Running
-pub mod Atoms
 pub mod Scaling
 pub mod Soft
 pub mod Families
 pub mod Handed
 pub mod Passed
-pub mod Fractions
 pub mod Sums
 pub mod Cones
 pub mod Alone

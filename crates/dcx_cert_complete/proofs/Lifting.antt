@@ -17,13 +17,13 @@ use Rattle.dcx_point.specs.Pairs.{Pairs}
 use Rattle.dcx_arena.specs.Nodes.{IsNode, sides_at}
 use Rattle.dcx_convex.specs.Nodes as convex
 use Rattle.dcx_convex.specs.Nodes.{Numbers, Point, Setting, first_of, arguments}
-use Rattle.dcx_convex.specs.Rules.{Rules, Plain, Parametrized, Judgement, is_constant, judgement_by, judgement_at}
+use Rattle.dcx_convex.specs.Rules.{Rules, Plain, Judgement, is_constant, judgement_by, judgement_at}
 use Rattle.dcx_convex.specs.Certificates.{is_fixed}
 use Rattle.dcx_convex.specs.Reductions.{Unknowns}
 use Rattle.dcx_convex.proofs.Told.{map-same, value_tells, judgement_tells}
 use Rattle.dcx_call.specs.declared.call.Call.{Call}
 use Rattle.dcx_call.specs.declared.call.Call.TheVariants as calls
-use Rattle.dcx_call.specs.Atoms.{atom_meaning}
+use Rattle.dcx_call.specs.Atoms.{atom_meaning, atom_lawful}
 use Rattle.dcx_call.specs.Calls.{shape_of, own_sides}
 use Rattle.dcx_call.proofs.CallLaws.{own_is}
 use Rattle.dcx_tree.specs.declared.problem.Problem.{Problem}
@@ -35,8 +35,7 @@ use Rattle.dcx_linear.specs.Rows.{AreOfKinds}
 use Rattle.dcx_unknowns.specs.Unknowns.{point_at}
 use Rattle.dcx_unknowns.specs.Layout.{is_reduced, call_aux, aux_if, aux_at, unknown_kinds}
 use Rattle.dcx_unknowns.specs.Equations.{Forms, call_entry, args_of, filling_of, AllStand}
-use Rattle.dcx_unknowns.proofs.OwnTerms.{Agree, form_same}
-use Rattle.dcx_unknowns.proofs.OwnGraphs.{atom_own}
+use Rattle.dcx_atom.proofs.OwnTerms.{Agree, form_same}
 use Rattle.dcx_unknowns.proofs.CallGraphs.{call_filling, filled_kinds, filled_value}
 use Rattle.dcx_unknowns.proofs.CallEntries.{first_same}
 use Rattle.dcx_unknowns.proofs.Lift.{filling_if, lift, lift_filling}
@@ -51,10 +50,6 @@ use Rattle.dcx_cert_bound.proofs.OneTable.{value_of_fixed}
 use Rattle.dcx_cert_complete.specs.Families.{IsFamily, AreFilled}
 
 -- ---- nodes that reach no variable have no arguments that do
-constant_fixed : (rules : Rules) (g : Judgement) → IsTrue (is_constant rules g) → IsTrue g.fixed
-constant_fixed Plain g t = t
-constant_fixed Parametrized g t = (and_parts g.fixed g.unparametrized t).0
-
 all_fixed : (J : ℕ → Judgement) (args : List ℕ) → IsTrue (list_all (λ (g : Judgement). g.fixed) (map J args)) → All (λ a. IsTrue (J a).fixed) args
 all_fixed J [] t = All-nil (λ a. IsTrue (J a).fixed)
 all_fixed J (a ∷ args) t =
@@ -189,7 +184,7 @@ module _ (rules : Rules) (p : Problem) (setting : Pairs) (values : List (Option 
   entry_same i n at none (calls.Parameter q) e shape same agree a j b = refl
   entry_same i n at none (calls.Constant c) e shape same agree a j b = refl
   entry_same i n at none (calls.Atom m) e shape same agree a j b =
-      sym (form_same (length ((atom_meaning m).kinds (arg_sides p.tree n))) ((atom_meaning m).result (arg_sides p.tree n) j) (t i) (filling_of rules p i u) ((atom_own m (arg_sides p.tree n) n.sides shape).results j b) agree)
+      sym (form_same (length ((atom_meaning m).kinds (arg_sides p.tree n))) ((atom_meaning m).result (arg_sides p.tree n) j) (t i) (filling_of rules p i u) (((atom_lawful m).own_unknowns (arg_sides p.tree n) n.sides shape).results j b) agree)
   entry_same i n at none (calls.Linear l) e shape same agree a j b = refl
   entry_same i n at none (calls.Pairing q) e shape same agree a j b = refl
 

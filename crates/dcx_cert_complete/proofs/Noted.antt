@@ -1,5 +1,6 @@
 -- The multipliers of the rows of a node's graph are those of its rows among all, and the weights of a certificate are these.
-use Rattle.std.proofs.Common.{◌≡◌, ◌≢◌, ◌⊎◌, inl, inr, ℕ, zero, suc, ◌<◌, arith, Bool, true, false, nat_eq, if◌then◌else◌, List, [], ◌∷◌, ◌++◌, length, map, drop, Option, Some, None, Result, Ok, slice_get, append_assoc, refl, sym, ap, ◌∙◌, eq-eqb}
+use Rattle.std.proofs.Common.{◌≡◌, ◌≢◌, ◌⊎◌, inl, inr, ℕ, zero, suc, ◌<◌, arith, Bool, true, false, nat_eq, if◌then◌else◌, List, [], ◌∷◌, ◌++◌}
+use Rattle.std.proofs.Common.{length, map, drop, Option, Some, None, Result, Ok, slice_get, append_assoc, refl, sym, ap, ◌∙◌, eq-eqb}
 use Rattle.std.specs.List.{filter_map, cons_option, zip}
 use Rattle.std.proofs.lemmas.Bool.{false≢true, ne_eqb, eqb-true}
 use Rattle.std.proofs.lemmas.List.{append-nil}
@@ -111,8 +112,9 @@ joined_at f (suc n) i b = by (below_or_last i n b) (λ k. joined_at f n i k)
     by (inr e) earlier = ([], ap (λ k. joined_below k f ++ f k) (sym e) ∙ ap (λ xs. joined_below i f ++ xs) (sym (append-nil (f i))))
 
 -- row q of node i: what is kept of it is what is kept of its row among all
-pub node_note : (before : List Origin) (nodes : List Node) (reduced : ℕ → Bool) (n i : ℕ) → Others i before → i < n → (notes : List RowNote) (q : ℕ) → q < length (node_rows nodes i (reduced i) (slice_get nodes i)) →
-    slice_get (filter_map (note_of i) (zip (before ++ joined_below n (λ k. node_rows nodes k (reduced k) (slice_get nodes k))) notes)) q
+pub node_note : (before : List Origin) (nodes : List Node) (reduced : ℕ → Bool) (n i : ℕ) → Others i before → i < n → (notes : List RowNote) (q : ℕ)
+    → q < length (node_rows nodes i (reduced i) (slice_get nodes i))
+    → slice_get (filter_map (note_of i) (zip (before ++ joined_below n (λ k. node_rows nodes k (reduced k) (slice_get nodes k))) notes)) q
     ≡ slice_get (drop (length (before ++ joined_below i (λ k. node_rows nodes k (reduced k) (slice_get nodes k)))) notes) q
 node_note before nodes reduced n i outside b notes q c =
     let f = λ (k : ℕ). node_rows nodes k (reduced k) (slice_get nodes k) in
@@ -124,8 +126,9 @@ node_note before nodes reduced n i outside b notes q c =
     ∙ own_notes i (f i) rest (drop (length front) notes) (node_own i nodes (reduced i) (slice_get nodes i)) q c
 
 -- the weights of a listed atom are the multipliers of the rows of its graph
-pub weights_found : (status : LpStatus) (from : List Origin) (notes : List RowNote) (weights : List NodeWeights) (atoms : List (ℕ × ℕ)) → map formed_weights weights ≡ map (atom_multipliers status from notes) atoms →
-    (k : ℕ) (a : ℕ × ℕ) → slice_get atoms k ≡ Some a → map Ok (weights_at weights a.0) ≡ node_multipliers status from notes a.0
+pub weights_found : (status : LpStatus) (from : List Origin) (notes : List RowNote) (weights : List NodeWeights) (atoms : List (ℕ × ℕ))
+    → map formed_weights weights ≡ map (atom_multipliers status from notes) atoms
+    → (k : ℕ) (a : ℕ × ℕ) → slice_get atoms k ≡ Some a → map Ok (weights_at weights a.0) ≡ node_multipliers status from notes a.0
 weights_found status from notes [] [] e k a at = absurd (none-some a at)
 weights_found status from notes [] (b ∷ atoms) e k a at = cc
 weights_found status from notes (w ∷ weights) [] e k a at = cc
@@ -140,8 +143,9 @@ weights_found status from notes (w ∷ weights) (b ∷ atoms) e k a at = by (nat
     node : w.node.0 ≡ b.0
     node = ap (λ (z : ℕ × List (Result Frac Passes)). z.0) head
 
-    by : (t : Bool) → nat_eq w.node.0 a.0 ≡ t → (k : ℕ) → slice_get (b ∷ atoms) k ≡ Some a → ((j : ℕ) → slice_get atoms j ≡ Some a → map Ok (weights_at weights a.0) ≡ node_multipliers status from notes a.0) →
-        map Ok (if t then w.numbers else weights_at weights a.0) ≡ node_multipliers status from notes a.0
+    by : (t : Bool) → nat_eq w.node.0 a.0 ≡ t → (k : ℕ) → slice_get (b ∷ atoms) k ≡ Some a
+        → ((j : ℕ) → slice_get atoms j ≡ Some a → map Ok (weights_at weights a.0) ≡ node_multipliers status from notes a.0)
+        → map Ok (if t then w.numbers else weights_at weights a.0) ≡ node_multipliers status from notes a.0
     by true same k there later =
         ap (λ (z : ℕ × List (Result Frac Passes)). z.1) head ∙ ap (node_multipliers status from notes) (sym node ∙ eqb-true w.node.0 a.0 same)
     by false same zero there later = absurd (false≢true (sym same ∙ eq-eqb w.node.0 a.0 (node ∙ ap (λ (z : ℕ × ℕ). z.0) (same_Some b a there))))

@@ -42,7 +42,8 @@ module _ (p : Problem) (setting point : Pairs) (fits : Fits p (setting_of p sett
     point_wide f (inr (inside, h)) = constraints_wide f h
 
   -- ---- the objective there
-  objective_wide : (met : ℚ → Type 0) (fault : Frac → CertFault) → met (objective_at p (setting_of p setting) (point_of p point)) → (f : CertFault) → (objective_is p setting point met fault).fails f → IsWide f
+  objective_wide : (met : ℚ → Type 0) (fault : Frac → CertFault) → met (objective_at p (setting_of p setting) (point_of p point)) → (f : CertFault)
+      → (objective_is p setting point met fault).fails f → IsWide f
   objective_wide met fault h f (inl k) = forming_wide p setting point fits (IsReached p.tree _) f k
   objective_wide met fault h f (inr (formed, k)) = absurd (k.0 h)
 

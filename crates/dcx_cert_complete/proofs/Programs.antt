@@ -37,7 +37,8 @@ numbers_have_forms p setting q ok is =
     }
 
 -- a program with affine coefficients that is put at the setting
-fixed_have_forms : (p : Problem) (first setting : Pairs) (q : Program ParamForm) (r : Program Frac) → IsDpp p → ReducesAffine p first (Ok q) → HaveArrays p setting → FixGives setting q (Ok r) → HasForms p (setting_of p setting) r
+fixed_have_forms : (p : Problem) (first setting : Pairs) (q : Program ParamForm) (r : Program Frac) → IsDpp p → ReducesAffine p first (Ok q) → HaveArrays p setting → FixGives setting q (Ok r)
+    → HasForms p (setting_of p setting) r
 fixed_have_forms p first setting q r dpp is arrays fixed =
     let table = is.nodes.table in
     let s = setting_of p setting in record {
@@ -54,6 +55,7 @@ session_programs_have_forms p setting q ok fits (mapped map m f) = fixed_have_fo
 session_programs_have_forms p setting q ok fits (anew n h) = numbers_have_forms p setting q ok h
 
 -- so is each program of whose answers certificates are built
-pub programs_there_have_forms : (p : Problem) (setting : Pairs) (q : Program Frac) → IsAccepted p → FitsParameters p.parameters setting → IsProgramThere p setting q → HasForms p (setting_of p setting) q
+pub programs_there_have_forms : (p : Problem) (setting : Pairs) (q : Program Frac) → IsAccepted p → FitsParameters p.parameters setting → IsProgramThere p setting q
+    → HasForms p (setting_of p setting) q
 programs_there_have_forms p setting q ok fits (inl of_session) = session_programs_have_forms p setting q ok fits of_session
 programs_there_have_forms p setting q ok fits (inr of_numbers) = numbers_have_forms p setting q ok of_numbers

@@ -1,11 +1,12 @@
 -- Along a ray a node goes as its steepness, up to a number that stays: at least that where it is convex, at most that where it is concave.
-use Rattle.std.proofs.Common.{◌≡◌, inl, inr, ℕ, zero, suc, ◌<◌, arith, Bool, true, false, IsTrue, IsFalse, nat_lt, if◌then◌else◌, List, [], ◌∷◌, length, map, All, Option, Some, None, slice_get, refl, sym, ap, ◌∙◌, subst, pos}
+use Rattle.std.proofs.Common.{◌≡◌, inl, inr, ℕ, zero, suc, ◌<◌, arith, Bool, true, false, IsTrue, IsFalse, nat_lt, if◌then◌else◌, List, []}
+use Rattle.std.proofs.Common.{◌∷◌, length, map, All, Option, Some, None, slice_get, refl, sym, ap, ◌∙◌, subst, pos}
 use Rattle.std.specs.Prelude.{◌⊎◌, ◌&&◌}
 use Rattle.std.specs.List.{list_all}
 use Rattle.std.proofs.lemmas.Bool.{and_parts, or_cases, false≢true, ltb-true, ltb-false}
 use Rattle.dcx_math.specs.Rational.{ℚ, whole, ◌+ℚ◌, ◌-ℚ◌, ◌*ℚ◌, neg_ℚ, inverse, ◌≤ℚ◌, ◌<ℚ◌}
 use Rattle.dcx_math.proofs.Ring.{ring, reads}
-use Rattle.dcx_math.proofs.Orders.{≤ℚ_trans, ≤ℚ-from_≡, <ℚ-≤ℚ, *ℚ-≤ℚ, *ℚ-zero, *ℚ_assoc, *ℚ_idl, *ℚ_comm, -ℚ_self, +ℚ-≤ℚ_right, +ℚ_idl, whole-≤ℤ}
+use Rattle.dcx_math.proofs.Orders.{≤ℚ_trans, ≤ℚ-from_≡, <ℚ-≤ℚ, *ℚ-≤ℚ, *ℚ-zero, *ℚ_assoc, *ℚ_idl, *ℚ_comm, -ℚ_self, +ℚ-≤ℚ_right, +ℚ_idl}
 use Rattle.dcx_math.proofs.Products.{*ℚ-nonnegative, *ℚ-nonpositive, *ℚ-inverse_positive, inverse-positive}
 use Rattle.dcx_shape.specs.Sides.{entries_of}
 use Rattle.dcx_atom.specs.declared.flags.Sign.{Sign}
@@ -14,13 +15,14 @@ use Rattle.dcx_atom.specs.declared.flags.Bend.TheVariants.{Convex, Concave}
 use Rattle.dcx_atom.specs.Arrays.{Entries}
 use Rattle.dcx_atom.specs.Signs.{HasSign, IsBeyond, shifted}
 use Rattle.dcx_convex.specs.Calls.{Call, IsLawful}
-use Rattle.dcx_convex.specs.Nodes.{Head, Variable, Parameter, Constant, Apply, Node, Numbers, Point, Setting, IsOrdered, zeros, first_of, arguments, value_by, value_at, ParameterKeeps, EachNode, IsInDomain, IsLawfulHead, AreLawful}
+use Rattle.dcx_convex.specs.Nodes.{Head, Variable, Parameter, Constant, Apply, Node, Numbers, Point, Setting, IsOrdered, zeros, first_of}
+use Rattle.dcx_convex.specs.Nodes.{arguments, value_by, value_at, ParameterKeeps, EachNode, IsInDomain, IsLawfulHead, AreLawful}
 use Rattle.dcx_convex.specs.Rules.{Plain, Judgement, is_constant, is_bent, argument, bends, all_suit, is_bent_by, judgement_by, judgement_at}
 use Rattle.dcx_convex.specs.Certificates.{is_fixed, given_at}
 use Rattle.dcx_convex.proofs.Told.{value_tells, judgement_tells}
 use Rattle.dcx_convex.proofs.Arguments.{args_signed, fixed_argument_same}
 use Rattle.dcx_convex.proofs.Signs.{at_test, value_fixed}
-use Rattle.dcx_convex.proofs.Beyond.{beyond_same, beyond_trans, IsBeyondAs, args_follow}
+use Rattle.dcx_convex.proofs.Beyond.{beyond_same, IsBeyondAs, args_follow}
 use Rattle.dcx_convex.proofs.Convexity.{bent_is}
 use Rattle.dcx_right.specs.Steepness.{taken_at, steep_by, steep_at}
 use Rattle.dcx_right.specs.Rays.{HeadRecedes, Recedes, AreReceding}
@@ -29,6 +31,8 @@ use Rattle.dcx_right.proofs.Told.{none_fixed, level, steep_tells}
 use Rattle.dcx_cert_complete.proofs.Level.{nothing, HeadStarts, AreStarting}
 use Rattle.dcx_cert_complete.proofs.Taken.{taken_signed, taken_follow, kind_bends, taken_between, start_along, fixed_stands, along_taken, start_low}
 use Rattle.dcx_cert_complete.proofs.Steep.{given_signed, steep_signed}
+use Rattle.dcx_atom.specs.Farthest.{beyond_trans}
+use Rattle.dcx_atom.proofs.Units.{one_nonnegative}
 
 -- ---- numbers
 scaled_signed : (s : Sign) (k y : ℚ) → whole (pos 0) ≤ℚ k → HasSign s y → HasSign s (k *ℚ y)
@@ -60,9 +64,6 @@ moved_by k x y = ring (k ∷ x ∷ y ∷ []) (search reads depth 30) tt
 no_move : (k : ℚ) → k *ℚ whole (pos 0) ≡ whole (pos 0) -ℚ whole (pos 0)
 no_move k = ring (k ∷ []) (search reads depth 30) tt
 
-one_nonnegative : whole (pos 0) ≤ℚ whole (pos 1)
-one_nonnegative = whole-≤ℤ (pos 0) (pos 1) (record { le = tt })
-
 -- ---- arguments
 arguments_less : (v f : ℕ → Numbers) (args : List ℕ) (i e : ℕ) →
     arguments (map (λ i j. v i j -ℚ f i j) args) i e ≡ shifted (arguments (map v args)) (whole (pos 1)) (arguments (map (λ i j. neg_ℚ (f i j)) args)) i e
@@ -75,7 +76,8 @@ arguments_scaled k low f [] i e = zero_shifted (inverse k)
 arguments_scaled k low f (n ∷ args) zero e = back_again k (f n e) low
 arguments_scaled k low f (n ∷ args) (suc i) e = arguments_scaled k low f args i e
 
-module _ (nodes : List Node) (ordered : IsOrdered nodes) (law : AreLawful nodes) (recede : AreReceding nodes) (start : AreStarting nodes) (s : Setting) (fit : EachNode nodes (λ n. ParameterKeeps s n.head))
+module _ (nodes : List Node) (ordered : IsOrdered nodes) (law : AreLawful nodes) (recede : AreReceding nodes) (start : AreStarting nodes) (s : Setting)
+    (fit : EachNode nodes (λ n. ParameterKeeps s n.head))
     (x d : Point) (dd : IsInDomain nodes d) where
   abbrev judged : ℕ → Judgement
   judged = judgement_at Plain nodes
@@ -174,7 +176,8 @@ module _ (nodes : List Node) (ordered : IsOrdered nodes) (law : AreLawful nodes)
         IsTrue (is_bent_by Plain bend head gs) → (j : ℕ) → IsBeyond bend (k *ℚ steep_by nodes s d head args steep j) (value_by s (shifted x k d) head (map (there k) args) j -ℚ rest_by head j)
     unfolding rest_by
     head_rest (Variable v) lawful recedes starts loose k low bend b j =
-        at_test (entries_of v.sides) j (λ t. IsBeyond bend (k *ℚ (if t then d v.number j else whole (pos 0))) ((if t then x v.number j +ℚ k *ℚ d v.number j else whole (pos 0)) -ℚ (if t then x v.number j else whole (pos 0))))
+        at_test (entries_of v.sides) j (λ t. IsBeyond bend (k *ℚ (if t then d v.number j else whole (pos 0)))
+        ((if t then x v.number j +ℚ k *ℚ d v.number j else whole (pos 0)) -ℚ (if t then x v.number j else whole (pos 0))))
         (λ _. beyond_same bend (moved_by k (x v.number j) (d v.number j))) (beyond_same bend (no_move k))
     head_rest (Parameter q) lawful recedes starts loose k low bend b j = absurd (false≢true (sym loose))
     head_rest (Constant xs) lawful recedes starts loose k low bend b j = absurd (false≢true (sym loose))
@@ -182,7 +185,8 @@ module _ (nodes : List Node) (ordered : IsOrdered nodes) (law : AreLawful nodes)
         by (or_cases (list_all (is_constant Plain) gs) (bends Plain c.kind bend gs && all_suit bend (c.trend (map (λ g. g.sign) gs)) gs) b)
       where
         by : IsTrue (list_all (is_constant Plain) gs) ⊎ IsTrue (bends Plain c.kind bend gs && all_suit bend (c.trend (map (λ g. g.sign) gs)) gs) →
-            IsBeyond bend (k *ℚ first_of c.size (c.value (taken_at c.kind first G B)) j) (first_of c.size (c.value (arguments (map (there k) args))) j -ℚ first_of c.size (λ e. neg_ℚ (c.value (taken_at c.kind first G R) e)) j)
+            IsBeyond bend (k *ℚ first_of c.size (c.value (taken_at c.kind first G B)) j)
+            (first_of c.size (c.value (arguments (map (there k) args))) j -ℚ first_of c.size (λ e. neg_ℚ (c.value (taken_at c.kind first G R) e)) j)
         by (inl t) = absurd (false≢true (sym loose ∙ t))
         by (inr t) =
             let g = and_parts (bends Plain c.kind bend gs) (all_suit bend (c.trend (map (λ g. g.sign) gs)) gs) t in

@@ -37,8 +37,8 @@ use Rattle.dcx_linear.specs.Rows.{combined_from}
 use Rattle.dcx_unknowns.specs.Layout.{is_reduced, call_aux, call_rows, rows_if, rows_at}
 use Rattle.dcx_unknowns.specs.Equations.{Forms, args_of, filling_of, AllStand, row_number, numbers_if, graph_numbers}
 use Rattle.dcx_unknowns.proofs.Lists.{same_place}
-use Rattle.dcx_unknowns.proofs.OwnTerms.{Agree, AreOwnRows, row_same, rows_same}
-use Rattle.dcx_unknowns.proofs.OwnGraphs.{atom_own}
+use Rattle.dcx_atom.proofs.OwnTerms.{Agree, row_same, rows_same}
+use Rattle.dcx_atom.specs.OwnUnknowns.{AreOwnRows}
 use Rattle.dcx_unknowns.proofs.CallGraphs.{call_filling}
 use Rattle.dcx_unknowns.proofs.NodeForms.{node_at}
 use Rattle.dcx_postsolve.specs.Programs.{bound_row}
@@ -173,7 +173,7 @@ module _ (rules : Rules) (p : Problem) (setting : Pairs) (values : List (Option 
         let shape : M.shape ss ≡ Some n.sides = subst (λ call. shape_of call ss ≡ Some n.sides) same (p.nodes.shaped i n at) in
         let agree = subst (λ call. Agree (length (call_aux p.tree n call)) (t i) f) same (unknown_filling rules p setting values fixed forms all x dom t filled i n at none) in
         rat_sum_below-same (entries_of n.sides) _ _ (λ j l.
-        weighted_same (length (M.kinds ss)) (M.rows ss j) (λ r. m (k + (rows_before M ss j + r))) (weights_of M ss (weights i) j) a f (t i) ((atom_own c ss n.sides shape).rows j l) (λ q h. sym (agree q h))
+        weighted_same (length (M.kinds ss)) (M.rows ss j) (λ r. m (k + (rows_before M ss j + r))) (weights_of M ss (weights i) j) a f (t i) (((atom_lawful c).own_unknowns ss n.sides shape).rows j l) (λ q h. sym (agree q h))
         (λ r h. place (rows_before M ss j + r) ∙ sym (are.weights_are i n at none c same (rows_before M ss j + r) (rows_within M ss (entries_of n.sides) j r l h))))
 
     known_atom : (c : AtomCall) → n.call ≡ calls.Atom c → is_reduced rules p i ≡ true → (y : Array) → array_at values i ≡ Some y → atom_sum c ≤ℚ whole (pos 0)
@@ -190,7 +190,7 @@ module _ (rules : Rules) (p : Problem) (setting : Pairs) (values : List (Option 
         ≤ℚ_trans (rat_sum_below-monotone size _ (λ j. whole (pos 0)) (λ j l.
         weighted-nonpositive (M.rows ss j) (λ r. m (k + (rows_before M ss j + r))) a f
         (λ r h. subst IsNonnegative (sym (place (rows_before M ss j + r))) (are.signs i (rows_before M ss j + r) b (subst (λ q. rows_before M ss j + r < q) (sym (rows_count rules p i n at c same reduced)) (rows_within M ss size j r l h))))
-        (rows_same (length (M.kinds ss)) (M.rows ss j) a (M.filling ss a) f ((atom_own c ss n.sides shape).rows j l) agree (tight.holds.rows j l))))
+        (rows_same (length (M.kinds ss)) (M.rows ss j) a (M.filling ss a) f (((atom_lawful c).own_unknowns ss n.sides shape).rows j l) agree (tight.holds.rows j l))))
         (≤ℚ-from_≡ (rat_sum_below-zero size))
 
     -- a node that has no rows

@@ -14,8 +14,7 @@ use Rattle.dcx_atom.specs.declared.graph.Operand.{Operand}
 use Rattle.dcx_atom.specs.declared.graph.Operand.TheVariants.{Argument, Aux}
 use Rattle.dcx_atom.specs.Rows.{Filling, Row, Form, operand_at, row_at, form_at, KindsHold, weighted}
 use Rattle.dcx_atom.specs.Meaning.{Meaning, Coefficients, Weights}
-use Rattle.dcx_atom.proofs.Duality.{no_entries, balance}
-use Rattle.dcx_cert_complete.specs.Demanded.{LetNothingLower}
+use Rattle.dcx_atom.specs.Duality.{no_entries, balance, LetNothingLower}
 
 -- k times each unknown
 abbrev pub times_filling : ℚ → Filling → Filling

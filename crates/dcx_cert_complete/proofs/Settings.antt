@@ -78,7 +78,8 @@ module _ (setting : Pairs) where
       behind x s zero at rest = absurd (true≢false (sym (same_name-refl q.name) ∙ ap (λ (z : Parameter). same_name q.name z.name) (sym (same_Some r q at)) ∙ s))
       behind x s (suc j) at rest = rw s (rest j at)
 
-      here : (x : Array) → array_of setting r.name ≡ Some x → (t : Bool) → same_name q.name r.name ≡ t → (k : ℕ) → slice_get (r ∷ qs) k ≡ Some q → ToldAmong qs q → array_of ((r.name, x) ∷ told qs) q.name ≡ array_of setting q.name
+      here : (x : Array) → array_of setting r.name ≡ Some x → (t : Bool) → same_name q.name r.name ≡ t → (k : ℕ) → slice_get (r ∷ qs) k ≡ Some q → ToldAmong qs q
+          → array_of ((r.name, x) ∷ told qs) q.name ≡ array_of setting q.name
       here x e true s k at rest = rw s (sym e ∙ ap (array_of setting) (sym (same_name-true q.name r.name s)))
       here x e false s k at rest = behind x s k at rest
 

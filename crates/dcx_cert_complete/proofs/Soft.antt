@@ -54,7 +54,8 @@ soft_tests j (k ∷ ks) h = soft_earlier (step_stop j (test k)) (first_stop j (m
 soft_weights : (j : ℕ) (ws : List ℚ) → All IsNonnegative ws → IsSoft (first_stop j (map (λ x. test (is_weight x)) ws))
 soft_weights j [] h = tt
 soft_weights j (w ∷ ws) h =
-    soft_earlier (step_stop j (test (is_weight w))) (first_stop j (map (λ x. test (is_weight x)) ws)) (soft_test j (is_weight w) (All-head IsNonnegative w ws h)) (soft_weights j ws (All-tail IsNonnegative w ws h))
+    soft_earlier (step_stop j (test (is_weight w))) (first_stop j (map (λ x. test (is_weight x)) ws)) (soft_test j (is_weight w) (All-head IsNonnegative w ws h))
+    (soft_weights j ws (All-tail IsNonnegative w ws h))
 
 soft_forms : (m : Meaning) (args : List Sides) (w : Weights) (j : ℕ) (xs : List ArgumentEntry) → IsSoft (first_stop j (map (λ x. form (m.slope args w x.argument x.entry)) xs))
 soft_forms m args w j [] = tt

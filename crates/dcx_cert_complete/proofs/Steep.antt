@@ -1,12 +1,14 @@
 -- The steepness of a node along a ray of the domain has the node's sign.
-use Rattle.std.proofs.Common.{◌≡◌, ℕ, zero, suc, ◌<◌, arith, Bool, true, false, IsTrue, IsFalse, if◌then◌else◌, List, [], ◌∷◌, length, map, All, Option, Some, None, slice_get, refl, sym, ap, ◌∙◌, subst, pos}
+use Rattle.std.proofs.Common.{◌≡◌, ℕ, zero, suc, ◌<◌, arith, Bool, true, false, IsTrue, IsFalse, if◌then◌else◌, List, [], ◌∷◌}
+use Rattle.std.proofs.Common.{length, map, All, Option, Some, None, slice_get, refl, sym, ap, ◌∙◌, subst, pos}
 use Rattle.std.proofs.lemmas.List.Elements.{All-head, All-tail}
 use Rattle.dcx_math.specs.Rational.{whole}
 use Rattle.dcx_math.proofs.Orders.{≤ℚ_refl}
 use Rattle.dcx_shape.specs.declared.shape.Sides.{Sides}
 use Rattle.dcx_shape.specs.Sides.{entries_of}
 use Rattle.dcx_atom.specs.Signs.{HasSign, HaveSigns, unknown_sign}
-use Rattle.dcx_convex.specs.Nodes.{Attribute, Free, Nonneg, Nonpos, Symmetric, Diag, Head, Variable, Parameter, Constant, Apply, Node, Numbers, Point, Setting, IsOrdered, zeros, arguments, Keeps, VariableKeeps, ParameterKeeps, EachNode, IsInDomain, IsLawfulHead, AreLawful}
+use Rattle.dcx_convex.specs.Nodes.{Attribute, Free, Nonneg, Nonpos, Symmetric, Diag, Head, Variable, Parameter, Constant, Apply, Node, Numbers, Point, Setting}
+use Rattle.dcx_convex.specs.Nodes.{IsOrdered, zeros, arguments, Keeps, VariableKeeps, ParameterKeeps, EachNode, IsInDomain, IsLawfulHead, AreLawful}
 use Rattle.dcx_convex.specs.Rules.{Plain, Judgement, attribute_sign, argument, sign_by, judgement_at}
 use Rattle.dcx_convex.specs.Certificates.{is_fixed, given_at}
 use Rattle.dcx_convex.proofs.Told.{judgement_tells}
@@ -56,7 +58,8 @@ module _ (nodes : List Node) (ordered : IsOrdered nodes) (law : AreLawful nodes)
     steep_args (i ∷ args) all zero e = known i (All-head (λ a. a < n) i args all) e
     steep_args (i ∷ args) all (suc k) e = steep_args args (All-tail (λ a. a < n) i args all) k e
 
-    head_signed : (head : Head) (args : List ℕ) → All (λ a. a < n) args → IsLawfulHead head (length args) → VariableKeeps d head → (j : ℕ) → HasSign (sign_by head (map judged args)) (steep_by nodes s d head args steep j)
+    head_signed : (head : Head) (args : List ℕ) → All (λ a. a < n) args → IsLawfulHead head (length args) → VariableKeeps d head → (j : ℕ)
+        → HasSign (sign_by head (map judged args)) (steep_by nodes s d head args steep j)
     head_signed (Variable v) args all lawful dom = first_signed (attribute_sign v.attribute) (entries_of v.sides) (d v.number) (keeps_signed v.attribute v.sides (d v.number) dom)
     head_signed (Parameter q) args all lawful dom = λ j. zero_signed (attribute_sign q.attribute)
     head_signed (Constant xs) args all lawful dom = λ j. zero_signed (sign_by (Constant xs) (map judged args))

@@ -1,9 +1,9 @@
 -- What calls are taken at along a ray: one side of a product or a quotient stands, and the others go.
 use Rattle.std.proofs.Common.{◌≡◌, inl, inr, ℕ, ◌<◌, Bool, true, false, IsTrue, if◌then◌else◌, List, [], ◌∷◌, nat_eq, refl, sym, ap, ◌∙◌, subst, pos}
 use Rattle.std.proofs.lemmas.Bool.{or_cases, false≢true}
-use Rattle.dcx_math.specs.Rational.{ℚ, whole, ◌+ℚ◌, ◌*ℚ◌, ◌≤ℚ◌}
+use Rattle.dcx_math.specs.Rational.{ℚ, whole, ◌+ℚ◌, ◌*ℚ◌}
 use Rattle.dcx_math.proofs.Ring.{reads}
-use Rattle.dcx_math.proofs.Orders.{linear, whole-≤ℤ}
+use Rattle.dcx_math.proofs.Orders.{linear}
 use Rattle.dcx_atom.specs.declared.flags.Sign.{Sign}
 use Rattle.dcx_atom.specs.declared.flags.Trend.{Trend}
 use Rattle.dcx_atom.specs.declared.flags.Bend.{Bend}
@@ -18,6 +18,7 @@ use Rattle.dcx_right.specs.Rays.{BendsAlong, Recedes}
 use Rattle.dcx_right.proofs.Calls.{zero_shifted}
 use Rattle.dcx_cert_complete.proofs.Level.{nothing, HeadStarts}
 use Rattle.dcx_convex.specs.Nodes.{Apply}
+use Rattle.dcx_atom.proofs.Units.{one_nonnegative}
 
 -- ---- signs and trends
 with_signed : (side : ℕ) (signs : List Sign) (u v : Entries) → HaveSigns signs u → HaveSigns signs v → HaveSigns signs (λ i. if nat_eq i side then u i else v i)
@@ -85,7 +86,8 @@ StandsAs Product true t u = t 0 ≡ u 0
 StandsAs Product false t u = t 1 ≡ u 1
 StandsAs Quotient first t u = t 1 ≡ u 1
 
-pub fixed_stands : (kind : Kind) (bend : Bend) (gs : List Judgement) (t u : Entries) → IsTrue (bends Plain kind bend gs) → ((i : ℕ) → IsTrue (argument gs i).fixed → t i ≡ u i) → StandsAs kind (argument gs 0).fixed t u
+pub fixed_stands : (kind : Kind) (bend : Bend) (gs : List Judgement) (t u : Entries) → IsTrue (bends Plain kind bend gs) → ((i : ℕ) → IsTrue (argument gs i).fixed → t i ≡ u i)
+    → StandsAs kind (argument gs 0).fixed t u
 fixed_stands (Nonlinear own) bend gs t u b h = tt
 fixed_stands Linear bend gs t u b h = tt
 fixed_stands Product bend gs t u b h = by (argument gs 0).fixed refl
@@ -105,9 +107,6 @@ along_taken Product bend false k u t v w h side moved = inr (record { still = sy
 along_taken Quotient bend first k u t v w h side moved = record { still = sym side; same = sym side; moved = ap (λ z. z 0) moved }
 
 -- ---- at nothing
-one_nonnegative : whole (pos 0) ≤ℚ whole (pos 1)
-one_nonnegative = whole-≤ℤ (pos 0) (pos 1) (record { le = tt })
-
 twice : (bend : Bend) (z : ℚ) → IsBeyond (opposite bend) z (z +ℚ whole (pos 1) *ℚ z) → IsBeyond bend z (whole (pos 0))
 twice Convex z h = linear (z ∷ []) h (search reads depth 30) tt
 twice Concave z h = linear (z ∷ []) h (search reads depth 30) tt
@@ -116,7 +115,8 @@ nothing_shifted : nothing ≡ shifted nothing (whole (pos 1)) nothing
 nothing_shifted = λ t i j. zero_shifted (whole (pos 1)) t
 
 -- where the sides that go are nothing, a call isn't beyond 0
-pub start_low : (c : Call) → Recedes c → HeadStarts (Apply c) → (bend : Bend) → Bends c.kind bend → (first : Bool) (u : Entries) (j : ℕ) → j < c.size → IsBeyond bend (c.value (taken_at c.kind first u nothing) j) (whole (pos 0))
+pub start_low : (c : Call) → Recedes c → HeadStarts (Apply c) → (bend : Bend) → Bends c.kind bend → (first : Bool) (u : Entries) (j : ℕ) → j < c.size
+    → IsBeyond bend (c.value (taken_at c.kind first u nothing) j) (whole (pos 0))
 start_low c recedes starts bend b first u j below = by c.kind refl b
   where
     level : (kind : Kind) → c.kind ≡ kind → Bends kind (opposite bend) → IsBeyond bend (c.value (taken_at kind first u nothing) j) (whole (pos 0))

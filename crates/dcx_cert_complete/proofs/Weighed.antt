@@ -1,5 +1,6 @@
 -- The weights of a certificate that is built are the multipliers of the rows of the graphs.
-use Rattle.std.proofs.Common.{◌≡◌, ℕ, zero, suc, ◌+◌, ◌<◌, arith, Bool, true, false, if◌then◌else◌, List, [], ◌∷◌, ◌++◌, length, map, Option, Some, None, option_map, Result, Ok, slice_get, refl, sym, ap, ap₂, ◌∙◌, subst}
+use Rattle.std.proofs.Common.{◌≡◌, ℕ, zero, suc, ◌+◌, ◌<◌, arith, Bool, true, false, if◌then◌else◌, List, [], ◌∷◌, ◌++◌, length, map}
+use Rattle.std.proofs.Common.{Option, Some, None, option_map, Result, Ok, slice_get, refl, sym, ap, ap₂, ◌∙◌, subst}
 use Rattle.std.specs.List.{flat_map, range_with_len, filter_map, zip}
 use Rattle.std.proofs.lemmas.List.{length-append, length-map, append-nil}
 use Rattle.std.proofs.lemmas.Grind.{flat_map-append}
@@ -72,7 +73,8 @@ joined_flat f g h zero = refl
 joined_flat f g h (suc n) =
     let one : n + 1 ≡ suc n = omega arith in
     let split : flat_map g (range_with_len 0 (suc n)) ≡ flat_map g (range_with_len 0 n) ++ g n =
-    ap (λ k. flat_map g (range_with_len 0 k)) (sym one) ∙ ap (flat_map g) (range_more n) ∙ flat_map-append g (range_with_len 0 n) (n ∷ []) ∙ ap (λ t. flat_map g (range_with_len 0 n) ++ t) (append-nil (g n)) in
+    ap (λ k. flat_map g (range_with_len 0 k)) (sym one) ∙ ap (flat_map g) (range_more n) ∙ flat_map-append g (range_with_len 0 n) (n ∷ [])
+    ∙ ap (λ t. flat_map g (range_with_len 0 n) ++ t) (append-nil (g n)) in
     length-append (joined_below n f) (f n) ∙ ap₂ ◌+◌ (joined_flat f g h n) (h n) ∙ sym (length-append (flat_map g (range_with_len 0 n)) (g n)) ∙ ap length (sym split)
 
 -- a node has as many origins as rows
@@ -104,7 +106,8 @@ listed_atom p i n at c same loose =
     (length (flat_map (atoms_at p) (range_with_len 0 i)) + 0, flat_first (atoms_at p) (length p.tree) i 0 a (slice_get_within p.tree i n at) here)
 
 -- ---- an answer of the rows
-module _ (p : Problem) (setting : Pairs) (q : Program Frac) (a : LpAnswer) (known : HasKinds (rows_of q)) (own : HasForms p (setting_of p setting) q) (is : IsAnswered p (setting_of p setting) q a) where
+module _ (p : Problem) (setting : Pairs) (q : Program Frac) (a : LpAnswer) (known : HasKinds (rows_of q)) (own : HasForms p (setting_of p setting) q)
+    (is : IsAnswered p (setting_of p setting) q a) where
   abbrev pub m : ℕ → ℚ
   m = multiplier_at is.integer.columns a
 
@@ -170,8 +173,8 @@ module _ (p : Problem) (setting : Pairs) (q : Program Frac) (a : LpAnswer) (know
         number_there ws r x stands ∙ formed_is_right is.integer.columns a place note AtMost x at inequality (sym told)
 
   -- the weights that are built are the multipliers of the rows
-  pub are_row_weights : (values : List (Option Array)) → AreFixedValues p setting values → HaveSigns (linear_program (rows_of q)) m → (weights : List NodeWeights) → AreWeightsIn p q.origins a weights →
-      AreRowWeights own.rules p values (weights_at weights) m first_row
+  pub are_row_weights : (values : List (Option Array)) → AreFixedValues p setting values → HaveSigns (linear_program (rows_of q)) m → (weights : List NodeWeights) → AreWeightsIn p q.origins a weights
+      → AreRowWeights own.rules p values (weights_at weights) m first_row
   are_row_weights values fixed signs weights are = record {
     signs = rows_signed own.rules p (setting_of p setting) own.forms (linear_program (rows_of q)) own.program m signs;
     weights_are = λ i n at none c same r b.

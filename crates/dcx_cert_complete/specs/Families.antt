@@ -39,7 +39,8 @@ AreFilled nodes values t = EachAtom nodes values (λ i n m. KindsHold (m.kinds (
 
 -- the weights of the rows of each graph are at least 0
 abbrev pub AreWeighed : List Node → List (Option Array) → (ℕ → List Frac) → Type 0
-AreWeighed nodes values weights = EachAtom nodes values (λ i n m. (j r : ℕ) → j < entries_of n.sides → r < length (m.rows (arg_sides nodes n) j) → IsNonnegative (weights_of m (arg_sides nodes n) (weights i) j r))
+AreWeighed nodes values weights =
+    EachAtom nodes values (λ i n m. (j r : ℕ) → j < entries_of n.sides → r < length (m.rows (arg_sides nodes n) j) → IsNonnegative (weights_of m (arg_sides nodes n) (weights i) j r))
 
 -- ---- weighted rows
 abbrev pub atom_rows : Meaning → List Sides → ℕ → List Frac → Entries → Filling → ℚ

@@ -1,4 +1,4 @@
--- The main statements, as the clauses of the laws say them.
+-- The laws by which what is built is accepted: of dual graphs, of bounds, of forms and rays, and of certificates.
 use Rattle.std.specs.Prelude.{◌⊎◌, ℕ, Bool, List, Option, Ok}
 use Rattle.dcx_math.specs.Rational.{ℚ}
 use Rattle.dcx_frac.specs.declared.fraction.Frac.{Frac}
@@ -33,7 +33,8 @@ use Rattle.dcx_cache.specs.Programs.{SessionGives}
 use Rattle.dcx_cache.specs.Answers.{IsAnswerOf}
 use Rattle.dcx_cache.specs.Warm.{IsWarmAnswer}
 use Rattle.dcx_cert_check.specs.Checks.{checks_of}
-use Rattle.dcx_cert_complete.specs.Demanded.{HasDualGraph, GiveFractions}
+use Rattle.dcx_atom.specs.Duality.{HasDualGraph}
+use Rattle.dcx_atom.specs.Fractions.{HasFractionSlopes}
 use Rattle.dcx_cert_complete.specs.Bounded.{IsWide, BoundsPrograms}
 use Rattle.dcx_cert_complete.specs.Rows.{BoundsForms, AreRowWeights}
 use Rattle.dcx_cert_complete.specs.Programs.{HasForms}
@@ -43,7 +44,7 @@ use Rattle.dcx_cert_complete.specs.Certified.{IsCertified}
 -- meet the conditions of slopes, which are fractions where no step stops
 pub record AtomsHaveDualGraphs : Type 0 where
   pub graphs : (m : AtomCall) → HasDualGraph (atom_meaning m)
-  pub fractions : (m : AtomCall) → GiveFractions (atom_meaning m)
+  pub fractions : (m : AtomCall) → HasFractionSlopes (atom_meaning m)
 
 -- where multipliers and weights bound the program of an accepted problem at a setting that fits, the bound checks pass, or an operation
 -- passes 128 bits
@@ -57,8 +58,9 @@ BoundsFailWide =
 -- unknowns of their kinds bounds it at all points and unknowns of the graphs
 abbrev pub FormsBoundPrograms : Type 0
 FormsBoundPrograms =
-    (rules : Rules) (p : Problem) (setting : Pairs) (values : List (Option Array)) (forms : Forms) (duals : List Array) (weights : ℕ → List Frac) (with_objective : Bool) (v : ℚ) (m : ℕ → ℚ) (first : ℕ) →
-    AreFixedValues p setting values → AllStand rules p (setting_of p setting) forms → AreRowWeights rules p values weights m first →
+    (rules : Rules) (p : Problem) (setting : Pairs) (values : List (Option Array)) (forms : Forms) (duals : List Array) (weights : ℕ → List Frac) (with_objective : Bool) (v : ℚ) (m : ℕ → ℚ)
+    (first : ℕ)
+    → AreFixedValues p setting values → AllStand rules p (setting_of p setting) forms → AreRowWeights rules p values weights m first →
     BoundsForms rules p (setting_of p setting) forms duals with_objective v m first → BoundsPrograms p (setting_of p setting) duals weights with_objective v values
 
 -- the program that a session solves at a setting that fits is the linear program of forms of the nodes
@@ -79,11 +81,13 @@ IsProgramThere p setting q = SessionGives p setting (Ok q) ⊎ ReducesNumbers p 
 pub record BuiltIsCertified : Type 0 where
   -- however the answer of the rows was found: the setting fits, the program is one of the problem there and names unknowns of its own
   -- alone, the answer is right for its integer rows, and this is read from it
-  pub rows : (p : Problem) (setting : Pairs) (q : Program Frac) (lp : LpAnswer) (a : Answer) (cert : Cert) → IsAccepted p → FitsParameters p.parameters setting → IsProgramThere p setting q → HasKinds (rows_of q) →
-      IsAnswered p (setting_of p setting) q lp → IsRead p q.kinds lp a → IsBuilt p setting q.origins lp a cert → IsCertified (checks_of p setting cert)
+  pub rows : (p : Problem) (setting : Pairs) (q : Program Frac) (lp : LpAnswer) (a : Answer) (cert : Cert) → IsAccepted p → FitsParameters p.parameters setting → IsProgramThere p setting q
+      → HasKinds (rows_of q)
+      → IsAnswered p (setting_of p setting) q lp → IsRead p q.kinds lp a → IsBuilt p setting q.origins lp a cert → IsCertified (checks_of p setting cert)
   -- the answer of a session
-  pub solved : (p : Problem) (setting : Pairs) (limit : ℕ) (q : Program Frac) (s : Solved) (a : Answer) (cert : Cert) → IsAccepted p → IsAnswerOf p setting limit q s a → IsBuilt p setting q.origins s.answer a cert →
-      IsCertified (checks_of p setting cert)
+  pub solved : (p : Problem) (setting : Pairs) (limit : ℕ) (q : Program Frac) (s : Solved) (a : Answer) (cert : Cert) → IsAccepted p → IsAnswerOf p setting limit q s a
+      → IsBuilt p setting q.origins s.answer a cert
+      → IsCertified (checks_of p setting cert)
   -- and from the columns that it keeps
   pub warm : (p : Problem) (setting : Pairs) (limit : ℕ) (columns : List ℕ) (q : Program Frac) (s : Solved) (a : Answer) (cert : Cert) → IsAccepted p → IsWarmAnswer p setting limit columns q s a →
       IsBuilt p setting q.origins s.answer a cert → IsCertified (checks_of p setting cert)

@@ -1,5 +1,4 @@
 -- What the laws of this crate cite.
-pub mod Demanded
 pub mod Families
 pub mod Bounded
 pub mod Rows

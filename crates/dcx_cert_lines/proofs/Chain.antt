@@ -14,7 +14,8 @@ use Rattle.dcx_cert_sections.specs.declared.section.Format.TheVariants.{One, Two
 use Rattle.dcx_cert_sections.specs.Shown.{Outline, AreParams, atoms_of}
 use Rattle.dcx_cert_sections.specs.Formats.{HasParams}
 use Rattle.dcx_cert_lines.specs.CertText.{Line, end_line, param_lines, named_lines, dual_lines, node_lines}
-use Rattle.dcx_cert_lines.specs.Templates.{Template, filled, AreFilled, HasNoLine, IsRead, IsStopped, IsSame, named_template, node_template, number_template, plain_template, end_template, duals_from, param_templates}
+use Rattle.dcx_cert_lines.specs.Templates.{Template, filled, AreFilled, HasNoLine, IsRead, IsStopped, IsSame, named_template, node_template}
+use Rattle.dcx_cert_lines.specs.Templates.{number_template, plain_template, end_template, duals_from, param_templates}
 use Rattle.dcx_cert_lines.proofs.Filled.{named_filled, duals_filled, nodes_filled, number_is, read_as}
 use Rattle.dcx_cert_lines.proofs.Steps.{read_then, zip_append, stop_front, stop_behind}
 
@@ -23,7 +24,8 @@ pub record IsDone (ts : List Template) (ls : List Line) (b : List ℕ) (n : ℕ)
   pub fills : AreFilled ts ls
   pub read : IsRead ls b n r k
 
-pub and_then : {ts us : List Template} {ls ms : List Line} {b : List ℕ} {n : ℕ} {r : List ℕ} {k : ℕ} {s : List ℕ} {m : ℕ} → IsDone ts ls b n r k → IsDone us ms r k s m → IsDone (ts ++ us) (ls ++ ms) b n s m
+pub and_then : {ts us : List Template} {ls ms : List Line} {b : List ℕ} {n : ℕ} {r : List ℕ} {k : ℕ} {s : List ℕ} {m : ℕ} → IsDone ts ls b n r k → IsDone us ms r k s m
+    → IsDone (ts ++ us) (ls ++ ms) b n s m
 and_then {ts} {us} {ls} {ms} {b} {n} {r} {k} {s} {m} h g = record {
   fills = zip_append _ ts us ls ms h.fills g.fills;
   read = read_then ls ms b n r k s m h.read g.read;
@@ -43,7 +45,8 @@ params_filled Two outline None shown has = absurd has
 params_filled Two outline (Some values) shown has = subst (λ t. AreFilled (map (named_template (codes "param")) t) (named_lines (codes "param") values)) shown (named_filled (codes "param") values)
 
 module _ {b : List ℕ} {n : ℕ} {r : List ℕ} {k : ℕ} where
-  pub params_done : (format : Format) (outline : Outline) (params : Option Pairs) → AreParams outline params → HasParams format params → IsRead (param_lines params) b n r k → IsDone (param_templates format outline) (param_lines params) b n r k
+  pub params_done : (format : Format) (outline : Outline) (params : Option Pairs) → AreParams outline params → HasParams format params → IsRead (param_lines params) b n r k
+      → IsDone (param_templates format outline) (param_lines params) b n r k
   params_done format outline params shown has read = record { fills = params_filled format outline params shown has; read = read }
 
   pub number_done : (word : List ℕ) (f : Frac) → IsRead (filled word (f ∷ []) ∷ []) b n r k → IsDone (number_template word ∷ []) (number_line word f ∷ []) b n r k
@@ -52,7 +55,8 @@ module _ {b : List ℕ} {n : ℕ} {r : List ℕ} {k : ℕ} where
     read = read_as (filled word (f ∷ [])) (number_line word f) b n r k (sym (number_is word f)) read;
   }
 
-  pub point_done : (word : List ℕ) (ps : Pairs) (slots vs : List (List ℕ × Shape)) → slots ≡ vs → variables_of ps ≡ slots → IsRead (named_lines word ps) b n r k → IsDone (map (named_template word) vs) (named_lines word ps) b n r k
+  pub point_done : (word : List ℕ) (ps : Pairs) (slots vs : List (List ℕ × Shape)) → slots ≡ vs → variables_of ps ≡ slots → IsRead (named_lines word ps) b n r k
+      → IsDone (map (named_template word) vs) (named_lines word ps) b n r k
   point_done word ps slots vs same shown read = record {
     fills = subst (λ t. AreFilled (map (named_template word) t) (named_lines word ps)) same (subst (λ t. AreFilled (map (named_template word) t) (named_lines word ps)) shown (named_filled word ps));
     read = read;

@@ -1,5 +1,6 @@
 -- Where reading stops in a certificate is the first line up to which the bytes agree with none.
-use Rattle.std.proofs.Common.{◌≡◌, ◌≢◌, ℕ, zero, suc, ◌+◌, ◌-◌, ◌^◌, ◌<◌, ◌≤◌, ◌⊎◌, inl, inr, cond, ◌==◌, List, [], ◌∷◌, ◌++◌, length, take, drop, replicate, refl, sym, ap, ◌∙◌, subst, arith, append_assoc, length-append}
+use Rattle.std.proofs.Common.{◌≡◌, ◌≢◌, ℕ, zero, suc, ◌+◌, ◌-◌, ◌^◌, ◌<◌, ◌≤◌, ◌⊎◌, inl, inr, cond, ◌==◌, List, [], ◌∷◌, ◌++◌, length}
+use Rattle.std.proofs.Common.{take, drop, replicate, refl, sym, ap, ◌∙◌, subst, arith, append_assoc, length-append}
 use Rattle.std.proofs.Math.Seq.{take-append-add, take-length}
 use Rattle.std.proofs.lemmas.List.{append-nil, append_cancel_left, take-append-drop, take-append-le, length-take, length-replicate}
 use Rattle.std.proofs.lemmas.List.Folds.{concat-append}
@@ -72,13 +73,14 @@ first_filled Two = record { numbers = []; counted = refl; is = refl }
 sections_ended : (format : Format) (outline : Outline) (n : ℕ) (list : List Section) → AreValid format outline list → AreEnded (lines_from n list)
 sections_ended format outline n [] h = tt
 sections_ended format outline n (s ∷ list) h =
-    ended_append (section_lines (n, s)) (lines_from (n + 1) list) (filled_ended (section_templates format outline (kind_of s) n) (section_lines (n, s)) (section_filled format outline s n h.0)) (sections_ended format outline (n + 1) list h.1)
+    ended_append (section_lines (n, s)) (lines_from (n + 1) list) (filled_ended (section_templates format outline (kind_of s) n) (section_lines (n, s)) (section_filled format outline s n h.0))
+    (sections_ended format outline (n + 1) list h.1)
 
 both_valid : (format : Format) (outline : Outline) (list : List Section) → AllByRecursion (IsSectionOf outline) list → AllByRecursion (IsSectionOfFormat format) list → AreValid format outline list
 both_valid format outline [] h k = tt
 both_valid format outline (s ∷ list) h k = (record { shown = h.0; of_format = k.0 }, both_valid format outline list h.1 k.1)
 
-valid : (format : Format) (outline : Outline) (list : List Section) → AreSectionsOf outline list → AreOfFormat format list → AreValid format outline list
+pub valid : (format : Format) (outline : Outline) (list : List Section) → AreSectionsOf outline list → AreOfFormat format list → AreValid format outline list
 valid format outline list h k = both_valid format outline list (recursion_from_All (IsSectionOf outline) list h) (recursion_from_All (IsSectionOfFormat format) list k)
 
 shown_from : (format : Format) (outline : Outline) (list : List Section) → AreValid format outline list → AreSectionsOf outline list × AreOfFormat format list
@@ -107,7 +109,8 @@ valid_append : (format : Format) (outline : Outline) (xs ys : List Section) → 
 valid_append format outline [] ys h k = k
 valid_append format outline (x ∷ xs) ys h k = (h.0, valid_append format outline xs ys h.1 k)
 
-certificate : (format : Format) (outline : Outline) (count : ℕ) (list : List Section) → AreValid format outline list → length list ≡ count → IsCertificateOf outline count (record { format = format; list = list })
+certificate : (format : Format) (outline : Outline) (count : ℕ) (list : List Section) → AreValid format outline list → length list ≡ count
+    → IsCertificateOf outline count (record { format = format; list = list })
 certificate format outline count list h e =
     let both = shown_from format outline list h in
     record { counted = e; shown = both.0; format = both.1 }
@@ -123,14 +126,15 @@ lines_append n (x ∷ xs) ys =
     ∙ ap (λ m. (section_lines (n, x) ++ lines_from (n + 1) xs) ++ lines_from m ys) place
 
 -- ---- the line
-misfit : (outline : Outline) (count : ℕ) (bytes : List ℕ) (stop k : ℕ) → feeds bytes < 2 ^ 32 - 1 → stop ≡ line_after 1 k → Agrees outline count bytes k → (Agrees outline count bytes (k + 1) → ⊥) → ((s : Sections) → IsTextOf outline count bytes s → ⊥) → IsMisfit outline count bytes stop
+misfit : (outline : Outline) (count : ℕ) (bytes : List ℕ) (stop k : ℕ) → feeds bytes < 2 ^ 32 - 1 → stop ≡ line_after 1 k → Agrees outline count bytes k → (Agrees outline count bytes (k + 1) → ⊥)
+    → ((s : Sections) → IsTextOf outline count bytes s → ⊥) → IsMisfit outline count bytes stop
 misfit outline count bytes stop k few e before here none =
     let bound : k ≤ feeds bytes = feeds_bound k (all_lines before.sections) bytes before.rest (ended outline count before.sections before.certificate) before.enough before.begins in
     let line : stop ≡ k + 1 = omega (arith, e, bound, few) in
     record { done = k; next = line; before = before; here = λ a. here (subst (Agrees outline count bytes) line a); no_text = none }
 
 -- the first line of a certificate tells its format
-formats_apart : (a b : Format) (x y : List ℕ) → first_line a ++ x ≡ first_line b ++ y → a ≡ b
+pub formats_apart : (a b : Format) (x y : List ℕ) → first_line a ++ x ≡ first_line b ++ y → a ≡ b
 unfolding first_line
 formats_apart One One x y e = refl
 formats_apart One Two x y e = absurd (omega (arith, first_same 49 50 _ _ (append_cancel_left (codes "certificate ") (49 ∷ 10 ∷ x) (50 ∷ 10 ∷ y) e)))
@@ -157,7 +161,8 @@ inner_rest a b bytes r x e f =
     let same : a ≡ b = formats_apart a b r x (sym e ∙ f) in
     (same, append_cancel_left (first_line a) r x (sym e ∙ f ∙ ap (λ c. first_line c ++ x) (sym same)))
 
-module _ (outline : Outline) (count : ℕ) (bytes : List ℕ) (format : Format) (inner : List ℕ) (begins : bytes ≡ first_line format ++ inner) (done : List Section) (rest : List ℕ) (own : AreValid format outline done) (written : inner ≡ concat (lines_from 1 done) ++ rest) where
+module _ (outline : Outline) (count : ℕ) (bytes : List ℕ) (format : Format) (inner : List ℕ) (begins : bytes ≡ first_line format ++ inner) (done : List Section) (rest : List ℕ)
+    (own : AreValid format outline done) (written : inner ≡ concat (lines_from 1 done) ++ rest) where
   -- how many lines are read
   abbrev read_lines : ℕ
   read_lines = length (lines_from 1 done)
@@ -183,14 +188,16 @@ module _ (outline : Outline) (count : ℕ) (bytes : List ℕ) (format : Format) 
       (omega (arith, fewer, t.certificate.counted))
 
   -- a certificate that begins with the sections that are read, and with i lines of one more
-  begun : (i : ℕ) (s : Section) (behind : List ℕ) → IsValid format outline s → length done < count → rest ≡ concat (take i (section_lines (1 + length done, s))) ++ behind → i ≤ length (section_lines (1 + length done, s)) → Agrees outline count bytes (suc (read_lines + i))
+  begun : (i : ℕ) (s : Section) (behind : List ℕ) → IsValid format outline s → length done < count → rest ≡ concat (take i (section_lines (1 + length done, s))) ++ behind
+      → i ≤ length (section_lines (1 + length done, s)) → Agrees outline count bytes (suc (read_lines + i))
   begun i s behind ok few e enough =
       let others : List Section = empties (count - (length done + 1)) in
       let list : List Section = done ++ s ∷ others in
       let lines : lines_from 1 list ≡ lines_from 1 done ++ (section_lines (1 + length done, s) ++ lines_from ((1 + length done) + 1) others) = lines_append 1 done (s ∷ others) in
       let last : List Line = section_lines (1 + length done, s) ++ lines_from ((1 + length done) + 1) others in
       let cut : take (read_lines + i) (lines_from 1 list) ≡ lines_from 1 done ++ take i (section_lines (1 + length done, s)) =
-      ap (take (read_lines + i)) lines ∙ take-append-add (lines_from 1 done) last i ∙ ap (λ t. lines_from 1 done ++ t) (take-append-le i (section_lines (1 + length done, s)) (lines_from ((1 + length done) + 1) others) enough) in
+      ap (take (read_lines + i)) lines ∙ take-append-add (lines_from 1 done) last i
+      ∙ ap (λ t. lines_from 1 done ++ t) (take-append-le i (section_lines (1 + length done, s)) (lines_from ((1 + length done) + 1) others) enough) in
       record {
         sections = record { format = format; list = list };
         certificate = certificate format outline count list (valid_append format outline done (s ∷ others) own (ok, empties_valid format outline (count - (length done + 1))))
@@ -198,7 +205,8 @@ module _ (outline : Outline) (count : ℕ) (bytes : List ℕ) (format : Format) 
         enough = omega (arith, ap length lines, length-append (lines_from 1 done) last, length-append (section_lines (1 + length done, s)) (lines_from ((1 + length done) + 1) others), enough);
         rest = behind;
         begins =
-            begins ∙ ap (λ x. first_line format ++ x) (written ∙ ap (λ x. concat (lines_from 1 done) ++ x) e ∙ sym (append_assoc (concat (lines_from 1 done)) (concat (take i (section_lines (1 + length done, s)))) behind)
+            begins ∙ ap (λ x. first_line format ++ x) (written ∙ ap (λ x. concat (lines_from 1 done) ++ x) e
+            ∙ sym (append_assoc (concat (lines_from 1 done)) (concat (take i (section_lines (1 + length done, s)))) behind)
             ∙ ap (λ x. x ++ behind) (sym (concat-append (lines_from 1 done) (take i (section_lines (1 + length done, s)))) ∙ ap concat (sym cut)))
             ∙ sym (append_assoc (first_line format) (concat (take (read_lines + i) (lines_from 1 list))) behind);
       }
@@ -232,28 +240,34 @@ inner_stop outline count bytes stop few h = by h.stops.stops
     written : h.rest ≡ concat (lines_from 1 h.stops.done) ++ h.stops.rest
     written = h.stops.read.read.written
 
-    by : ((length h.stops.done < count) × IsSectionStop h.format outline (length h.stops.done + 1) h.stops.rest h.stops.next stop) ⊎ ((length h.stops.done ≡ count) × (h.stops.rest ≢ []) × (stop ≡ h.stops.next)) → IsMisfit outline count bytes stop
+    by : ((length h.stops.done < count) × IsSectionStop h.format outline (length h.stops.done + 1) h.stops.rest h.stops.next stop)
+        ⊎ ((length h.stops.done ≡ count) × (h.stops.rest ≢ []) × (stop ≡ h.stops.next)) → IsMisfit outline count bytes stop
     by (inl x) = in_section x.0 x.1
       where
         in_section : length h.stops.done < count → IsSectionStop h.format outline (length h.stops.done + 1) h.stops.rest h.stops.next stop → IsMisfit outline count bytes stop
         in_section fewer stops =
             let place : length h.stops.done + 1 ≡ 1 + length h.stops.done = omega arith in
             let small : h.stops.next < 2 ^ 32 = omega (arith, h.stops.read.read.counted) in
-            let at = stop_in h.format outline (1 + length h.stops.done) h.stops.rest h.stops.next stop small (subst (λ m. IsSectionStop h.format outline m h.stops.rest h.stops.next stop) place stops) in
-            let number : stop ≡ line_after 1 (suc (read_lines outline count bytes h.format h.rest begins h.stops.done h.stops.rest own written + at.lines)) = omega (arith, at.counted, h.stops.read.read.counted, h.first.counted) in
+            let at = stop_in h.format outline (1 + length h.stops.done) h.stops.rest h.stops.next stop small
+            (subst (λ m. IsSectionStop h.format outline m h.stops.rest h.stops.next stop) place stops) in
+            let number : stop ≡ line_after 1 (suc (read_lines outline count bytes h.format h.rest begins h.stops.done h.stops.rest own written + at.lines)) =
+            omega (arith, at.counted, h.stops.read.read.counted, h.first.counted) in
             misfit outline count bytes stop (suc (length (lines_from 1 h.stops.done) + at.lines)) few number
             (begun outline count bytes h.format h.rest begins h.stops.done h.stops.rest own written at.lines at.stuck.section at.stuck.behind at.stuck.valid fewer at.stuck.begins at.stuck.enough)
             (λ a. tail_none at.lines a.rest a.sections.list at.stuck fewer a.certificate.counted (agreeing outline count bytes h.format h.rest begins h.stops.done h.stops.rest own written at.lines a))
             (λ s t. rest_none at.lines s.list at.stuck fewer t.certificate.counted (whole outline count bytes h.format h.rest begins h.stops.done h.stops.rest own written s t (omega (arith, fewer))))
           where
-            tail_none : (i : ℕ) (z : List ℕ) (list : List Section) → IsStuckAt h.format outline (1 + length h.stops.done) h.stops.rest i → length h.stops.done < count → length list ≡ count → IsTail h.format outline 1 h.stops.done list h.stops.rest i z → ⊥
+            tail_none : (i : ℕ) (z : List ℕ) (list : List Section) → IsStuckAt h.format outline (1 + length h.stops.done) h.stops.rest i → length h.stops.done < count → length list ≡ count
+                → IsTail h.format outline 1 h.stops.done list h.stops.rest i z → ⊥
             tail_none i z list stuck fewer counted t = one t.left t.valid t.counted t.agrees
               where
-                one : (left : List Section) → AreValid h.format outline left → length h.stops.done + length left ≡ length list → h.stops.rest ≡ concat (take (suc i) (lines_from (1 + length h.stops.done) left)) ++ z → ⊥
+                one : (left : List Section) → AreValid h.format outline left → length h.stops.done + length left ≡ length list
+                    → h.stops.rest ≡ concat (take (suc i) (lines_from (1 + length h.stops.done) left)) ++ z → ⊥
                 one [] ok count_left e = omega (arith, count_left, counted, fewer)
                 one (s ∷ left) ok count_left e = stuck.none s (lines_from ((1 + length h.stops.done) + 1) left) z ok.0 e
 
-            rest_none : (i : ℕ) (list : List Section) → IsStuckAt h.format outline (1 + length h.stops.done) h.stops.rest i → length h.stops.done < count → length list ≡ count → IsRest h.format outline 1 h.stops.done list h.stops.rest → ⊥
+            rest_none : (i : ℕ) (list : List Section) → IsStuckAt h.format outline (1 + length h.stops.done) h.stops.rest i → length h.stops.done < count → length list ≡ count
+                → IsRest h.format outline 1 h.stops.done list h.stops.rest → ⊥
             rest_none i list stuck fewer counted t = one t.left t.valid t.counted t.whole
               where
                 one : (left : List Section) → AreValid h.format outline left → length h.stops.done + length left ≡ length list → h.stops.rest ≡ concat (lines_from (1 + length h.stops.done) left) → ⊥
@@ -275,7 +289,8 @@ inner_stop outline count bytes stop few h = by h.stops.stops
               rest = h.stops.rest;
               begins =
                   let zero_more : length (lines_from 1 h.stops.done) + 0 ≡ length (lines_from 1 h.stops.done) = omega arith in
-                  begins ∙ ap (λ x. first_line h.format ++ x) (written ∙ ap (λ ls. concat ls ++ h.stops.rest) (sym (ap (λ n. take n (lines_from 1 h.stops.done)) zero_more ∙ take-length (lines_from 1 h.stops.done))))
+                  begins ∙ ap (λ x. first_line h.format ++ x) (written
+                  ∙ ap (λ ls. concat ls ++ h.stops.rest) (sym (ap (λ n. take n (lines_from 1 h.stops.done)) zero_more ∙ take-length (lines_from 1 h.stops.done))))
                   ∙ sym (append_assoc (first_line h.format) (concat (take (length (lines_from 1 h.stops.done) + 0) (lines_from 1 h.stops.done))) h.stops.rest);
             })
             (λ a. tail_none a.rest a.sections.list a.certificate.counted (agreeing outline count bytes h.format h.rest begins h.stops.done h.stops.rest own written 0 a))

@@ -1,3 +1,4 @@
+-- The lemmas by which what is read is what is written, line by line.
 pub mod Chain
 pub mod Files
 pub mod Filled

@@ -22,7 +22,8 @@ use Rattle.dcx_cert_sections.specs.Formats.{HasParams, HasRays, IsSectionOfForma
 use Rattle.dcx_cert_lines.specs.declared.kind.Kind.{Kind}
 use Rattle.dcx_cert_lines.specs.declared.kind.Kind.TheVariants.{Optimal, Infeasible, Unbounded, Empty}
 use Rattle.dcx_cert_lines.specs.CertText.{Line, end_line, param_lines, named_lines, node_lines, section_body}
-use Rattle.dcx_cert_lines.specs.Templates.{Template, filled, IsFilled, AreFilled, Stuck, MayHead, kind_of, named_template, dual_template, node_template, number_template, end_template, param_templates, body_templates, duals_from}
+use Rattle.dcx_cert_lines.specs.Templates.{Template, filled, IsFilled, AreFilled, Stuck, MayHead, kind_of, named_template, dual_template}
+use Rattle.dcx_cert_lines.specs.Templates.{node_template, number_template, end_template, param_templates, body_templates, duals_from}
 use Rattle.dcx_cert_lines.proofs.Filled.{named_is, dual_is, node_is, number_is}
 
 -- ---- lines of templates
@@ -85,7 +86,8 @@ named_made word (s ∷ slots) (l ∷ ls) h =
     let deeper = named_made word slots ls h.1 in
     ((s.0, array) ∷ deeper.0, ap (λ x. s ∷ x) deeper.1, ap₂ (λ x xs. x ∷ xs) (named_is word (s.0, array) ∙ sym h.0.is) deeper.2)
 
-duals_made : (n : ℕ) (shapes : List Shape) (ls : List Line) → AreFilled (map dual_template (enumerate_from n shapes)) ls → (ds : List Array) × (constraints_of ds ≡ shapes) × (map dual_line (enumerate_from n ds) ≡ ls)
+duals_made : (n : ℕ) (shapes : List Shape) (ls : List Line) → AreFilled (map dual_template (enumerate_from n shapes)) ls
+    → (ds : List Array) × (constraints_of ds ≡ shapes) × (map dual_line (enumerate_from n ds) ≡ ls)
 duals_made n [] [] h = ([], refl, refl)
 duals_made n [] (l ∷ ls) h = absurd h
 duals_made n (s ∷ shapes) [] h = absurd h
@@ -122,7 +124,8 @@ end_made (l ∷ []) h = by h.0.numbers h.0.counted h.0.is
     by [] count is = ap (λ x. x ∷ []) (sym is)
     by (f ∷ ns) count is = absurd (omega (arith, count))
 
-params_made : (format : Format) (outline : Outline) (ls : List Line) → AreFilled (param_templates format outline) ls → (params : Option Pairs) × AreParams outline params × HasParams format params × (param_lines params ≡ ls)
+params_made : (format : Format) (outline : Outline) (ls : List Line) → AreFilled (param_templates format outline) ls
+    → (params : Option Pairs) × AreParams outline params × HasParams format params × (param_lines params ≡ ls)
 params_made One outline [] h = (None, tt, tt, refl)
 params_made One outline (l ∷ ls) h = absurd h
 params_made Two outline ls h = let values = named_made (codes "param") outline.parameters ls h in (Some values.0, values.1, tt, values.2)

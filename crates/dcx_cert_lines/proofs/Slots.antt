@@ -60,19 +60,22 @@ absent_among (s ∷ ss) (suc i) x (p ∷ ps) l at d e =
 pub next_put : (ps new : Pairs) (name other : List ℕ) (array : Array) → array_of ps name ≡ None → other ≡ name → new ≡ with_array ps other array → new ≡ ps ++ (name, array) ∷ []
 next_put ps new name other array none same put = put ∙ ap (λ n. with_array ps n array) same ∙ absent ps name array none
 
-pub more_shown : (slots : List Slot) (i : ℕ) (x : Slot) (old new : Pairs) (array : Array) → i < length slots → x ≡ get_or slots i x → variables_of old ≡ take i slots → array.shape ≡ x.1 → new ≡ old ++ (x.0, array) ∷ [] → variables_of new ≡ take (i + 1) slots
+pub more_shown : (slots : List Slot) (i : ℕ) (x : Slot) (old new : Pairs) (array : Array) → i < length slots → x ≡ get_or slots i x → variables_of old ≡ take i slots → array.shape ≡ x.1
+    → new ≡ old ++ (x.0, array) ∷ [] → variables_of new ≡ take (i + 1) slots
 more_shown slots i x old new array l at e shape put =
     let last : (x.0, array.shape) ≡ x = ap (λ s. (x.0, s)) shape in
     ap variables_of put ∙ map-append (λ p. (p.0, p.1.shape)) old ((x.0, array) ∷ []) ∙ ap (λ t. t ++ (x.0, array.shape) ∷ []) e ∙ ap (λ y. take i slots ++ y ∷ []) last
     ∙ ap (λ y. take i slots ++ y ∷ []) at ∙ sym (take_more slots i x l)
 
-pub more_read : (word : List ℕ) (x : Slot) (old new : Pairs) (b : List ℕ) (n : ℕ) (r : List ℕ) (k : ℕ) (s : List ℕ) (m : ℕ) → IsRead (named_lines word old) b n r k → IsNextRead word x old new r k s m → IsRead (named_lines word new) b n s m
+pub more_read : (word : List ℕ) (x : Slot) (old new : Pairs) (b : List ℕ) (n : ℕ) (r : List ℕ) (k : ℕ) (s : List ℕ) (m : ℕ) → IsRead (named_lines word old) b n r k
+    → IsNextRead word x old new r k s m → IsRead (named_lines word new) b n s m
 more_read word x old new b n r k s m h next =
     subst (λ ps. IsRead (named_lines word ps) b n s m) (sym next.put) (read_more (named_line word) old (x.0, next.array) b n r k s m h next.read)
 
 -- reading stops at the next array
 pub stop_at : (word : List ℕ) (slots : List Slot) (i : ℕ) (x : Slot) (ps : Pairs) (b : List ℕ) (n : ℕ) (r : List ℕ) (k s : ℕ)
-    → i < length slots → x ≡ get_or slots i x → variables_of ps ≡ take i slots → IsRead (named_lines word ps) b n r k → IsStopped (named_template word x ∷ []) r k s → IsStopped (map (named_template word) slots) b n s
+    → i < length slots → x ≡ get_or slots i x → variables_of ps ≡ take i slots → IsRead (named_lines word ps) b n r k → IsStopped (named_template word x ∷ []) r k s
+    → IsStopped (map (named_template word) slots) b n s
 stop_at word slots i x ps b n r k s l at e h stop =
     stop_among (named_template word) slots i x (named_lines word ps) b n r k s l at
     (subst (λ t. AreFilled (map (named_template word) t) (named_lines word ps)) e (named_filled word ps)) h stop

@@ -3,7 +3,7 @@ use Rattle.std.proofs.Common.{◌≡◌, ℕ, zero, suc, ◌+◌, ◌-◌, ◌^�
 use Rattle.std.proofs.Math.Seq.{take-append_seam}
 use Rattle.std.proofs.lemmas.Bool.{false≢true}
 use Rattle.std.proofs.lemmas.List.Folds.{concat-append}
-use Rattle.std.proofs.lemmas.List.{append-nil, append_cancel_left, take-append-drop, take_more, map-append}
+use Rattle.std.proofs.lemmas.List.{append-nil, take-append-drop, take_more, map-append}
 use Rattle.std.specs.List.{AllZip, concat, flat_map}
 use Rattle.std.specs.Cmp.Lexicographic.{pointwise, bytes_decides}
 use Rattle.dcx_frac.specs.declared.fraction.Frac.{Frac}
@@ -39,14 +39,6 @@ no_front front before count h = record {
       let parts = line_parts front before rest fits.numbers (e ∙ ap (λ l. l ++ rest) fits.is) in
       let begins : take (length front) before ≡ front = ap (take (length front)) parts ∙ take-append_seam front (flat_map entry_text fits.numbers ++ 10 ∷ rest) in
       false≢true (sym h ∙ (bytes_decides (take (length front) before) front).1 begins);
-}
-
--- and where the numbers don't stand behind it
-pub no_numbers : (front before behind : List ℕ) (count : ℕ) → before ≡ front ++ behind → ((ns : List Frac) (rest : List ℕ) → HasEntries count behind ns rest → ⊥) → HasNoLine (record { front = front; count = count }) before
-no_numbers front before behind count e none = record {
-  none = λ line rest fits h.
-      let parts = line_parts front before rest fits.numbers (h ∙ ap (λ l. l ++ rest) fits.is) in
-      none fits.numbers rest (record { counted = fits.counted; written = append_cancel_left front behind (flat_map entry_text fits.numbers ++ 10 ∷ rest) (sym e ∙ parts) });
 }
 
 -- reading stops at the first line

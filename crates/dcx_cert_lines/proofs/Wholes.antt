@@ -22,7 +22,8 @@ use Rattle.dcx_cert_sections.specs.declared.weights.NodeWeights.{NodeWeights}
 use Rattle.dcx_cert_lines.specs.declared.kind.Kind.{Kind}
 use Rattle.dcx_cert_lines.specs.declared.kind.Kind.TheVariants.{Optimal, Infeasible, Unbounded}
 use Rattle.dcx_cert_lines.specs.CertText.{Line, head_line, end_line, param_lines, named_lines, dual_lines, node_lines, section_word, section_body, section_lines}
-use Rattle.dcx_cert_lines.specs.Templates.{Template, IsFilled, AreFilled, Stuck, MayHead, HasNoHead, kind_of, kind_text, head_template, number_template, named_template, node_template, duals_from, end_template, param_templates, body_templates, lines_from}
+use Rattle.dcx_cert_lines.specs.Templates.{Template, IsFilled, AreFilled, Stuck, MayHead, HasNoHead, kind_of, kind_text, head_template, number_template}
+use Rattle.dcx_cert_lines.specs.Templates.{named_template, node_template, duals_from, end_template, param_templates, body_templates, lines_from}
 use Rattle.dcx_cert_lines.proofs.Filled.{number_is, named_filled, duals_filled, nodes_filled}
 use Rattle.dcx_cert_lines.proofs.Steps.{zip_append, zip_length}
 use Rattle.dcx_cert_lines.proofs.Chain.{params_filled}
@@ -109,12 +110,14 @@ may_stand Two s h = tt
 
 -- ---- one section after another
 -- what stands behind two sections that stand in one place, where they have one kind
-behind_same : (format : Format) (outline : Outline) (s t : Section) (n : ℕ) (x y : List ℕ) → IsValid format outline s → IsValid format outline t → kind_of s ≡ kind_of t → concat (section_lines (n, s)) ++ x ≡ concat (section_lines (n, t)) ++ y → x ≡ y
+behind_same : (format : Format) (outline : Outline) (s t : Section) (n : ℕ) (x y : List ℕ) → IsValid format outline s → IsValid format outline t → kind_of s ≡ kind_of t
+    → concat (section_lines (n, s)) ++ x ≡ concat (section_lines (n, t)) ++ y → x ≡ y
 behind_same format outline s t n x y h k same e =
     one_list (section_templates format outline (kind_of t) n) (section_lines (n, s)) (section_lines (n, t)) x y
     (subst (λ a. AreFilled (section_templates format outline a n) (section_lines (n, s))) same (section_filled format outline s n h)) (section_filled format outline t n k) e
 
-same_length : (format : Format) (outline : Outline) (s t : Section) (n : ℕ) → IsValid format outline s → IsValid format outline t → kind_of s ≡ kind_of t → length (section_lines (n, s)) ≡ length (section_lines (n, t))
+same_length : (format : Format) (outline : Outline) (s t : Section) (n : ℕ) → IsValid format outline s → IsValid format outline t → kind_of s ≡ kind_of t
+    → length (section_lines (n, s)) ≡ length (section_lines (n, t))
 same_length format outline s t n h k same =
     zip_length IsFilled (section_templates format outline (kind_of s) n) (section_lines (n, s)) (section_filled format outline s n h)
     ∙ ap (λ a. length (section_templates format outline a n)) same
@@ -164,13 +167,15 @@ tail format outline n (s ∷ done) (t ∷ list) r rest i z h k e f enough =
     let begins : r ≡ concat (take (suc m) (theirs ++ rests)) ++ z = f ∙ ap (λ x. concat (take x (theirs ++ rests)) ++ z) next in
     let same : kind_of s ≡ kind_of t =
     head_same s t n (concat (section_body s) ++ (concat others ++ rest)) (concat (take m (section_body t ++ rests)) ++ z)
-    (sym (append_assoc (head_line (section_word s) n) (concat (section_body s)) (concat others ++ rest)) ∙ sym first ∙ begins ∙ append_assoc (head_line (section_word t) n) (concat (take m (section_body t ++ rests))) z) in
+    (sym (append_assoc (head_line (section_word s) n) (concat (section_body s)) (concat others ++ rest)) ∙ sym first ∙ begins
+    ∙ append_assoc (head_line (section_word t) n) (concat (take m (section_body t ++ rests))) z) in
     let long : length own ≡ length theirs = same_length format outline s t n h.0 k.0 same in
     let number : length (own ++ others) + suc i ≡ length theirs + (length others + suc i) = omega (arith, length-append own others, long) in
     let cut : r ≡ concat theirs ++ (concat (take (length others + suc i) rests) ++ z) =
     f ∙ ap (λ x. concat (take x (theirs ++ rests)) ++ z) number ∙ ap (λ x. concat x ++ z) (take-append-add theirs rests (length others + suc i))
     ∙ ap (λ x. x ++ z) (concat-append theirs (take (length others + suc i) rests)) ∙ append_assoc (concat theirs) (concat (take (length others + suc i) rests)) z in
-    let behind : concat others ++ rest ≡ concat (take (length others + suc i) rests) ++ z = behind_same format outline s t n (concat others ++ rest) (concat (take (length others + suc i) rests) ++ z) h.0 k.0 same (sym first ∙ cut) in
+    let behind : concat others ++ rest ≡ concat (take (length others + suc i) rests) ++ z =
+    behind_same format outline s t n (concat others ++ rest) (concat (take (length others + suc i) rests) ++ z) h.0 k.0 same (sym first ∙ cut) in
     let room : length others + suc i ≤ length rests = omega (arith, enough, number, length-append theirs rests) in
     let deeper = tail format outline (n + 1) done list (concat others ++ rest) rest i z h.1 k.1 refl behind room in
     let place : (n + 1) + length done ≡ n + suc (length done) = omega arith in
@@ -205,7 +210,8 @@ rest_of format outline n (s ∷ done) (t ∷ list) r rest h k e f fewer =
     let second : r ≡ concat theirs ++ concat rests = f ∙ concat-append theirs rests in
     let same : kind_of s ≡ kind_of t =
     head_same s t n (concat (section_body s) ++ (concat others ++ rest)) (concat (section_body t) ++ concat rests)
-    (sym (append_assoc (head_line (section_word s) n) (concat (section_body s)) (concat others ++ rest)) ∙ sym first ∙ second ∙ append_assoc (head_line (section_word t) n) (concat (section_body t)) (concat rests)) in
+    (sym (append_assoc (head_line (section_word s) n) (concat (section_body s)) (concat others ++ rest)) ∙ sym first ∙ second
+    ∙ append_assoc (head_line (section_word t) n) (concat (section_body t)) (concat rests)) in
     let behind = behind_same format outline s t n (concat others ++ rest) (concat rests) h.0 k.0 same (sym first ∙ second) in
     let deeper = rest_of format outline (n + 1) done list (concat others ++ rest) rest h.1 k.1 refl behind (omega (arith, fewer)) in
     let place : (n + 1) + length done ≡ n + suc (length done) = omega arith in
@@ -247,7 +253,8 @@ kind_filled : (kind : Kind) (n : ℕ) → IsFilled (head_template kind n) (head_
 unfolding head_line
 kind_filled kind n = record { numbers = []; counted = refl; is = refl }
 
-pub in_body : (format : Format) (outline : Outline) (n : ℕ) (rest : List ℕ) (kind : Kind) (inner : List ℕ) (j : ℕ) → MayHead format kind → rest ≡ head_line (kind_text kind) n ++ inner → Stuck (body_templates format outline kind) inner j
+pub in_body : (format : Format) (outline : Outline) (n : ℕ) (rest : List ℕ) (kind : Kind) (inner : List ℕ) (j : ℕ) → MayHead format kind → rest ≡ head_line (kind_text kind) n ++ inner
+    → Stuck (body_templates format outline kind) inner j
     → IsStuckAt format outline n rest (suc j)
 in_body format outline n rest kind inner j may e stuck =
     let lines = stuck_begins (body_templates format outline kind) inner j stuck in
@@ -268,8 +275,11 @@ in_body format outline n rest kind inner j may e stuck =
     not_here s more z valid f =
         let here : head_line (section_word s) n ++ (concat (take (suc j) (section_body s ++ more)) ++ z) ≡ head_line (kind_text kind) n ++ inner = sym f ∙ e in
         let same : kind_of s ≡ kind = one_kind (kind_of s) kind n _ _ _ _ (head_filled s n) (kind_filled kind n) here in
-        let fills : AreFilled (body_templates format outline kind) (section_body s) = subst (λ a. AreFilled (body_templates format outline a) (section_body s)) same (body_filled format outline s valid) in
-        let both = one_line (head_template kind n) (head_line (section_word s) n) (head_line (kind_text kind) n) _ _ (subst (λ a. IsFilled (head_template a n) (head_line (section_word s) n)) same (head_filled s n)) (kind_filled kind n) here in
-        let within : suc j ≤ length (section_body s) = omega (arith, stuck_within (body_templates format outline kind) inner j stuck, zip_length IsFilled (body_templates format outline kind) (section_body s) fills) in
+        let fills : AreFilled (body_templates format outline kind) (section_body s) =
+        subst (λ a. AreFilled (body_templates format outline a) (section_body s)) same (body_filled format outline s valid) in
+        let both = one_line (head_template kind n) (head_line (section_word s) n)
+        (head_line (kind_text kind) n) _ _ (subst (λ a. IsFilled (head_template a n) (head_line (section_word s) n)) same (head_filled s n)) (kind_filled kind n) here in
+        let within : suc j ≤ length (section_body s) =
+        omega (arith, stuck_within (body_templates format outline kind) inner j stuck, zip_length IsFilled (body_templates format outline kind) (section_body s) fills) in
         not_stuck (body_templates format outline kind) (section_body s) inner j fills stuck z
         (sym both.1 ∙ ap (λ x. concat x ++ z) (take-append-le (suc j) (section_body s) more within))

@@ -111,11 +111,13 @@ duals_from n shapes = map dual_template (enumerate_from n shapes)
 -- the lines of a section of this kind, behind the first
 abbrev pub body_templates : Format → Outline → Kind → List Template
 body_templates format outline Optimal =
-    param_templates format outline ++ (number_template (codes "value") ∷ (map (named_template (codes "var")) outline.variables ++ (duals_from 1 outline.constraints ++ (map node_template outline.atoms ++ (end_template ∷ [])))))
+    param_templates format outline ++ (number_template (codes "value")
+    ∷ (map (named_template (codes "var")) outline.variables ++ (duals_from 1 outline.constraints ++ (map node_template outline.atoms ++ (end_template ∷ [])))))
 body_templates format outline Infeasible =
     param_templates format outline ++ (number_template (codes "gap") ∷ (duals_from 1 outline.constraints ++ (map node_template outline.atoms ++ (end_template ∷ []))))
 body_templates format outline Unbounded =
-    param_templates format outline ++ (number_template (codes "bound") ∷ (number_template (codes "slope") ∷ (map (named_template (codes "var")) outline.variables ++ (map (named_template (codes "ray")) outline.variables ++ (end_template ∷ [])))))
+    param_templates format outline ++ (number_template (codes "bound")
+    ∷ (number_template (codes "slope") ∷ (map (named_template (codes "var")) outline.variables ++ (map (named_template (codes "ray")) outline.variables ++ (end_template ∷ [])))))
 body_templates format outline Empty = end_template ∷ []
 
 -- format 1 has no unbounded answers

@@ -6,7 +6,8 @@ ghost use Rattle.dcx_lines.specs.Lines.{named_line, dual_line};
 ghost use Rattle.dcx_cert_sections.specs.Outlines.{shown, rows_shown};
 ghost use Rattle.dcx_cert_sections.specs.Shown.{atoms_of};
 ghost use Rattle.dcx_cert_lines.specs.CertText.{named_lines, dual_lines, node_lines, node_line};
-ghost use Rattle.dcx_cert_lines.specs.Templates.{IsRead, IsStopped, IfMisfit, named_front, dual_front, node_front, named_template, dual_template, node_template, duals_from, AreDistinctNames, IsNextRead};
+ghost use Rattle.dcx_cert_lines.specs.Templates.{IsRead, IsStopped, IfMisfit, named_front, dual_front, node_front, named_template};
+ghost use Rattle.dcx_cert_lines.specs.Templates.{dual_template, node_template, duals_from, AreDistinctNames, IsNextRead};
 
 use crate::cursor::{Cursor, ReadStop};
 use dcx_atom::Array;

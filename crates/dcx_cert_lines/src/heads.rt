@@ -34,7 +34,8 @@ fn put_head(out: &mut Vec<u8>, kind: Kind, number: u64) -> Result<(), AllocError
 
 /// Whether a line without numbers stands first. Reads it where it does.
 fn reads(cursor: &mut Cursor<'_>, alloc: Global, text: &[u8]) -> Result<bool, AllocError>
-    ensures { IfOk result (λ b. MatchBool b (IsRead (filled text.now [] ∷ []) cursor.old.rest.now cursor.old.line cursor.new.rest.now cursor.new.line) (IsSame cursor.old.rest.now cursor.old.line cursor.new.rest.now cursor.new.line × HasNoLine (plain_template text.now) cursor.old.rest.now)) }
+    ensures { IfOk result (λ b. MatchBool b (IsRead (filled text.now [] ∷ []) cursor.old.rest.now cursor.old.line cursor.new.rest.now cursor.new.line)
+        (IsSame cursor.old.rest.now cursor.old.line cursor.new.rest.now cursor.new.line × HasNoLine (plain_template text.now) cursor.old.rest.now)) }
 {
     match cursor.plain(alloc, text) {
         Ok(()) => Ok(true),
@@ -50,7 +51,8 @@ fn begins(
     kind: Kind,
     number: u64,
 ) -> Result<bool, AllocError>
-    ensures { IfOk result (λ b. MatchBool b (IsRead (head_line (kind_text kind) number ∷ []) cursor.old.rest.now cursor.old.line cursor.new.rest.now cursor.new.line) (IsSame cursor.old.rest.now cursor.old.line cursor.new.rest.now cursor.new.line × HasNoLine (head_template kind number) cursor.old.rest.now)) }
+    ensures { IfOk result (λ b. MatchBool b (IsRead (head_line (kind_text kind) number ∷ []) cursor.old.rest.now cursor.old.line cursor.new.rest.now cursor.new.line)
+        (IsSame cursor.old.rest.now cursor.old.line cursor.new.rest.now cursor.new.line × HasNoLine (head_template kind number) cursor.old.rest.now)) }
 {
     let mut front = Vec::new(alloc);
     put_head(&mut front, kind, number)?;

@@ -70,14 +70,16 @@ more_fixed p marks new i mark h e put = subst (λ l. AreFixed p l (i + 1)) (sym 
     at k below false t =
         let above : i ≤ k = grind (arith, nat_tests) in
         let last : k ≡ length marks = omega (arith, below, h.counted, above) in
-        ap (λ n. get_or (marks ++ mark ∷ []) n false) last ∙ get_or-append_seam marks mark [] false ∙ e ∙ ap (λ n. is_fixed (convex_problem p).nodes n) (let same : i ≡ k = omega (arith, last, h.counted) in same)
+        ap (λ n. get_or (marks ++ mark ∷ []) n false) last ∙ get_or-append_seam marks mark [] false ∙ e
+        ∙ ap (λ n. is_fixed (convex_problem p).nodes n) (let same : i ≡ k = omega (arith, last, h.counted) in same)
 
 -- nothing is marked at first
 pub none_fixed : (p : Problem) (marks : List Bool) → marks ≡ [] → AreFixed p marks 0
 none_fixed p marks e = record { counted = ap length e; each = λ i l. absurd (omega (arith, l)) }
 
 -- one more item, in the words of another list
-pub mapped_more : {A B C : Type 0} (f : A → C) (g : B → C) (old new : List A) (a : A) (xs : List B) (i : ℕ) (x : B) → i < length xs → x ≡ get_or xs i x → map f old ≡ map g (take i xs) → f a ≡ g x → new ≡ old ++ a ∷ [] → map f new ≡ map g (take (i + 1) xs)
+pub mapped_more : {A B C : Type 0} (f : A → C) (g : B → C) (old new : List A) (a : A) (xs : List B) (i : ℕ) (x : B) → i < length xs → x ≡ get_or xs i x → map f old ≡ map g (take i xs) → f a ≡ g x
+    → new ≡ old ++ a ∷ [] → map f new ≡ map g (take (i + 1) xs)
 mapped_more f g old new a xs i x l at e same put =
     ap (map f) put ∙ map-append f old (a ∷ []) ∙ ap₂ (λ t y. t ++ y ∷ []) e (same ∙ ap g at)
     ∙ sym (ap (map g) (take_more xs i x l) ∙ map-append g (take i xs) (get_or xs i x ∷ []))

@@ -78,7 +78,8 @@ range_more k = sym (map-id (range_with_len 0 (k + 1))) ∙ map-range_with_len_mo
 pub atoms_more : (p : Problem) (i : ℕ) (old new : List (ℕ × ℕ)) → old ≡ flat_map (atoms_at p) (range_with_len 0 i) → new ≡ old ++ atoms_at p i → new ≡ flat_map (atoms_at p) (range_with_len 0 (i + 1))
 atoms_more p i old new e put =
     put ∙ ap (λ t. t ++ atoms_at p i) e
-    ∙ sym (ap (flat_map (atoms_at p)) (range_more i) ∙ flat_map-append (atoms_at p) (range_with_len 0 i) (i ∷ []) ∙ ap (λ t. flat_map (atoms_at p) (range_with_len 0 i) ++ t) (append-nil (atoms_at p i)))
+    ∙ sym (ap (flat_map (atoms_at p)) (range_more i) ∙ flat_map-append (atoms_at p) (range_with_len 0 i) (i ∷ [])
+    ∙ ap (λ t. flat_map (atoms_at p) (range_with_len 0 i) ++ t) (append-nil (atoms_at p i)))
 
 -- ---- one node
 none_of : (b : Bool) (xs : List (ℕ × ℕ)) → b ≡ true → (if b then [] else xs) ≡ []
@@ -92,10 +93,12 @@ pub none_at : (p : Problem) (i : ℕ) (fixed : Bool) (old : List (ℕ × ℕ)) �
 none_at p i fixed old told e = sym (ap (λ t. old ++ t) (none_of (is_fixed (convex_problem p).nodes i) (atoms_if p.tree i (slice_get p.tree i)) (sym told ∙ e)) ∙ append-nil old)
 
 -- nor does one that is no atom
-pub nothing_at : (p : Problem) (i : ℕ) (fixed : Bool) (old : List (ℕ × ℕ)) → fixed ≡ is_fixed (convex_problem p).nodes i → fixed ≡ false → atoms_if p.tree i (slice_get p.tree i) ≡ [] → old ≡ old ++ atoms_at p i
+pub nothing_at : (p : Problem) (i : ℕ) (fixed : Bool) (old : List (ℕ × ℕ)) → fixed ≡ is_fixed (convex_problem p).nodes i → fixed ≡ false → atoms_if p.tree i (slice_get p.tree i) ≡ []
+    → old ≡ old ++ atoms_at p i
 nothing_at p i fixed old told e none = sym (ap (λ t. old ++ t) (all_of (is_fixed (convex_problem p).nodes i) (atoms_if p.tree i (slice_get p.tree i)) (sym told ∙ e) ∙ none) ∙ append-nil old)
 
-pub one_at : (p : Problem) (node : NodeId) (fixed : Bool) (old new : List AtomRows) (rows : ℕ) → fixed ≡ is_fixed (convex_problem p).nodes node.0 → fixed ≡ false → atoms_if p.tree node.0 (slice_get p.tree node.0) ≡ (node.0, rows) ∷ []
+pub one_at : (p : Problem) (node : NodeId) (fixed : Bool) (old new : List AtomRows) (rows : ℕ) → fixed ≡ is_fixed (convex_problem p).nodes node.0 → fixed ≡ false
+    → atoms_if p.tree node.0 (slice_get p.tree node.0) ≡ (node.0, rows) ∷ []
     → new ≡ old ++ record { node = node; rows = rows } ∷ [] → map rows_shown new ≡ map rows_shown old ++ atoms_at p node.0
 one_at p node fixed old new rows told e one put =
     ap (map rows_shown) put ∙ map-append rows_shown old (record { node = node; rows = rows } ∷ [])

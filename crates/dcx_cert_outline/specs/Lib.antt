@@ -1,2 +1,2 @@
--- What the contracts of this crate cite.
+-- What contracts cite: the outline of a problem.
 pub mod Drawn

@@ -24,7 +24,8 @@ fn count_of(rows: usize) -> Result<u32, AllocError>
 /// The number of rows of an atom's graph; `None` of any other call.
 fn atom_rows(alloc: Global, problem: &Problem, node: NodeId) -> Result<Option<u32>, AllocError>
     requires { node.0 < length problem.now.tree }
-    ensures { IfOk result (λ o. MatchOption o (atoms_if problem.now.tree node.0 (slice_get problem.now.tree node.0) ≡ []) (λ rows. atoms_if problem.now.tree node.0 (slice_get problem.now.tree node.0) ≡ (node.0, rows) ∷ [])) }
+    ensures { IfOk result (λ o. MatchOption o (atoms_if problem.now.tree node.0 (slice_get problem.now.tree node.0) ≡ [])
+        (λ rows. atoms_if problem.now.tree node.0 (slice_get problem.now.tree node.0) ≡ (node.0, rows) ∷ [])) }
 {
     match node_graph(alloc, problem, node)? {
         Some(graph) => Ok(Some(count_of(graph.rows.as_slice().len())?)),

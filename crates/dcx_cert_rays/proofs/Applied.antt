@@ -26,7 +26,8 @@ use Rattle.dcx_tree.specs.Meaning.{convex_problem, IsAccepted, IsFitting}
 use Rattle.dcx_tree.proofs.Names.{found_in}
 use Rattle.dcx_tree.proofs.NodeValues.{args_are, sides_are}
 use Rattle.dcx_answer.specs.declared.cert_fault.CertFault.TheVariants.{Wide}
-use Rattle.dcx_cert_rays.specs.Steepness.{is_fixed, value_side, is_first_fixed, IsSteepness, IsUnformed, IsKnown, AreReady, AreArguments, TakesArguments, is_side, fixed_value, steepness_at, IsArgument}
+use Rattle.dcx_cert_rays.specs.Steepness.{is_fixed, value_side, is_first_fixed, IsSteepness, IsUnformed, IsKnown, AreReady}
+use Rattle.dcx_cert_rays.specs.Steepness.{AreArguments, TakesArguments, is_side, fixed_value, steepness_at, IsArgument}
 use Rattle.dcx_cert_rays.proofs.Known.{node_given, only_moves}
 use Rattle.dcx_cert_rays.proofs.Steep.{shape_is, steepness_is, passes_is, divides_first}
 use Rattle.dcx_arena.proofs.Unfolds.{node_there}
@@ -63,7 +64,8 @@ module _ (p : Problem) (setting ray : Pairs) where
   pub only_takes : (i : ℕ) (ids : List ℕ) (v : Array) → ids ≡ args_at p.tree i → length ids ≡ 1 → IsSteepness p setting ray (get_or ids 0 0) v → TakesArguments p setting ray i (v ∷ [])
   only_takes i ids v its one is m there =
       let own : m.args ≡ get_or ids 0 0 ∷ [] = sym (its ∙ args_are p.tree i m there) ∙ one_of ids one in
-      let none = no_side m.call (sides_at p.tree (get_or ids 0 0)) m.sides (is_first_fixed p m) (subst (λ xs. shape_of m.call (map (sides_at p.tree) xs) ≡ Some m.sides) own (p.nodes.shaped i m there)) in
+      let none = no_side m.call (sides_at p.tree (get_or ids 0 0)) m.sides (is_first_fixed p m)
+      (subst (λ xs. shape_of m.call (map (sides_at p.tree) xs) ≡ Some m.sides) own (p.nodes.shaped i m there)) in
       subst (λ xs. AreArguments p setting ray (value_side m.call (is_first_fixed p m)) xs (v ∷ [])) (sym own) (only_argument (value_side m.call (is_first_fixed p m)) (get_or ids 0 0) v none is)
 
   -- and it has a variable below it, as the node has
@@ -99,13 +101,15 @@ module _ (p : Problem) (setting ray : Pairs) (i : ℕ) (call : Call) (read : cal
         subst (λ (s : Sides). call_values.IsValueStop n.call setting ray args (entries_of s) stop) (sides_are p.tree i n at)
         (subst (λ c. call_values.IsValueStop c setting ray args (entries_of (sides_at p.tree i)) stop) (sym is) here)
 
-    pub applied_passes : (entry : ℕ) (passes : Passes) (stop : ValueStop) → stop ≡ stops.Passes entry passes → IfSome (shape_of call (array_sides args)) (λ s. call_values.IsValueStop call setting ray args (entries_of s) stop) →
-        IsUnformed p setting ray i (Wide passes)
+    pub applied_passes : (entry : ℕ) (passes : Passes) (stop : ValueStop) → stop ≡ stops.Passes entry passes
+        → IfSome (shape_of call (array_sides args)) (λ s. call_values.IsValueStop call setting ray args (entries_of s) stop)
+        → IsUnformed p setting ray i (Wide passes)
     applied_passes entry passes stop e why =
         let (n, at, is) = found_in (slice_get p.tree i) call read in
         passes_is p setting ray i n at moves args (h n at) entry passes (subst (call_values.IsValueStop n.call setting ray args (entries_of n.sides)) e (stopped n at is stop why))
 
-    pub applied_divides : IsFitting p setting → (entry : ℕ) (stop : ValueStop) → stop ≡ stops.ZeroDivisor entry → IfSome (shape_of call (array_sides args)) (λ s. call_values.IsValueStop call setting ray args (entries_of s) stop) → ⊥
+    pub applied_divides : IsFitting p setting → (entry : ℕ) (stop : ValueStop) → stop ≡ stops.ZeroDivisor entry
+        → IfSome (shape_of call (array_sides args)) (λ s. call_values.IsValueStop call setting ray args (entries_of s) stop) → ⊥
     applied_divides fitting entry stop e why =
         let (n, at, is) = found_in (slice_get p.tree i) call read in
         never_divides p setting ray fitting i n at entry
@@ -130,5 +134,6 @@ module _ (p : Problem) (setting ray : Pairs) (i : ℕ) (call : Call) (read : cal
       let z : m ≡ n = same_Some m n (sym there ∙ at) in
       let own : ids ≡ m.args = its ∙ args_are p.tree i m there in
       let same : side ≡ value_side m.call (is_first_fixed p m) = is_side
-      ∙ ap (λ c. value_side c first) (sym is ∙ ap (λ (x : Node). x.call) (sym z)) ∙ ap (value_side m.call) (e ∙ ap (λ xs. (argument (map (judgement_at Plain (convex_problem p).nodes) xs) 0).fixed) own) in
+      ∙ ap (λ c. value_side c first) (sym is ∙ ap (λ (x : Node). x.call) (sym z))
+      ∙ ap (value_side m.call) (e ∙ ap (λ xs. (argument (map (judgement_at Plain (convex_problem p).nodes) xs) 0).fixed) own) in
       subst (λ s. AreArguments p setting ray s m.args args) same (subst (λ xs. AreArguments p setting ray side xs args) own h)

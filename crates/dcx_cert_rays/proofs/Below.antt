@@ -28,8 +28,9 @@ module _ (p : Problem) (setting ray : Pairs) (roots : List ℕ) where
   pub below_args : (i : ℕ) (arrays : List (Option Array)) → IsBelow p setting ray roots i arrays → IsReached p.tree roots i → All (IsKnown p arrays) (args_at p.tree i)
   below_args i arrays h r = All-from_has (IsKnown p arrays) (args_at p.tree i) (λ a of. h.known a (arg_below shape_of p.tree p.nodes i a of) (reached_more p.tree roots i a r of))
 
-  pub below_more : (i : ℕ) (arrays now : List (Option Array)) → IsBelow p setting ray roots i arrays → AreKept p setting ray now → StaysKnown p arrays now → (IsReached p.tree roots i → IsKnown p now i) →
-      IsBelow p setting ray roots (i + 1) now
+  pub below_more : (i : ℕ) (arrays now : List (Option Array)) → IsBelow p setting ray roots i arrays → AreKept p setting ray now → StaysKnown p arrays now
+      → (IsReached p.tree roots i → IsKnown p now i)
+      → IsBelow p setting ray roots (i + 1) now
   below_more i arrays now h kept stays here = record {
     kept = kept;
     known = λ k b r. elim (cases_eq k i) [

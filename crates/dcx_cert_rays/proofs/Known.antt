@@ -1,9 +1,9 @@
 -- What is known of a problem's nodes: their calls as the rules read them, and what a ray gives their variables.
-use Rattle.std.proofs.Common.{◌≡◌, ℕ, true, false, List, map, All, Option, Some, None, option_map, slice_get, refl, sym, ap, subst, ◌∙◌, true≢false, [], ◌∷◌, length, arith}
+use Rattle.std.proofs.Common.{◌≡◌, ℕ, true, false, List, map, All, Option, Some, None, option_map, slice_get, refl, sym, ap, ◌∙◌, true≢false, [], ◌∷◌, length, arith}
 use Rattle.std.specs.Prelude.{IsTrue, IsFalse, ◌&&◌}
 use Rattle.std.proofs.Props.{props}
 use Rattle.std.proofs.Math.Logic.{∥∥₁_elim}
-use Rattle.std.proofs.lemmas.Option.{none-some, same_Some, slice_get-map, slice_get_within, get_or_from_slice_get}
+use Rattle.std.proofs.lemmas.Option.{none-some, same_Some, slice_get-map}
 use Rattle.std.specs.Option.{unwrap_or}
 use mathlib.Core.Logic.{∥∥₁_map}
 use Rattle.dcx_math.proofs.Orders.{≡ℚ_prop}
@@ -35,10 +35,7 @@ use Rattle.dcx_tree.proofs.Sublists.{contains_at}
 use Rattle.dcx_tree.proofs.Values.{taken}
 use Rattle.dcx_tree.proofs.AllReached.{convex_at}
 use Rattle.dcx_cert_rays.specs.Steepness.{is_fixed, AreFixedValues, IsArgument}
-
--- what holds of each holds of the one at a place
-pub holds_at : {X : Type 0} (P : X → Type 0) (xs : List X) (k : ℕ) (x : X) → All P xs → slice_get xs k ≡ Some x → P x
-holds_at P xs k x all at = subst P (get_or_from_slice_get xs k x x at) (all k x (slice_get_within xs k x at))
+use Rattle.dcx_math.proofs.Lists.{holds_at}
 
 -- a call that has a variable below it, as far as it tells by itself
 abbrev pub MayMove : Call → Type 0
@@ -86,8 +83,9 @@ module _ (p : Problem) where
   may_move i n at moves = moves_by n.call (arg_sides p.tree n) n.sides (map (judgement_at Plain (convex_problem p).nodes) n.args) (sym (fixed_call i n at) ∙ moves)
 
   -- ---- arguments of nodes that have no variable below them
-  call_fixed : (n : Node) (call : Call) → shape_of call (arg_sides p.tree n) ≡ Some n.sides → fixed_by (head_of (names_in p) call (arg_sides p.tree n) n.sides) (map (judgement_at Plain (convex_problem p).nodes) n.args) ≡ true →
-      (a : ℕ) → has n.args a ≡ true → IsTrue (is_fixed p a)
+  call_fixed : (n : Node) (call : Call) → shape_of call (arg_sides p.tree n) ≡ Some n.sides
+      → fixed_by (head_of (names_in p) call (arg_sides p.tree n) n.sides) (map (judgement_at Plain (convex_problem p).nodes) n.args) ≡ true
+      → (a : ℕ) → has n.args a ≡ true → IsTrue (is_fixed p a)
   call_fixed n (calls.Variable v) shape t a h = absurd (no_args _ n.sides _ n.args a shape h)
   call_fixed n (calls.Parameter q) shape t a h = absurd (no_args _ n.sides _ n.args a shape h)
   call_fixed n (calls.Constant x) shape t a h = absurd (no_args _ n.sides _ n.args a shape h)
@@ -103,7 +101,8 @@ module _ (p : Problem) where
       by (Some n) e g = call_fixed n n.call (p.nodes.shaped i n e) (sym (fixed_call i n e) ∙ t) a g
 
   -- an only argument that has no variable below it
-  call_only : (call : Call) (args : List Sides) (sides : Sides) (g : Judgement) → MayMove call → shape_of call args ≡ Some sides → length args ≡ 1 → g.fixed ≡ true → fixed_by (head_of (names_in p) call args sides) (g ∷ []) ≡ true
+  call_only : (call : Call) (args : List Sides) (sides : Sides) (g : Judgement) → MayMove call → shape_of call args ≡ Some sides → length args ≡ 1 → g.fixed ≡ true
+      → fixed_by (head_of (names_in p) call args sides) (g ∷ []) ≡ true
   call_only (calls.Variable v) [] sides g may shape one t = absurd (omega (arith, one))
   call_only (calls.Variable v) (s ∷ args) sides g may shape one t = absurd (none-some sides shape)
   call_only (calls.Parameter q) args sides g may shape one t = absurd may
@@ -161,7 +160,8 @@ module _ (p : Problem) where
   named_for (calls.Pairing q) l = tt
 
   -- an array that is kept of a node that has no variable below it is its value
-  pub value_argument : (setting ray : Pairs) (arrays : List (Option Array)) → AreFixedValues p setting arrays → (i : ℕ) (v : Array) → IsTrue (is_fixed p i) → array_at arrays i ≡ Some v → IsArgument p setting ray true i v
+  pub value_argument : (setting ray : Pairs) (arrays : List (Option Array)) → AreFixedValues p setting arrays → (i : ℕ) (v : Array) → IsTrue (is_fixed p i) → array_at arrays i ≡ Some v
+      → IsArgument p setting ray true i v
   value_argument setting ray arrays given i v t at =
       let its = given.values i v at in
       record {

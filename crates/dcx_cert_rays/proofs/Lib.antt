@@ -1,4 +1,4 @@
--- The lemmas.
+-- The lemmas by which a ray that passes its checks shows the problem to be unbounded.
 pub mod Settled
 pub mod Shown
 pub mod Known

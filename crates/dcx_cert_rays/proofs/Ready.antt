@@ -1,6 +1,7 @@
 -- What a node that has a variable below it needs to be formed: arguments that are known, a side whose value counts that has no
 -- variable below it, and divisors that aren't 0.
-use Rattle.std.proofs.Common.{◌≡◌, ℕ, ◌<◌, ◌≢◌, Bool, true, false, if◌then◌else◌, nat_eq, List, map, All, Option, Some, option_map, slice_get, Result, Ok, Err, refl, sym, ap, ◌∙◌, arith, pos, eqb-true}
+use Rattle.std.proofs.Common.{◌≡◌, ℕ, ◌<◌, ◌≢◌, Bool, true, false, if◌then◌else◌, nat_eq, List, map, All, Option, Some}
+use Rattle.std.proofs.Common.{option_map, slice_get, Result, Ok, Err, refl, sym, ap, ◌∙◌, arith, pos, eqb-true}
 use Rattle.std.specs.Prelude.{IsTrue, IsFalse}
 use Rattle.std.proofs.lemmas.Option.{slice_get-map, slice_get_within, get_or_from_slice_get}
 use Rattle.dcx_math.specs.Rational.{ℚ, whole, rat_eq}
@@ -29,7 +30,7 @@ use Rattle.dcx_tree.specs.Meaning.{names_in, convex_problem, IsAccepted, IsFitti
 use Rattle.dcx_tree.proofs.AllReached.{convex_at}
 use Rattle.dcx_right.proofs.Reached.{tree_side_fixed}
 use Rattle.dcx_cert_rays.specs.Steepness.{is_fixed, fixed_value, steepness_at, value_side, is_side, taken_numbers, is_first_fixed, node_numbers, IsKnown, AreReady}
-use Rattle.dcx_cert_rays.proofs.Known.{holds_at}
+use Rattle.dcx_math.proofs.Lists.{holds_at}
 
 -- ---- divisors
 passes_alone : (j e : ℕ) (r : Result Frac Passes) → or_passes j r ≡ Err (stops.ZeroDivisor e) → ⊥
@@ -44,8 +45,9 @@ not_divided j e x y ne h = by (rat_eq y (whole (pos 0))) refl h
     by false d g = passes_alone j e (quotient_of (frac_at x) (frac_at y)) g
 
 module _ (p : Problem) (setting ray : Pairs) where
-  call_divides : (call : Call) (args : List Sides) (sides : Sides) (ids : List ℕ) (first_fixed : Bool) (steepness : Entries) → HasNoZeroDivisor (head_of (names_in p) call args sides) (map (fixed_value p setting) ids) →
-      (j e : ℕ) → j < entries_of sides →
+  call_divides : (call : Call) (args : List Sides) (sides : Sides) (ids : List ℕ) (first_fixed : Bool) (steepness : Entries)
+      → HasNoZeroDivisor (head_of (names_in p) call args sides) (map (fixed_value p setting) ids)
+      → (j e : ℕ) → j < entries_of sides →
       entry_formed call (given_by setting) (given_by ray) args (taken_numbers (value_side call first_fixed) (arguments (map (fixed_value p setting) ids)) steepness) j ≡ Err (stops.ZeroDivisor e) → ⊥
   call_divides (calls.Variable v) args sides ids first_fixed steepness none j e below h = cc
   call_divides (calls.Parameter q) args sides ids first_fixed steepness none j e below h = cc
@@ -70,7 +72,8 @@ module _ (p : Problem) (setting ray : Pairs) where
       let f = judgement_at Plain (convex_problem p).nodes in
       get_or_from_slice_get (map f ids) k (f a) no_argument (slice_get-map f ids k ∙ ap (option_map f) e)
 
-  fixed_at : (ids : List ℕ) (side k a : ℕ) → IsTrue (argument (map (judgement_at Plain (convex_problem p).nodes) ids) side).fixed → slice_get ids k ≡ Some a → IsTrue (nat_eq k side) → IsTrue (is_fixed p a)
+  fixed_at : (ids : List ℕ) (side k a : ℕ) → IsTrue (argument (map (judgement_at Plain (convex_problem p).nodes) ids) side).fixed → slice_get ids k ≡ Some a → IsTrue (nat_eq k side)
+      → IsTrue (is_fixed p a)
   fixed_at ids side k a t e same =
       ap (λ (g : Judgement). g.fixed) (sym (judged ids k a e)) ∙ ap (λ s. (argument (map (judgement_at Plain (convex_problem p).nodes) ids) s).fixed) (eqb-true k side same) ∙ t
 

@@ -80,7 +80,8 @@ module _ (p : Problem) (setting ray : Pairs) where
 
   constraint_settled : (k : ℕ) (o : Option Constraint) → IsSettled (constraint_check p setting ray k o)
   constraint_settled k None = settled_together.none
-  constraint_settled k (Some c) = settled_together.two (forming p setting ray (c.left.0 ∷ c.right.0 ∷ [])) (sides_hold p setting ray k c) (forming_settled (c.left.0 ∷ c.right.0 ∷ [])) (sides_settled k c)
+  constraint_settled k (Some c) =
+      settled_together.two (forming p setting ray (c.left.0 ∷ c.right.0 ∷ [])) (sides_hold p setting ray k c) (forming_settled (c.left.0 ∷ c.right.0 ∷ [])) (sides_settled k c)
 
   constraints_settled : IsSettled (constraints_check p setting ray)
   constraints_settled = settled_together.many _ (λ k. constraint_check p setting ray k (slice_get p.constraints k)) (λ k. constraint_settled k (slice_get p.constraints k))

@@ -1,5 +1,6 @@
 -- What is formed of a node at the arrays of its arguments is its steepness.
-use Rattle.std.proofs.Common.{◌≡◌, ℕ, zero, suc, ◌<◌, Bool, true, false, if◌then◌else◌, List, [], ◌∷◌, length, map, get_or, Some, slice_get, Result, Ok, Err, IsOk, IfOk, refl, sym, ap, ap₂, ◌∙◌, subst, arith, pos}
+use Rattle.std.proofs.Common.{◌≡◌, ℕ, zero, suc, ◌<◌, Bool, true, false, if◌then◌else◌, List, [], ◌∷◌, length, map, get_or, Some}
+use Rattle.std.proofs.Common.{slice_get, Result, Ok, Err, IsOk, IfOk, refl, sym, ap, ap₂, ◌∙◌, subst, arith, pos}
 use Rattle.std.specs.Prelude.{nat_lt, IsTrue, IsFalse}
 use Rattle.std.proofs.Math.Path.{fun_ext}
 use Rattle.std.proofs.lemmas.Option.{same_Some}
@@ -37,7 +38,8 @@ use Rattle.dcx_right.specs.Steepness.{steep_by}
 use Rattle.dcx_right.proofs.Told.{level as steep_level}
 use Rattle.dcx_right.proofs.RayLawsHold.{steepness_is_told}
 use Rattle.dcx_answer.specs.declared.cert_fault.CertFault.TheVariants.{Wide}
-use Rattle.dcx_cert_rays.specs.Steepness.{is_fixed, fixed_value, steepness_at, value_side, is_side, taken_numbers, is_first_fixed, node_numbers, steepness_formed, IsUnformed, IsSteepness, IsArgument, AreArguments}
+use Rattle.dcx_cert_rays.specs.Steepness.{is_fixed, fixed_value, steepness_at, value_side, is_side, taken_numbers, is_first_fixed}
+use Rattle.dcx_cert_rays.specs.Steepness.{node_numbers, steepness_formed, IsUnformed, IsSteepness, IsArgument, AreArguments}
 use Rattle.dcx_cert_rays.proofs.Known.{MayMove, IsTaken, ordered, may_move, node_taken}
 
 -- ---- arrays as arguments
@@ -67,7 +69,9 @@ module _ (p : Problem) (setting ray : Pairs) where
   -- ---- the equation of a node
   -- the numbers at which a call of these arguments is taken
   abbrev numbers_for : Call → List ℕ → Entries
-  numbers_for call ids = taken_numbers (value_side call (argument (map (judgement_at Plain (convex_problem p).nodes) ids) 0).fixed) (arguments (map (fixed_value p setting) ids)) (arguments (map (steepness_at p setting ray) ids))
+  numbers_for call ids =
+      taken_numbers (value_side call (argument (map (judgement_at Plain (convex_problem p).nodes) ids) 0).fixed) (arguments (map (fixed_value p setting) ids))
+      (arguments (map (steepness_at p setting ray) ids))
 
   -- a head's steepness is the value of its call at the numbers at which it is taken
   head_steep : (call : Call) (args : List Sides) (sides : Sides) (ids : List ℕ) → shape_of call args ≡ Some sides → MayMove call → IsTaken p ray call → (j : ℕ) →
@@ -81,11 +85,14 @@ module _ (p : Problem) (setting ray : Pairs) where
   head_steep (calls.Atom m) args sides ids e may is j = refl
   head_steep (calls.Linear l) args sides ids e may is j = refl
   head_steep (calls.Pairing Times) args sides ids e may is j =
-      ap (λ (x : ℚ). if nat_lt j (entries_of sides) then x else whole (pos 0)) (products_same (numbers_for (calls.Pairing Times) ids) (pairs_at Times (atom_arrays.sides_at args 0) (atom_arrays.sides_at args 1) j))
+      ap (λ (x : ℚ). if nat_lt j (entries_of sides) then x else whole (pos 0))
+      (products_same (numbers_for (calls.Pairing Times) ids) (pairs_at Times (atom_arrays.sides_at args 0) (atom_arrays.sides_at args 1) j))
   head_steep (calls.Pairing MatTimes) args sides ids e may is j =
-      ap (λ (x : ℚ). if nat_lt j (entries_of sides) then x else whole (pos 0)) (products_same (numbers_for (calls.Pairing MatTimes) ids) (pairs_at MatTimes (atom_arrays.sides_at args 0) (atom_arrays.sides_at args 1) j))
+      ap (λ (x : ℚ). if nat_lt j (entries_of sides) then x else whole (pos 0))
+      (products_same (numbers_for (calls.Pairing MatTimes) ids) (pairs_at MatTimes (atom_arrays.sides_at args 0) (atom_arrays.sides_at args 1) j))
   head_steep (calls.Pairing Over) args sides ids e may is j =
-      ap (λ (x : ℚ). if nat_lt j (entries_of sides) then x else whole (pos 0)) (quotients_same (numbers_for (calls.Pairing Over) ids) (pairs_at Over (atom_arrays.sides_at args 0) (atom_arrays.sides_at args 1) j))
+      ap (λ (x : ℚ). if nat_lt j (entries_of sides) then x else whole (pos 0))
+      (quotients_same (numbers_for (calls.Pairing Over) ids) (pairs_at Over (atom_arrays.sides_at args 0) (atom_arrays.sides_at args 1) j))
 
   -- a node that has no variable below it is level
   pub level : (i : ℕ) → i < length p.tree → IsTrue (is_fixed p i) → (j : ℕ) → steepness_at p setting ray i j ≡ whole (pos 0)
@@ -97,7 +104,8 @@ module _ (p : Problem) (setting ray : Pairs) where
     node_steep j =
         let nodes = (convex_problem p).nodes in
         let told = (steepness_is_told nodes (ordered p) (setting_of p setting) (point_of p ray)).told i (convex_node (names_in p) p.tree n) (convex_at p i n at) in
-        ap (λ f. f j) (told ∙ ap (λ b. if b then zeros else steep_by nodes (setting_of p setting) (point_of p ray) (head_of (names_in p) n.call (arg_sides p.tree n) n.sides) n.args (steepness_at p setting ray)) moves)
+        ap (λ f. f j) (told ∙ ap (λ b. if b then zeros else steep_by nodes (setting_of p setting) (point_of p ray) (head_of (names_in p) n.call (arg_sides p.tree n) n.sides) n.args
+        (steepness_at p setting ray)) moves)
         ∙ head_steep n.call (arg_sides p.tree n) n.sides n.args (p.nodes.shaped i n at) (may_move p i n at moves) (node_taken p ray i n at) j
 
     pub node_formed : (j : ℕ) → entry_formed n.call (given_by setting) (given_by ray) (arg_sides p.tree n) (node_numbers p setting ray n) j ≡ steepness_formed p setting ray i n j
@@ -109,7 +117,8 @@ module _ (p : Problem) (setting ray : Pairs) where
       sides_taken = sides_alike (sides_at p.tree) n.args args h.count (λ k a v e g. (h.each k a v e g).shape)
 
       numbers_taken : numbers_of args ≡ node_numbers p setting ray n
-      numbers_taken = fun_ext (numbers_alike (is_side (value_side n.call (is_first_fixed p n))) (fixed_value p setting) (steepness_at p setting ray) n.args args h.count (λ k a v e g. fun_ext (h.each k a v e g).numbers))
+      numbers_taken = fun_ext (numbers_alike (is_side (value_side n.call (is_first_fixed p n))) (fixed_value p setting) (steepness_at p setting ray) n.args args h.count
+          (λ k a v e g. fun_ext (h.each k a v e g).numbers))
 
       pub shape_is : shape_of n.call (array_sides args) ≡ Some n.sides
       shape_is = ap (shape_of n.call) sides_taken ∙ p.nodes.shaped i n at
@@ -147,12 +156,15 @@ module _ (p : Problem) (setting ray : Pairs) where
 
       pub divides_first : (entry : ℕ) → call_values.IsValueStop n.call setting ray args (entries_of n.sides) (stops.ZeroDivisor entry) →
           IsFirst (λ j. entry_formed n.call (given_by setting) (given_by ray) (arg_sides p.tree n) (node_numbers p setting ray n) j) (entries_of n.sides) (stops.ZeroDivisor entry)
-      divides_first entry why = stop_alike (formed_at n.call setting ray args) (λ j. entry_formed n.call (given_by setting) (given_by ray) (arg_sides p.tree n) (node_numbers p setting ray n) j) (entries_of n.sides) (stops.ZeroDivisor entry)
+      divides_first entry why =
+          stop_alike (formed_at n.call setting ray args) (λ j. entry_formed n.call (given_by setting) (given_by ray) (arg_sides p.tree n) (node_numbers p setting ray n) j) (entries_of n.sides)
+          (stops.ZeroDivisor entry)
           (λ j b. ap₂ (λ (ss : List Sides) (a : Entries). entry_formed n.call (given_by setting) (given_by ray) ss a j) sides_taken numbers_taken) why
 
   -- zeros are the array of a node that has no variable below it
-  pub level_argument : (i : ℕ) → i < length p.tree → IsTrue (is_fixed p i) → (counts : Bool) → counts ≡ false → {E : Type 0} (made : Result Array E) (shape : Shape) → sides_of shape ≡ sides_at p.tree i →
-      IfOk made (λ v. sides_of v.shape ≡ sides_of shape) → IfOk made (λ v. (j : ℕ) → number_at v.entries j ≡ whole (pos 0)) → IfOk made (IsArgument p setting ray counts i)
+  pub level_argument : (i : ℕ) → i < length p.tree → IsTrue (is_fixed p i) → (counts : Bool) → counts ≡ false → {E : Type 0} (made : Result Array E) (shape : Shape)
+      → sides_of shape ≡ sides_at p.tree i
+      → IfOk made (λ v. sides_of v.shape ≡ sides_of shape) → IfOk made (λ v. (j : ℕ) → number_at v.entries j ≡ whole (pos 0)) → IfOk made (IsArgument p setting ray counts i)
   level_argument i below t counts e (Ok v) shape own same each = record {
     shape = same ∙ own;
     numbers = λ j. each j ∙ sym (level i below t j) ∙ ap (λ (b : Bool). (if b then fixed_value p setting i else steepness_at p setting ray i) j) (sym e);

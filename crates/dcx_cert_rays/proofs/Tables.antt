@@ -1,9 +1,10 @@
 -- Tables of steepness: what is read of them, and one more array.
-use Rattle.std.proofs.Common.{◌≡◌, inl, inr, ℕ, zero, suc, ◌+◌, ◌<◌, ◌≤◌, Bool, true, false, List, [], ◌∷◌, ◌++◌, length, map, get_or, set, replicate, All, Option, Some, None, IsSome, slice_get, Ok, IsOk, refl, sym, ap, ◌∙◌, subst, arith}
+use Rattle.std.proofs.Common.{◌≡◌, inl, inr, ℕ, zero, suc, ◌+◌, ◌<◌, ◌≤◌, Bool, true, false, List, [], ◌∷◌, ◌++◌, length, map, get_or, set}
+use Rattle.std.proofs.Common.{replicate, All, Option, Some, None, IsSome, slice_get, Ok, IsOk, refl, sym, ap, ◌∙◌, subst, arith}
 use Rattle.std.specs.Prelude.{IsTrue, if◌then◌else◌}
 use Rattle.std.proofs.lemmas.Bool.{cases_eq}
-use Rattle.std.proofs.lemmas.List.{length-set, length-replicate, get_or-set_same, get_or-set_other, get_or_default}
-use Rattle.std.proofs.lemmas.Option.{none-some, same_Some}
+use Rattle.std.proofs.lemmas.List.{length-set, get_or-set_same, get_or-set_other, get_or_default}
+use Rattle.std.proofs.lemmas.Option.{same_Some}
 use Rattle.dcx_atom.specs.declared.array.Array.{Array}
 use Rattle.dcx_atom.specs.Formed.{zero_frac}
 use Rattle.dcx_point.specs.Pairs.{Pairs}
@@ -45,11 +46,6 @@ replicate_more n m now e is = is ∙ snoc n ∙ ap (λ k. replicate k None) (let
     snoc zero = refl
     snoc (suc k) = ap (λ xs. no_array ∷ xs) (snoc k)
 
-none_there : (n i : ℕ) (v : Array) → array_at (replicate n None) i ≡ Some v → ⊥
-none_there zero i v e = none-some v e
-none_there (suc n) zero v e = none-some v e
-none_there (suc n) (suc i) v e = none_there n i v e
-
 -- the first argument is marked where it has no variable below it
 pub first_marked : (p : Problem) (marks : List Bool) → AreFixed p marks (length p.tree) → (ids : List NodeId) → All (λ a. a < length p.tree) (positions ids) → 1 ≤ length ids →
     get_or marks (get_or ids 0 (record { 0 = 0 })).0 false ≡ (argument (map (judgement_at Plain (convex_problem p).nodes) (positions ids)) 0).fixed
@@ -57,15 +53,9 @@ first_marked p marks fixed [] below some = absurd (omega arith)
 first_marked p marks fixed (a ∷ ids) below some = fixed.each a.0 (below 0 0 (omega arith))
 
 module _ (p : Problem) (setting ray : Pairs) where
-  pub kept_none : (arrays : List (Option Array)) (count : ℕ) → arrays ≡ replicate count None → count ≡ length p.tree → AreKept p setting ray arrays
-  kept_none arrays count is e = record {
-    sized = ap length is ∙ length-replicate count None ∙ e;
-    steep = λ i v at. absurd (none_there count i v (ap (λ (xs : List (Option Array)). array_at xs i) (sym is) ∙ at));
-    closed = λ i a some of. let (v, at) = some_of (array_at arrays i) some in absurd (none_there count i v (ap (λ (xs : List (Option Array)). array_at xs i) (sym is) ∙ at));
-  }
-
   formed_fixed : (i : ℕ) → IsTrue (is_fixed p i) → IsFormed p setting ray i
-  formed_fixed i t n at j below = subst (λ (b : Bool). IsOk (if b then Ok zero_frac else entry_formed n.call (given_by setting) (given_by ray) (arg_sides p.tree n) (node_numbers p setting ray n) j)) (sym t) refl
+  formed_fixed i t n at j below =
+      subst (λ (b : Bool). IsOk (if b then Ok zero_frac else entry_formed n.call (given_by setting) (given_by ray) (arg_sides p.tree n) (node_numbers p setting ray n) j)) (sym t) refl
 
   pub known_formed : (arrays : List (Option Array)) → AreKept p setting ray arrays → (i : ℕ) → IsKnown p arrays i → IsFormed p setting ray i
   known_formed arrays kept i (inl t) = formed_fixed i t
@@ -85,7 +75,8 @@ module _ (p : Problem) (setting ray : Pairs) where
   known_below arrays kept roots known = λ i b r. known_formed arrays kept i (known_along arrays kept r.path r.root i r.leads (all_has (IsKnown p arrays) roots r.root known r.is_root))
 
   -- what is known of each id
-  pub all_known : (arrays : List (Option Array)) (ids : List NodeId) (n : ℕ) → length ids ≤ n → ((k : ℕ) → k < n → k < length ids → IsKnown p arrays (get_or ids k (record { 0 = 0 })).0) → All (IsKnown p arrays) (positions ids)
+  pub all_known : (arrays : List (Option Array)) (ids : List NodeId) (n : ℕ) → length ids ≤ n → ((k : ℕ) → k < n → k < length ids → IsKnown p arrays (get_or ids k (record { 0 = 0 })).0)
+      → All (IsKnown p arrays) (positions ids)
   all_known arrays ids n full each = λ k d lt.
       let l = length-positions ids in
       let below : k < length ids = omega (arith, l, lt) in
@@ -124,10 +115,11 @@ module _ (p : Problem) (setting ray : Pairs) where
     }
 
   -- one more argument
-  pub arguments_more : (side : Option ℕ) (ids : List ℕ) (args now : List Array) (v : Array) (n : ℕ) (a : ℕ) → n ≡ length args → slice_get ids n ≡ Some a → IsArgument p setting ray (is_side side n) a v →
-      now ≡ args ++ v ∷ [] → ((k b : ℕ) (w : Array) → slice_get ids k ≡ Some b → slice_get args k ≡ Some w → IsArgument p setting ray (is_side side k) b w) →
+  pub arguments_more : (side : Option ℕ) (ids : List ℕ) (args now : List Array) (v : Array) (n : ℕ) (a : ℕ) → n ≡ length args → slice_get ids n ≡ Some a → IsArgument p setting ray (is_side side n) a v
+      → now ≡ args ++ v ∷ [] → ((k b : ℕ) (w : Array) → slice_get ids k ≡ Some b → slice_get args k ≡ Some w → IsArgument p setting ray (is_side side k) b w) →
       (k b : ℕ) (w : Array) → slice_get ids k ≡ Some b → slice_get now k ≡ Some w → IsArgument p setting ray (is_side side k) b w
   arguments_more side ids args now v n a e at is added each k b w there has =
       push_each (λ k' w'. (b' : ℕ) → slice_get ids k' ≡ Some b' → IsArgument p setting ray (is_side side k') b' w') args v (λ k' w' has' b' there'. each k' b' w' there' has')
-      (subst (λ m. (b' : ℕ) → slice_get ids m ≡ Some b' → IsArgument p setting ray (is_side side m) b' v) e (λ b' there'. subst (λ z. IsArgument p setting ray (is_side side n) z v) (same_Some a b' (sym at ∙ there')) is))
+      (subst (λ m. (b' : ℕ) → slice_get ids m ≡ Some b' → IsArgument p setting ray (is_side side m) b' v) e
+      (λ b' there'. subst (λ z. IsArgument p setting ray (is_side side n) z v) (same_Some a b' (sym at ∙ there')) is))
       k w (subst (λ (xs : List Array). slice_get xs k ≡ Some w) added has) b there

@@ -31,7 +31,8 @@ then_checked a b (Err f) p (inl e) = inl e
 then_checked a b (Err f) p (inr h) = inr (inr (p, h))
 
 -- the first of many that fails
-pub each_fails : (count : ℕ) (check : ℕ → Check) (k : ℕ) (f : CertFault) → k < count → ((i : ℕ) → i < k → (check i).passes) → (f ≡ Memory) ⊎ (check k).fails f → (f ≡ Memory) ⊎ (each_below count check).fails f
+pub each_fails : (count : ℕ) (check : ℕ → Check) (k : ℕ) (f : CertFault) → k < count → ((i : ℕ) → i < k → (check i).passes) → (f ≡ Memory) ⊎ (check k).fails f
+    → (f ≡ Memory) ⊎ (each_below count check).fails f
 each_fails count check k f lt before (inl e) = inl e
 each_fails count check k f lt before (inr h) = inr (record { position = k; there = lt; before = before; here = h })
 
@@ -44,7 +45,8 @@ two_below n a b la lb (suc (suc k)) d lt = absurd (omega arith)
 module _ (p : Problem) (setting ray : Pairs) where
   -- a constraint that is there
   module _ (k : ℕ) (c : Constraint) (there : slice_get p.constraints k ≡ Some c) where
-    pub constraint_fails : (f : CertFault) → (f ≡ Memory) ⊎ (forming p setting ray (c.left.0 ∷ c.right.0 ∷ [])).fails f → (f ≡ Memory) ⊎ (constraint_check p setting ray k (slice_get p.constraints k)).fails f
+    pub constraint_fails : (f : CertFault) → (f ≡ Memory) ⊎ (forming p setting ray (c.left.0 ∷ c.right.0 ∷ [])).fails f
+        → (f ≡ Memory) ⊎ (constraint_check p setting ray k (slice_get p.constraints k)).fails f
     constraint_fails f h =
         subst (λ (o : Option Constraint). (f ≡ Memory) ⊎ (constraint_check p setting ray k o).fails f) (sym there)
         (first_fails (forming p setting ray (c.left.0 ∷ c.right.0 ∷ [])) (sides_hold p setting ray k c) f h)
@@ -62,7 +64,8 @@ module _ (p : Problem) (setting ray : Pairs) where
     pub holding : Holds (relation_of c.kind) (value left -ℚ value right) → HoldsAt p setting ray c j
     holding h = subst (Holds (relation_of c.kind)) gap_is h
 
-    pub broken : ¬ Holds (relation_of c.kind) (value left -ℚ value right) → j < entries_of (sides_of c.shape) → ((i : ℕ) → i < j → HoldsAt p setting ray c i) → IsFirstBroken p setting ray k c (RayConstraint k j left right)
+    pub broken : ¬ Holds (relation_of c.kind) (value left -ℚ value right) → j < entries_of (sides_of c.shape) → ((i : ℕ) → i < j → HoldsAt p setting ray c i)
+        → IsFirstBroken p setting ray k c (RayConstraint k j left right)
     broken breaks within before = record {
       entry = j;
       within = within;
@@ -73,14 +76,8 @@ module _ (p : Problem) (setting ray : Pairs) where
 
   module _ (slope found stated : Frac) (found_is : value found ≡ objective_steepness p setting ray) (stated_is : value stated ≡ neg_ℚ (value slope))
       (b : Bool) (test : b ≡ rat_le (value found) (value stated)) where
-    low : value found ≤ℚ value stated → objective_steepness p setting ray ≤ℚ neg_ℚ (value slope)
-    low h = subst (λ x. x ≤ℚ neg_ℚ (value slope)) found_is (subst (λ y. value found ≤ℚ y) stated_is h)
-
     high : objective_steepness p setting ray ≤ℚ neg_ℚ (value slope) → value found ≤ℚ value stated
     high h = subst (λ x. x ≤ℚ value stated) (sym found_is) (subst (λ y. objective_steepness p setting ray ≤ℚ y) (sym stated_is) h)
-
-    pub falling : b ≡ true → (falls p setting ray slope).passes
-    falling t = low ((IsTrue-rat_le (value found) (value stated)).0 (sym test ∙ t))
 
     pub not_falling : b ≡ false → (falls p setting ray slope).fails (RayValue stated found)
     not_falling f = (

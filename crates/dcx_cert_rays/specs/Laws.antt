@@ -1,4 +1,4 @@
--- The main statements, as the clauses of the laws say them.
+-- The laws of the checks of a ray: each tells one thing, and a ray that passes shows the problem to be unbounded.
 use Rattle.std.specs.Prelude.{pos}
 use Rattle.dcx_math.specs.Rational.{whole, ◌≤ℚ◌, ◌<ℚ◌}
 use Rattle.dcx_frac.specs.declared.fraction.Frac.{Frac}

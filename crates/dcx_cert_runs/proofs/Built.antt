@@ -1,5 +1,6 @@
 -- The certificate of an answer that a session found last.
-use Rattle.std.proofs.Common.{◌≡◌, ◌≢◌, ◌⊎◌, inl, inr, ℕ, ◌+◌, ◌*◌, ◌<◌, ◌≤◌, List, [], ◌∷◌, ◌++◌, length, take, get_or, Bool, true, false, IsTrue, Option, Some, Result, Ok, Err, refl, sym, ap, ◌∙◌, subst, true≢false, arith}
+use Rattle.std.proofs.Common.{◌≡◌, ◌≢◌, ◌⊎◌, inl, inr, ℕ, ◌+◌, ◌*◌, ◌<◌, ◌≤◌, List, [], ◌∷◌, ◌++◌, length, take, get_or, Bool, true}
+use Rattle.std.proofs.Common.{false, IsTrue, Option, Some, Result, Ok, Err, refl, sym, ap, ◌∙◌, subst, true≢false, arith}
 use native.Mathlib.Decide.{dec_lt}
 use Rattle.std.specs.List.{slice_get}
 use Rattle.std.proofs.lemmas.Option.{none-some, same_Some, slice_get_read}
@@ -45,7 +46,8 @@ laid_out : (p : Problem) (setting : Pairs) (q : Program Frac) → SessionGives p
 laid_out p setting q (mapped map m f) = programs_are_laid_out.fixed p setting map q (programs_are_laid_out.affine p _ map m.reduces) f
 laid_out p setting q (anew n h) = programs_are_laid_out.numbers p setting q h
 
-module _ (p : Problem) (setting : Pairs) (limit : ℕ) (cached : Bool) (a : Answer) (last : Option Last) (l : Last) (reduced : Reduction Frac) (rows : LpAnswer) (shows : Shows p setting limit cached a last)
+module _ (p : Problem) (setting : Pairs) (limit : ℕ) (cached : Bool) (a : Answer) (last : Option Last) (l : Last) (reduced : Reduction Frac) (rows : LpAnswer)
+    (shows : Shows p setting limit cached a last)
     (is : last ≡ Some l) (from : reduced ≡ l.reduced) (of : rows ≡ l.solved.answer) where
   found : IsFound p setting limit cached a l
   found = subst (Shows p setting limit cached a) is shows
@@ -92,7 +94,8 @@ module _ (p : Problem) (setting : Pairs) (limit : ℕ) (cached : Bool) (a : Answ
   answered_flag : IsAccepted p → IsTrue false ↔ IsStoppedAt p limit setting
   answered_flag ok = (λ t. absurd (true≢false (sym t)), λ h. absurd (not_stopped ok h))
 
-  pub told_cert : IsAccepted p → (cert : Cert) → IsBuilt p setting reduced.program.origins rows a cert → IsCertOf (problem_outline p) cert → IsOfFormat Two cert → IsToldAt p limit setting (sections.Cert cert) false
+  pub told_cert : IsAccepted p → (cert : Cert) → IsBuilt p setting reduced.program.origins rows a cert → IsCertOf (problem_outline p) cert → IsOfFormat Two cert
+      → IsToldAt p limit setting (sections.Cert cert) false
   told_cert ok cert built of_problem format = record { is_section = cert_at cert built of_problem format; flag = answered_flag ok }
 
   told_none : IsAccepted p → (section : Section) (flag : Bool) → section ≡ sections.None → flag ≡ false → HasNoCert p limit setting → IsToldAt p limit setting section flag
@@ -104,14 +107,16 @@ module _ (p : Problem) (setting : Pairs) (limit : ℕ) (cached : Bool) (a : Answ
   no_cert reads.Memory n h = absurd (n refl)
 
   -- no certificate is built of the answer
-  pub unbuilt_at : {E : Type 0} → IsAccepted p → (stop : AnswerStop) (r : Result Told E) → StopsBuilding p reduced.program.origins rows stop → IfOk r (λ t. (t.section ≡ sections.None) × (t.stopped ≡ false)) →
-      OnOk r (stop ≢ reads.Memory) → IfOk r (λ t. IsToldAt p limit setting t.section t.stopped)
+  pub unbuilt_at : {E : Type 0} → IsAccepted p → (stop : AnswerStop) (r : Result Told E) → StopsBuilding p reduced.program.origins rows stop
+      → IfOk r (λ t. (t.section ≡ sections.None) × (t.stopped ≡ false))
+      → OnOk r (stop ≢ reads.Memory) → IfOk r (λ t. IsToldAt p limit setting t.section t.stopped)
   unbuilt_at ok stop (Ok t) h is told = told_none ok t.section t.stopped is.0 is.1 (no_cert stop told h)
   unbuilt_at ok stop (Err e) h is told = tt
 
 -- a setting that is stopped has none
-pub stopped_at : {E : Type 0} (p : Problem) (limit : ℕ) (setting : Pairs) (stop : Stop) (r : Result Told E) → Stops p setting limit stop → IfOk r (λ t. (t.section ≡ sections.None) × (t.stopped ≡ true)) → OnOk r (stop ≢ stops.Memory) →
-    IfOk r (λ t. IsToldAt p limit setting t.section t.stopped)
+pub stopped_at : {E : Type 0} (p : Problem) (limit : ℕ) (setting : Pairs) (stop : Stop) (r : Result Told E) → Stops p setting limit stop
+    → IfOk r (λ t. (t.section ≡ sections.None) × (t.stopped ≡ true)) → OnOk r (stop ≢ stops.Memory)
+    → IfOk r (λ t. IsToldAt p limit setting t.section t.stopped)
 stopped_at p limit setting stop (Ok t) h is told =
     let at : IsStoppedAt p limit setting = record { stop = stop; not_memory = told; stops = h } in
     let none : IsToldAt p limit setting sections.None true = record { is_section = stopped at; flag = (λ u. at, λ u. refl) } in
@@ -130,7 +135,8 @@ module _ (p : Problem) (limit : ℕ) (settings : List Pairs) (i : ℕ) (s : Pair
   here_at = slice_get_read settings (length settings) i s refl lt is
 
   -- one of the settings up to this one is stopped
-  pub flag_step : (before now flag : Bool) → IsTrue before ↔ StopsSomewhere p limit (take i settings) → IsTrue now ↔ IsStoppedAt p limit s → IsTrue flag ↔ (IsTrue before ⊎ IsTrue now) → IsTrue flag ↔ StopsSomewhere p limit (take (i + 1) settings)
+  pub flag_step : (before now flag : Bool) → IsTrue before ↔ StopsSomewhere p limit (take i settings) → IsTrue now ↔ IsStoppedAt p limit s → IsTrue flag ↔ (IsTrue before ⊎ IsTrue now)
+      → IsTrue flag ↔ StopsSomewhere p limit (take (i + 1) settings)
   flag_step before now flag h k e = (λ t. there (e.0 t), λ w. e.1 (back w (dec_lt w.position i)))
     where
       there : IsTrue before ⊎ IsTrue now → StopsSomewhere p limit (take (i + 1) settings)
@@ -141,7 +147,12 @@ module _ (p : Problem) (limit : ℕ) (settings : List Pairs) (i : ℕ) (s : Pair
       there (inr t) = record { position = i; setting = s; there = taken_at settings (i + 1) i s (omega arith) here_at; is = k.0 t }
 
       back : (w : StopsSomewhere p limit (take (i + 1) settings)) → Dec (w.position < i) → IsTrue before ⊎ IsTrue now
-      back w (yes l) = inl (h.1 (record { position = w.position; setting = w.setting; there = taken_at settings i w.position w.setting l (taken_from settings (i + 1) w.position w.setting w.there); is = w.is }))
+      back w (yes l) = inl (h.1 (record {
+        position = w.position;
+        setting = w.setting;
+        there = taken_at settings i w.position w.setting l (taken_from settings (i + 1) w.position w.setting w.there);
+        is = w.is;
+      }))
       back w (no n) =
           let below : w.position < i + 1 = taken_within settings (i + 1) w.position w.setting w.there in
           let same : w.position ≡ i = omega (arith, n) in
@@ -155,11 +166,13 @@ no_sections p limit = record { count = refl; each = λ k s x at here. absurd (no
 pub none_before : (p : Problem) (limit : ℕ) (settings : List Pairs) → IsTrue false ↔ StopsSomewhere p limit (take 0 settings)
 none_before p limit settings = (λ t. absurd (true≢false (sym t)), λ w. absurd (none-some w.setting w.there))
 
-pub all_of : (p : Problem) (limit : ℕ) (settings : List Pairs) (i : ℕ) (flag : Bool) → length settings ≤ i → IsTrue flag ↔ StopsSomewhere p limit (take i settings) → IsTrue flag ↔ StopsSomewhere p limit settings
+pub all_of : (p : Problem) (limit : ℕ) (settings : List Pairs) (i : ℕ) (flag : Bool) → length settings ≤ i → IsTrue flag ↔ StopsSomewhere p limit (take i settings)
+    → IsTrue flag ↔ StopsSomewhere p limit settings
 all_of p limit settings i flag le h = subst (λ (z : List Pairs). IsTrue flag ↔ StopsSomewhere p limit z) (take_all i settings le) h
 
 -- ---- steps
-pub counts_mapped : (p q : Problem) (cached : Bool) (old begun new : ℕ) → q ≡ p → (IsTrue cached → begun ≡ old + length p.tree) → (IsTrue cached ↔ HasMap p) → (HasMap q → new ≡ begun) → HasMap p → new ≡ old + length p.tree
+pub counts_mapped : (p q : Problem) (cached : Bool) (old begun new : ℕ) → q ≡ p → (IsTrue cached → begun ≡ old + length p.tree) → (IsTrue cached ↔ HasMap p) → (HasMap q → new ≡ begun) → HasMap p
+    → new ≡ old + length p.tree
 counts_mapped p q cached old begun new same counted exact kept h = kept (subst (λ (z : Problem). HasMap z) (sym same) h) ∙ counted (exact.1 h)
 
 pub counts_few : (p q : Problem) (old begun new : ℕ) → q ≡ p → begun ≤ old + length p.tree → (HasMap q → new ≡ begun) → HasMap p → new ≤ old + length p.tree

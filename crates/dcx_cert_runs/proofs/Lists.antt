@@ -53,7 +53,8 @@ module _ {X Y : Type 0} (R : X → Y → Type 0) where
   beside_step all ys i x y lt is h here = subst (λ z. AreBeside R z (ys ++ y ∷ [])) (sym (one_taken all i x lt is)) (one_more (take i all) ys x y h here)
 
 -- what holds of an item beside which another one stands holds of each
-pub each_beside : {X Y : Type 0} (P : Y → Type 0) (xs : List X) (ys : List Y) (a : X) (b : Y) → length ys ≡ length xs → ((k : ℕ) (x : X) (y : Y) → slice_get xs k ≡ Some x → slice_get ys k ≡ Some y → P y) → All P ys
+pub each_beside : {X Y : Type 0} (P : Y → Type 0) (xs : List X) (ys : List Y) (a : X) (b : Y) → length ys ≡ length xs
+    → ((k : ℕ) (x : X) (y : Y) → slice_get xs k ≡ Some x → slice_get ys k ≡ Some y → P y) → All P ys
 each_beside P xs ys a b e h =
     All-from_get_or P ys b (λ i lt. h i (get_or xs i a) (get_or ys i b) (slice_get-get_or xs i a (omega (arith, e, lt))) (slice_get-get_or ys i b lt))
 
@@ -66,8 +67,9 @@ same_lists (x ∷ xs) (y ∷ ys) e h = ap₂ ◌∷◌ (h 0 x y refl refl) (same
 
 -- ---- one place more
 -- what holds of the items of two lists below a place, and of those at the place, holds of those below the next one
-pub below_next : {X Y : Type 0} (R : X → Y → Type 0) (xs : List X) (ys : List Y) (i : ℕ) (a : X) (b : Y) → a ≡ get_or xs i a → b ≡ get_or ys i b → ((k : ℕ) (x : X) (y : Y) → k < i → slice_get xs k ≡ Some x → slice_get ys k ≡ Some y → R x y) → R a b →
-    (k : ℕ) (x : X) (y : Y) → k < i + 1 → slice_get xs k ≡ Some x → slice_get ys k ≡ Some y → R x y
+pub below_next : {X Y : Type 0} (R : X → Y → Type 0) (xs : List X) (ys : List Y) (i : ℕ) (a : X) (b : Y) → a ≡ get_or xs i a → b ≡ get_or ys i b
+    → ((k : ℕ) (x : X) (y : Y) → k < i → slice_get xs k ≡ Some x → slice_get ys k ≡ Some y → R x y) → R a b
+    → (k : ℕ) (x : X) (y : Y) → k < i + 1 → slice_get xs k ≡ Some x → slice_get ys k ≡ Some y → R x y
 below_next R xs ys i a b ia ib h here k x y lt at there = by (dec_lt k i)
   where
     by : Dec (k < i) → R x y
@@ -78,8 +80,8 @@ below_next R xs ys i a b ia ib h here k x y lt at there = by (dec_lt k i)
         (subst (R a) (ib ∙ get_or_from_slice_get ys i y b (subst (λ n. slice_get ys n ≡ Some y) e there)) here)
 
 -- what holds below a place that no item of the second list is behind holds of all
-pub all_below : {X Y : Type 0} (R : X → Y → Type 0) (xs : List X) (ys : List Y) (n : ℕ) → length ys ≤ n → ((k : ℕ) (x : X) (y : Y) → k < n → slice_get xs k ≡ Some x → slice_get ys k ≡ Some y → R x y) →
-    (k : ℕ) (x : X) (y : Y) → slice_get xs k ≡ Some x → slice_get ys k ≡ Some y → R x y
+pub all_below : {X Y : Type 0} (R : X → Y → Type 0) (xs : List X) (ys : List Y) (n : ℕ) → length ys ≤ n → ((k : ℕ) (x : X) (y : Y) → k < n → slice_get xs k ≡ Some x → slice_get ys k ≡ Some y → R x y)
+    → (k : ℕ) (x : X) (y : Y) → slice_get xs k ≡ Some x → slice_get ys k ≡ Some y → R x y
 all_below R xs ys n end h k x y at there = let within = slice_get_within ys k y there in h k x y (omega (arith, within, end)) at there
 
 -- ---- the front of a list

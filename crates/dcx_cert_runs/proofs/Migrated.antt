@@ -34,7 +34,8 @@ pub migrations_are_one : MigrationsAreOne
 migrations_are_one p settings before a b counted h k = same p settings before a b counted h k
 
 -- sections with the values of all settings
-pub migrated : (p : Problem) (settings : List Pairs) (before after : Sections) → after.format ≡ Two → AreMade (with_values p) settings before.list after.list (length before.list) → IsMigrated p settings before after
+pub migrated : (p : Problem) (settings : List Pairs) (before after : Sections) → after.format ≡ Two → AreMade (with_values p) settings before.list after.list (length before.list)
+    → IsMigrated p settings before after
 migrated p settings before after format h = record {
   format = format;
   count = h.count;

@@ -1,5 +1,5 @@
 -- Settings have one certificate.
-use Rattle.std.proofs.Common.{◌≡◌, ℕ, suc, List, [], ◌∷◌, length, Result, Some, Ok, Err, refl, sym, ap, ◌∙◌, subst, arith}
+use Rattle.std.proofs.Common.{◌≡◌, ℕ, suc, List, [], ◌∷◌, length, Some, Ok, Err, refl, sym, ap, ◌∙◌, subst, arith}
 use Rattle.std.specs.List.{slice_get}
 use Rattle.dcx_frac.specs.declared.fraction.Frac.{Frac}
 use Rattle.dcx_point.specs.Pairs.{Pairs}
@@ -20,14 +20,11 @@ use Rattle.dcx_graph.specs.declared.origin.Origin.{Origin}
 use Rattle.dcx_graph.specs.Program.{Program}
 use Rattle.dcx_graph.specs.Answers.{rows_of, IsSameAnswer}
 use Rattle.dcx_cache.specs.Answers.{IsAnswerOf}
-use Rattle.dcx_cache.proofs.OneEnd.{one_program, has_one_end}
+use Rattle.dcx_cache.proofs.OneEnd.{one_program, has_one_end, same_ok}
 use Rattle.dcx_cert_build.specs.Built.{values_in, IsBuilt, PassesAt}
 use Rattle.dcx_cert_build.proofs.OneCert.{one_cert}
 use Rattle.dcx_cert_runs.specs.Sections.{IsCertAt, HasNoCert, stopped, passes, IsSectionAt}
 use Rattle.dcx_cert_runs.specs.Laws.{answer_of, weights_of, params_of, IsAlike, AreAlike, CertificatesAreOne}
-
-same_ok : {A E : Type 0} (x y : A) → ◌≡◌ {A = Result A E} (Ok x) (Ok y) → x ≡ y
-same_ok x y e = cc
 
 -- the answer that the certificate of an answer shows is that answer
 shows : (p : Problem) (s : Pairs) (from : List Origin) (lp : LpAnswer) (a : Answer) (c : Cert) → IsBuilt p s from lp a c → answer_of c ≡ a
@@ -85,7 +82,8 @@ module _ (p : Problem) (limit : ℕ) (ok : IsAccepted p) where
       record {
         answer = subst (λ (z : Answer). IsSameAnswer p z (answer_of d)) (sym (shows p s h.program.origins h.solved.answer h.answer c h.built))
             (subst (λ (z : Answer). IsSameAnswer p h.answer z) (sym (shows p s k.program.origins k.solved.answer k.answer d k.built)) same);
-        weights = same_weights p s h.program.origins h.solved.answer h.answer k.answer c d h.built (built_too s h.program k.program h.solved k.solved h.answer k.answer h.answered k.answered d k.built) same;
+        weights = same_weights p s h.program.origins h.solved.answer h.answer k.answer c d h.built
+            (built_too s h.program k.program h.solved k.solved h.answer k.answer h.answered k.answered d k.built) same;
         params = params_told p s h.program.origins h.solved.answer h.answer c h.built ∙ sym (params_told p s k.program.origins k.solved.answer k.answer d k.built);
       }
   alike_at s (sections.Cert c) sections.None h k = one_or_none s c h k

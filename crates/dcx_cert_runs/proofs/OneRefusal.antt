@@ -36,15 +36,17 @@ module _ (p : Problem) (settings : List Pairs) (list : List Section) where
           let same : r.position ≡ t.position = omega (arith, a, b) in
           let setting : r.setting ≡ t.setting = same_Some r.setting t.setting (sym r.at_setting ∙ ap (slice_get settings) same ∙ t.at_setting) in
           let section : r.section ≡ t.section = same_Some r.section t.section (sym r.at_section ∙ ap (slice_get list) same ∙ t.at_section) in
-          let first : (section_check p t.setting t.section).fails f = subst (λ (x : Section). (section_check p t.setting x).fails f) section (subst (λ (s : Pairs). (section_check p s r.section).fails f) setting r.fails) in
+          let first : (section_check p t.setting t.section).fails f =
+          subst (λ (x : Section). (section_check p t.setting x).fails f) section (subst (λ (s : Pairs). (section_check p s r.section).fails f) setting r.fails) in
           (r.numbered ∙ ap (λ k. k + 1) same ∙ sym t.numbered, (settled p t.setting t.section).one f g first t.fails)
 
 pub refusals_are_one : RefusalsAreOne
 refusals_are_one p settings list = record { apart = apart p settings list; one = one p settings list }
 
 -- a section fails, where those before it pass
-pub refused_at : (p : Problem) (settings : List Pairs) (list : List Section) (i number : ℕ) (s : Pairs) (x : Section) (f : CertFault) → number ≡ i + 1 → slice_get settings i ≡ Some s → slice_get list i ≡ Some x →
-    ((k : ℕ) (t : Pairs) (y : Section) → k < i → slice_get settings k ≡ Some t → slice_get list k ≡ Some y → (section_check p t y).passes) → (f ≡ Memory) ⊎ (section_check p s x).fails f →
+pub refused_at : (p : Problem) (settings : List Pairs) (list : List Section) (i number : ℕ) (s : Pairs) (x : Section) (f : CertFault) → number ≡ i + 1 → slice_get settings i ≡ Some s
+    → slice_get list i ≡ Some x
+    → ((k : ℕ) (t : Pairs) (y : Section) → k < i → slice_get settings k ≡ Some t → slice_get list k ≡ Some y → (section_check p t y).passes) → (f ≡ Memory) ⊎ (section_check p s x).fails f →
     (f ≡ Memory) ⊎ IsFirstRefused p settings list number f
 refused_at p settings list i number s x f numbered at there before (inl memory) = inl memory
 refused_at p settings list i number s x f numbered at there before (inr fails) =

@@ -44,7 +44,11 @@ module _ (p : Problem) (s : Pairs) (kinds : List UnknownKind) (from : List Origi
       subst (IsShown p s) (sym is) (fits, record { shaped = at.of_variables.shaped; domain = right.feasible.domain }, right)
   shown (Infeasible duals gap) cert fits right read (weights, h, is) = subst (IsShown p s) (sym is) (fits, right)
   shown (Unbounded point ray bound slope) cert fits right (e, b, t, at, along) is =
-      subst (IsShown p s) (sym is) (fits, record { shaped = at.of_variables.shaped; domain = subst (IsInDomain p) (start (point_of p point) (point_of p ray)) (right.feasible (whole (pos 0)) (≤ℚ_refl _)).domain }, right)
+      subst (IsShown p s) (sym is) (
+        fits,
+        record { shaped = at.of_variables.shaped; domain = subst (IsInDomain p) (start (point_of p point) (point_of p ray)) (right.feasible (whole (pos 0)) (≤ℚ_refl _)).domain },
+        right,
+      )
 
 section_shown : (p : Problem) (limit : ℕ) (s : Pairs) (x : Section) → IsAccepted p → IsSectionAt p limit s x → IsSectionShown p s x
 section_shown p limit s (sections.Cert cert) ok h =
@@ -71,5 +75,6 @@ pub certificates_are_of : CertificatesAreOf
 certificates_are_of p limit settings c ok h = record {
   counted = h.sections.count;
   shown = each_beside (IsSectionOf (problem_outline p)) settings c.list [] sections.None h.sections.count (λ k s x at here. section_of p limit s x (h.sections.each k s x at here));
-  format = subst (λ (f : Format). AreOfFormat f c.list) (sym h.format) (each_beside (IsSectionOfFormat Two) settings c.list [] sections.None h.sections.count (λ k s x at here. section_format p limit s x (h.sections.each k s x at here)));
+  format = subst (λ (f : Format). AreOfFormat f c.list) (sym h.format)
+      (each_beside (IsSectionOfFormat Two) settings c.list [] sections.None h.sections.count (λ k s x at here. section_format p limit s x (h.sections.each k s x at here)));
 }

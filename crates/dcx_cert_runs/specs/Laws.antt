@@ -1,4 +1,4 @@
--- What holds of all certificates.
+-- The laws of certificates at settings: they show the answers, are of their problem, and are one, as refusals are.
 use Rattle.std.specs.Prelude.{◌≡◌, ⊤, ℕ, List, [], ◌∷◌, length, Option}
 use Rattle.dcx_point.specs.Pairs.{Pairs}
 use Rattle.dcx_tree.specs.declared.problem.Problem.{Problem}
@@ -66,7 +66,8 @@ AreAlike p (x ∷ xs) [] = ⊥
 
 -- settings of an accepted problem have one certificate
 abbrev pub CertificatesAreOne : Type 0
-CertificatesAreOne = (p : Problem) (limit : ℕ) (settings : List Pairs) (c d : Sections) → IsAccepted p → IsCertificateAt p limit settings c → IsCertificateAt p limit settings d → AreAlike p c.list d.list
+CertificatesAreOne = (p : Problem) (limit : ℕ) (settings : List Pairs) (c d : Sections) → IsAccepted p → IsCertificateAt p limit settings c → IsCertificateAt p limit settings d
+    → AreAlike p c.list d.list
 
 -- ---- refusals
 -- sections pass or a first one is refused, with one number and one fault, and not both

@@ -1,4 +1,4 @@
--- What the contracts of this crate cite.
+-- What contracts cite: the sections of certificates at settings, and how they are checked and migrated.
 pub mod Sections
 pub mod Checking
 pub mod Migrating

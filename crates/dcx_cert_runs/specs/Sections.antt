@@ -47,7 +47,8 @@ pub record StopsSomewhere (p : Problem) (limit : ℕ) (settings : List Pairs) : 
 -- the setting is stopped, and not for want of memory; or it is answered, and a weight of the answer passes 128 bits
 pub data HasNoCert (p : Problem) (limit : ℕ) (setting : Pairs) : Type 0 where
   stopped : IsStoppedAt p limit setting → HasNoCert p limit setting
-  passes : (program : Program Frac) (solved : Solved) (answer : Answer) (site : Site) → IsAnswerOf p setting limit program solved answer → PassesAt p program.origins solved.answer site → HasNoCert p limit setting
+  passes : (program : Program Frac) (solved : Solved) (answer : Answer) (site : Site) → IsAnswerOf p setting limit program solved answer → PassesAt p program.origins solved.answer site
+      → HasNoCert p limit setting
 
 -- the section of a setting
 abbrev pub IsSectionAt : Problem → ℕ → Pairs → Section → Type 0

@@ -1,4 +1,4 @@
--- What the contracts on certificates cite.
+-- What contracts on certificates cite: formats, outlines, and checks with the faults that tell where they fail.
 pub mod Formats
 pub mod Outlines
 pub mod Shown

@@ -35,7 +35,8 @@ module _ (format : Format) (outline : Outline) (x y : List ℕ) where
       → (sections.Cert (certs.Optimal value point duals weights params) ≡ sections.Cert (certs.Optimal value' point' duals' weights' params')) × (x ≡ y)
   optimal_read value value' point point' duals duals' weights weights' params params' h k e =
       let whole = λ (v : Frac) (p : Pairs) (d : List Array) (w : List NodeWeights) (q : Option Pairs) (z : List ℕ).
-      ap (λ t. t ++ z) (optimal_text v p d w q) ∙ six (params_text q) (number_line (codes "value") v) (flat_map (named_line (codes "var")) p) (flat_map dual_line (enumerate_from 1 d)) (flat_map node_line w) end_line z in
+      ap (λ t. t ++ z) (optimal_text v p d w q) ∙ six (params_text q) (number_line (codes "value") v) (flat_map (named_line (codes "var")) p) (flat_map dual_line (enumerate_from 1 d))
+      (flat_map node_line w) end_line z in
       let all = sym (whole value point duals weights params x) ∙ e ∙ whole value' point' duals' weights' params' y in
       let first = params_read format outline params params' _ _ h.shown.parameters h.of_format k.shown.parameters k.of_format all in
       let second = number_read (codes "value") value value' _ _ first.1 in
@@ -66,7 +67,8 @@ module _ (format : Format) (outline : Outline) (x y : List ℕ) where
       → (sections.Cert (certs.Unbounded point ray bound slope params) ≡ sections.Cert (certs.Unbounded point' ray' bound' slope' params')) × (x ≡ y)
   unbounded_read point point' ray ray' bound bound' slope slope' params params' h k e =
       let whole = λ (p d : Pairs) (b m : Frac) (q : Option Pairs) (z : List ℕ).
-      ap (λ t. t ++ z) (unbounded_text p d b m q) ∙ six (params_text q) (number_line (codes "bound") b) (number_line (codes "slope") m) (flat_map (named_line (codes "var")) p) (flat_map (named_line (codes "ray")) d) end_line z in
+      ap (λ t. t ++ z) (unbounded_text p d b m q) ∙ six (params_text q) (number_line (codes "bound") b) (number_line (codes "slope") m) (flat_map (named_line (codes "var")) p)
+      (flat_map (named_line (codes "ray")) d) end_line z in
       let all = sym (whole point ray bound slope params x) ∙ e ∙ whole point' ray' bound' slope' params' y in
       let first = params_read format outline params params' _ _ h.shown.parameters h.of_format.1 k.shown.parameters k.of_format.1 all in
       let second = number_read (codes "bound") bound bound' _ _ first.1 in

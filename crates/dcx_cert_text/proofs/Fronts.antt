@@ -27,7 +27,8 @@ fewer outline count bytes j k few a = record {
   begins = fewer_lines j k (all_lines a.sections) bytes a.rest few a.begins;
 }
 
-pub goes_on : (outline : Outline) (count : ℕ) (bytes : List ℕ) (line k : ℕ) → IsMisfit outline count bytes line → (k < line → Agrees outline count bytes k) × (line ≤ k → Agrees outline count bytes k → ⊥)
+pub goes_on : (outline : Outline) (count : ℕ) (bytes : List ℕ) (line k : ℕ) → IsMisfit outline count bytes line
+    → (k < line → Agrees outline count bytes k) × (line ≤ k → Agrees outline count bytes k → ⊥)
 goes_on outline count bytes line k h =
     (λ l. fewer outline count bytes k h.done (omega (arith, l, h.next)) h.before, λ l a. h.here (fewer outline count bytes line k l a))
 

@@ -47,7 +47,9 @@ six o a b c d e f = simp append_assoc
 
 -- ---- what stands behind the first lines
 pub optimal_text : (value : Frac) (point : Pairs) (duals : List Array) (weights : List NodeWeights) (params : Option Pairs)
-    → body_text (sections.Cert (certs.Optimal value point duals weights params)) ≡ params_text params ++ (number_line (codes "value") value ++ (flat_map (named_line (codes "var")) point ++ (flat_map dual_line (enumerate_from 1 duals) ++ (flat_map node_line weights ++ end_line))))
+    → body_text (sections.Cert (certs.Optimal value point duals weights params))
+    ≡ params_text params ++ (number_line (codes "value") value ++ (flat_map (named_line (codes "var")) point
+    ++ (flat_map dual_line (enumerate_from 1 duals) ++ (flat_map node_line weights ++ end_line))))
 optimal_text value point duals weights params =
     let n : List Line = node_lines weights ++ (end_line ∷ []) in
     let d : List Line = dual_lines duals ++ n in
@@ -62,7 +64,8 @@ optimal_text value point duals weights params =
     (lines_then (node_lines weights) (end_line ∷ []) (flat_map node_line weights) end_line (joined node_line weights) (last_line end_line)))))
 
 pub infeasible_text : (duals : List Array) (gap : Frac) (weights : List NodeWeights) (params : Option Pairs)
-    → body_text (sections.Cert (certs.Infeasible duals gap weights params)) ≡ params_text params ++ (number_line (codes "gap") gap ++ (flat_map dual_line (enumerate_from 1 duals) ++ (flat_map node_line weights ++ end_line)))
+    → body_text (sections.Cert (certs.Infeasible duals gap weights params))
+    ≡ params_text params ++ (number_line (codes "gap") gap ++ (flat_map dual_line (enumerate_from 1 duals) ++ (flat_map node_line weights ++ end_line)))
 infeasible_text duals gap weights params =
     let n : List Line = node_lines weights ++ (end_line ∷ []) in
     let d : List Line = dual_lines duals ++ n in
@@ -74,12 +77,19 @@ infeasible_text duals gap weights params =
     (lines_then (node_lines weights) (end_line ∷ []) (flat_map node_line weights) end_line (joined node_line weights) (last_line end_line))))
 
 pub unbounded_text : (point ray : Pairs) (bound slope : Frac) (params : Option Pairs)
-    → body_text (sections.Cert (certs.Unbounded point ray bound slope params)) ≡ params_text params ++ (number_line (codes "bound") bound ++ (number_line (codes "slope") slope ++ (flat_map (named_line (codes "var")) point ++ (flat_map (named_line (codes "ray")) ray ++ end_line))))
+    → body_text (sections.Cert (certs.Unbounded point ray bound slope params))
+    ≡ params_text params ++ (number_line (codes "bound") bound ++ (number_line (codes "slope") slope
+    ++ (flat_map (named_line (codes "var")) point ++ (flat_map (named_line (codes "ray")) ray ++ end_line))))
 unbounded_text point ray bound slope params =
-    lines_then (param_lines params) (number_line (codes "bound") bound ∷ (number_line (codes "slope") slope ∷ (named_lines (codes "var") point ++ (named_lines (codes "ray") ray ++ (end_line ∷ []))))) (params_text params) (number_line (codes "bound") bound ++ (number_line (codes "slope") slope ++ (flat_map (named_line (codes "var")) point ++ (flat_map (named_line (codes "ray")) ray ++ end_line)))) refl
-    (line_then (number_line (codes "bound") bound) (number_line (codes "slope") slope ∷ (named_lines (codes "var") point ++ (named_lines (codes "ray") ray ++ (end_line ∷ [])))) (number_line (codes "bound") bound) (number_line (codes "slope") slope ++ (flat_map (named_line (codes "var")) point ++ (flat_map (named_line (codes "ray")) ray ++ end_line))) refl
-    (line_then (number_line (codes "slope") slope) (named_lines (codes "var") point ++ (named_lines (codes "ray") ray ++ (end_line ∷ []))) (number_line (codes "slope") slope) (flat_map (named_line (codes "var")) point ++ (flat_map (named_line (codes "ray")) ray ++ end_line)) refl
-    (lines_then (named_lines (codes "var") point) (named_lines (codes "ray") ray ++ (end_line ∷ [])) (flat_map (named_line (codes "var")) point) (flat_map (named_line (codes "ray")) ray ++ end_line) (joined (named_line (codes "var")) point)
+    lines_then (param_lines params) (number_line (codes "bound") bound
+    ∷ (number_line (codes "slope") slope ∷ (named_lines (codes "var") point ++ (named_lines (codes "ray") ray ++ (end_line ∷ []))))) (params_text params)
+    (number_line (codes "bound") bound ++ (number_line (codes "slope") slope ++ (flat_map (named_line (codes "var")) point ++ (flat_map (named_line (codes "ray")) ray ++ end_line)))) refl
+    (line_then (number_line (codes "bound") bound) (number_line (codes "slope") slope ∷ (named_lines (codes "var") point ++ (named_lines (codes "ray") ray ++ (end_line ∷ []))))
+    (number_line (codes "bound") bound) (number_line (codes "slope") slope ++ (flat_map (named_line (codes "var")) point ++ (flat_map (named_line (codes "ray")) ray ++ end_line))) refl
+    (line_then (number_line (codes "slope") slope) (named_lines (codes "var") point ++ (named_lines (codes "ray") ray ++ (end_line ∷ []))) (number_line (codes "slope") slope)
+    (flat_map (named_line (codes "var")) point ++ (flat_map (named_line (codes "ray")) ray ++ end_line)) refl
+    (lines_then (named_lines (codes "var") point) (named_lines (codes "ray") ray ++ (end_line ∷ [])) (flat_map (named_line (codes "var")) point)
+    (flat_map (named_line (codes "ray")) ray ++ end_line) (joined (named_line (codes "var")) point)
     (lines_then (named_lines (codes "ray") ray) (end_line ∷ []) (flat_map (named_line (codes "ray")) ray) end_line (joined (named_line (codes "ray")) ray) (last_line end_line)))))
 
 pub values_text : (params : Option Pairs) (values : Pairs) → params ≡ Some values → flat_map (named_line (codes "param")) values ≡ params_text params

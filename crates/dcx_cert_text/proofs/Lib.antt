@@ -1,3 +1,4 @@
+-- The lemmas by which the text of a certificate is read back.
 pub mod Joined
 pub mod Names
 pub mod Parts

@@ -1,19 +1,15 @@
 -- Two certificates with one text are one.
-use Rattle.std.proofs.Common.{◌≡◌, ℕ, ◌+◌, ◌⊎◌, inl, inr, List, [], ◌∷◌, ◌++◌, Result, Ok, Err, length, refl, sym, ap, ◌∙◌, subst, arith, append_assoc}
+use Rattle.std.proofs.Common.{◌≡◌, ℕ, ◌+◌, ◌⊎◌, inl, inr, List, [], ◌∷◌, ◌++◌, Result, Ok, Err, length, refl, sym, ap, ◌∙◌, subst, append_assoc}
 use Rattle.std.proofs.lemmas.List.{append_cancel_left}
 use Rattle.std.proofs.lemmas.List.Folds.{concat-append}
-use Rattle.std.proofs.lemmas.List.Elements.{recursion_from_All}
-use Rattle.std.specs.Prelude.{codes}
-use Rattle.std.specs.List.{AllByRecursion, concat}
-use Rattle.dcx_lines.proofs.Reading.{first_same}
+use Rattle.std.specs.List.{concat}
 use Rattle.dcx_cert_sections.specs.declared.section.Section.{Section}
 use Rattle.dcx_cert_sections.specs.declared.section.Sections.{Sections}
 use Rattle.dcx_cert_sections.specs.declared.section.Format.{Format}
-use Rattle.dcx_cert_sections.specs.declared.section.Format.TheVariants.{One, Two}
 use Rattle.dcx_answer.specs.declared.cert_fault.CertFault.{CertFault}
 use Rattle.dcx_answer.specs.declared.cert_fault.CertFault.TheVariants as faults
-use Rattle.dcx_cert_sections.specs.Shown.{Outline, IsSectionOf, AreSectionsOf}
-use Rattle.dcx_cert_sections.specs.Formats.{IsSectionOfFormat, AreOfFormat}
+use Rattle.dcx_cert_sections.specs.Shown.{Outline, AreSectionsOf}
+use Rattle.dcx_cert_sections.specs.Formats.{AreOfFormat}
 use Rattle.dcx_cert_lines.specs.CertText.{first_line, head_line, section_word, section_lines, cert_text}
 use Rattle.dcx_cert_lines.specs.Forms.{IsTextOf}
 use Rattle.dcx_cert_lines.specs.Templates.{IsFilled, head_template, kind_of, lines_from}
@@ -23,6 +19,7 @@ use Rattle.dcx_cert_text.specs.Written.{section_text, body_text}
 use Rattle.dcx_cert_text.specs.Laws.{IsReading}
 use Rattle.dcx_cert_text.proofs.Bodies.{body_read}
 use Rattle.dcx_cert_text.proofs.Fronts.{only_memory}
+use Rattle.dcx_cert_lines.proofs.Files.{valid, formats_apart}
 
 -- the first line of a section is one of its kind
 head_of : (format : Format) (outline : Outline) (s : Section) (n : ℕ) → IsValid format outline s → IsFilled (head_template (kind_of s) n) (head_line (section_word s) n)
@@ -57,21 +54,6 @@ sections_read format outline n (s ∷ ss) (t ∷ ts) h k e =
     let rest = sections_read format outline (n + 1) ss ts h.1 k.1 both.1 in
     λ i. both.0 i ∷ rest i
 
--- the first line of a certificate tells its format
-formats_apart : (a b : Format) (x y : List ℕ) → first_line a ++ x ≡ first_line b ++ y → a ≡ b
-unfolding first_line
-formats_apart One One x y e = refl
-formats_apart One Two x y e = absurd (omega (arith, first_same 49 50 _ _ (append_cancel_left (codes "certificate ") (49 ∷ 10 ∷ x) (50 ∷ 10 ∷ y) e)))
-formats_apart Two One x y e = absurd (omega (arith, first_same 50 49 _ _ (append_cancel_left (codes "certificate ") (50 ∷ 10 ∷ x) (49 ∷ 10 ∷ y) e)))
-formats_apart Two Two x y e = refl
-
-both_valid : (format : Format) (outline : Outline) (list : List Section) → AllByRecursion (IsSectionOf outline) list → AllByRecursion (IsSectionOfFormat format) list → AreValid format outline list
-both_valid format outline [] h k = tt
-both_valid format outline (s ∷ list) h k = (record { shown = h.0; of_format = k.0 }, both_valid format outline list h.1 k.1)
-
-valid : (format : Format) (outline : Outline) (list : List Section) → AreSectionsOf outline list → AreOfFormat format list → AreValid format outline list
-valid format outline list h k = both_valid format outline list (recursion_from_All (IsSectionOf outline) list h) (recursion_from_All (IsSectionOfFormat format) list k)
-
 -- two certificates of one format, by their sections
 of_one_format : (format other : Format) (outline : Outline) (ss ts : List Section) → format ≡ other → AreSectionsOf outline ss → AreOfFormat format ss → AreSectionsOf outline ts → AreOfFormat other ts
     → first_line format ++ concat (lines_from 1 ss) ≡ first_line other ++ concat (lines_from 1 ts) → ss ≡ ts
@@ -91,12 +73,14 @@ one_text outline m n bytes a b h k =
 is_text : (outline : Outline) (s : Sections) → AreSectionsOf outline s.list → AreOfFormat s.format s.list → IsTextOf outline (length s.list) (cert_text s) s
 is_text outline s h k = record { certificate = record { counted = refl; shown = h; format = k }; text = refl }
 
-read_only : (outline : Outline) (s : Sections) → IsTextOf outline (length s.list) (cert_text s) s → (result : Result Sections CertFault) → IsReading outline (length s.list) (cert_text s) result → (result ≡ Ok s) ⊎ (result ≡ Err faults.Memory)
+read_only : (outline : Outline) (s : Sections) → IsTextOf outline (length s.list) (cert_text s) s → (result : Result Sections CertFault) → IsReading outline (length s.list) (cert_text s) result
+    → (result ≡ Ok s) ⊎ (result ≡ Err faults.Memory)
 read_only outline s t (Ok other) h =
     let both = one_text outline (length s.list) (length s.list) (cert_text s) other s h t in
     inl (ap Ok both.0)
 read_only outline s t (Err fault) h = inr (ap Err (only_memory outline (length s.list) (cert_text s) s fault t h))
 
 pub read_again : (outline : Outline) (s : Sections) → AreSectionsOf outline s.list → AreOfFormat s.format s.list
-    → IsReading outline (length s.list) (cert_text s) (Ok s) × ((result : Result Sections CertFault) → IsReading outline (length s.list) (cert_text s) result → (result ≡ Ok s) ⊎ (result ≡ Err faults.Memory))
+    → IsReading outline (length s.list) (cert_text s) (Ok s) × ((result : Result Sections CertFault) → IsReading outline (length s.list) (cert_text s) result
+    → (result ≡ Ok s) ⊎ (result ≡ Err faults.Memory))
 read_again outline s h k = (is_text outline s h k, read_only outline s (is_text outline s h k))

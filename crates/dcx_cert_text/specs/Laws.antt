@@ -1,4 +1,4 @@
--- What holds of all texts of certificates.
+-- The laws of texts of certificates: what is written is read, one text is one certificate, and where bytes are refused.
 use Rattle.std.specs.Prelude.{◌≡◌, ℕ, ◌<◌, ◌≤◌, ◌⊎◌, List, length, Result, Ok, Err, MatchResult}
 use Rattle.dcx_cert_sections.specs.Shown.{Outline, AreSectionsOf}
 use Rattle.dcx_cert_sections.specs.Formats.{AreOfFormat}
@@ -31,4 +31,5 @@ LinesAreOne = (outline : Outline) (count : ℕ) (bytes : List ℕ) (l m : ℕ) �
 
 -- bytes agree with a certificate up to each line before the one at which they are refused, and with none from there on
 abbrev pub FrontsGoOn : Type 0
-FrontsGoOn = (outline : Outline) (count : ℕ) (bytes : List ℕ) (line k : ℕ) → IsMisfit outline count bytes line → (k < line → Agrees outline count bytes k) × (line ≤ k → Agrees outline count bytes k → ⊥)
+FrontsGoOn = (outline : Outline) (count : ℕ) (bytes : List ℕ) (line k : ℕ) → IsMisfit outline count bytes line
+    → (k < line → Agrees outline count bytes k) × (line ≤ k → Agrees outline count bytes k → ⊥)

@@ -1,3 +1,3 @@
--- What the contracts of this crate cite.
+-- What contracts cite: the text of a certificate, and its laws.
 pub mod Written
 pub mod Laws

@@ -1,5 +1,6 @@
 -- Divisors that are marked, tested and formed below.
-use Rattle.std.proofs.Common.{◌≡◌, ◌↔◌, ◌⊎◌, inl, inr, ℕ, ◌+◌, ◌<◌, ◌≤◌, Bool, true, false, List, [], ◌∷◌, length, All, Option, Some, None, IsSome, OnOk, IfErr, Result, Ok, Err, sym, ap, subst, ◌∙◌, arith, replicate}
+use Rattle.std.proofs.Common.{◌≡◌, ◌↔◌, ◌⊎◌, inl, inr, ℕ, ◌+◌, ◌<◌, ◌≤◌, Bool, true, false, List, [], ◌∷◌, length, All, Option, Some}
+use Rattle.std.proofs.Common.{None, IsSome, OnOk, IfErr, Result, Ok, Err, sym, ap, subst, ◌∙◌, arith, replicate}
 use Rattle.std.proofs.Math.Path.{fun_ext}
 use Rattle.std.proofs.Math.ListN.{set}
 use Rattle.std.proofs.lemmas.Bool.{cases_eq}
@@ -90,7 +91,8 @@ module _ (p : Problem) (setting : Pairs) (marks : List Bool) (old : List (Option
     pub known : (i : ℕ) → IsBelowDivisor p i → IsMarked marks i ⊎ IsSome (array_at old i)
     pub closed : AreClosed p.tree old marks
 
-  pub below_divisors : AreKeptValues p setting [] old → ((i : ℕ) → IsMarked marks i → IsBelowDivisor p i) → AreClosed p.tree old marks → ((d : ℕ) → IsDivisor p.tree d → IsMarked marks d) → AreBelowDivisors
+  pub below_divisors : AreKeptValues p setting [] old → ((i : ℕ) → IsMarked marks i → IsBelowDivisor p i) → AreClosed p.tree old marks → ((d : ℕ) → IsDivisor p.tree d → IsMarked marks d)
+      → AreBelowDivisors
   below_divisors h sound closed starts = record {
     sound = sound;
     known = λ i b. all_known p.tree old marks closed h.closed (b.divisor ∷ []) (λ r of. inl (subst (IsMarked marks) (one_is b.divisor r of) (starts b.divisor (b.quotient, b.is_divisor)))) i b.reached;
@@ -108,7 +110,8 @@ module _ (p : Problem) (setting : Pairs) (marks : List Bool) (old : List (Option
   passed_none h = record { values = h; stays = stays_same old; some = λ k b m. absurd (omega (arith, b)); passed = λ k b. absurd (omega (arith, b)) }
 
   module _ (below : AreBelowDivisors) (i : ℕ) (arrays : List (Option Array)) (h : HavePassed i arrays) where
-    pub passed_more : (now : List (Option Array)) → AreKeptValues p setting [] now → StaysKept arrays now → (IsMarked marks i → IsSome (array_at now i)) → (divisor_step p setting i).passes → HavePassed (i + 1) now
+    pub passed_more : (now : List (Option Array)) → AreKeptValues p setting [] now → StaysKept arrays now → (IsMarked marks i → IsSome (array_at now i)) → (divisor_step p setting i).passes
+        → HavePassed (i + 1) now
     passed_more now values stays here passes = record {
       values = values;
       stays = stays_on old arrays now h.stays stays;
@@ -151,7 +154,8 @@ module _ (p : Problem) (setting : Pairs) (i : ℕ) where
   pub below_fails : (f : CertFault) → IsBelowDivisor p i → (f ≡ Memory) ⊎ IsUnformedAt p setting [] i f → (f ≡ Memory) ⊎ (forming_at p setting [] (IsBelowDivisor p) i).fails f
   below_fails f b why = elim why [ inl e ↦ inl e | inr u ↦ inr (b, u) ]
 
-  pub below_checked : {T : Type 0} (r : Result T CertFault) (now : List (Option Array)) → AreKeptValues p setting [] now → OnOk r (IsSome (array_at now i)) → IfErr r (λ f. (f ≡ Memory) ⊎ IsUnformedAt p setting [] i f) →
-      IsBelowDivisor p i → Checked (forming_at p setting [] (IsBelowDivisor p) i) r
+  pub below_checked : {T : Type 0} (r : Result T CertFault) (now : List (Option Array)) → AreKeptValues p setting [] now → OnOk r (IsSome (array_at now i))
+      → IfErr r (λ f. (f ≡ Memory) ⊎ IsUnformedAt p setting [] i f)
+      → IsBelowDivisor p i → Checked (forming_at p setting [] (IsBelowDivisor p) i) r
   below_checked (Ok x) now h kept fault b = below_passes now h (λ d. kept)
   below_checked (Err f) now h kept fault b = below_fails f b fault

@@ -63,8 +63,9 @@ module _ (p : Problem) (setting point : Pairs) where
     closed = λ i a s h. absurd (not_both (array_at arrays i) (none i) s);
   }
 
-  pub values_more : (arrays : List (Option Array)) (i : ℕ) (v : Array) → i < length p.tree → AreKeptValues p setting point arrays → array_at arrays i ≡ None → All (λ a. IsSome (array_at arrays a)) (args_at p.tree i) →
-      IsValueOf p.tree setting point i v → AreKeptValues p setting point (set arrays i (Some v))
+  pub values_more : (arrays : List (Option Array)) (i : ℕ) (v : Array) → i < length p.tree → AreKeptValues p setting point arrays → array_at arrays i ≡ None
+      → All (λ a. IsSome (array_at arrays a)) (args_at p.tree i)
+      → IsValueOf p.tree setting point i v → AreKeptValues p setting point (set arrays i (Some v))
   values_more arrays i v lt h free args is =
       let within : i < length arrays = omega (arith, lt, h.sized) in
       record {
@@ -112,8 +113,9 @@ module _ (p : Problem) (setting point : Pairs) where
     ])
 
     -- the first that isn't formed
-    pub first_unformed : (n : ℕ) (arrays : List (Option Array)) (f : CertFault) → AreKeptSoFar marks old n arrays → n < length p.tree → IsMarked marks n → (f ≡ Memory) ⊎ IsUnformedAt p setting point n f →
-        (f ≡ Memory) ⊎ (forming_where p setting point (IsMarked marks)).fails f
+    pub first_unformed : (n : ℕ) (arrays : List (Option Array)) (f : CertFault) → AreKeptSoFar marks old n arrays → n < length p.tree → IsMarked marks n
+        → (f ≡ Memory) ⊎ IsUnformedAt p setting point n f
+        → (f ≡ Memory) ⊎ (forming_where p setting point (IsMarked marks)).fails f
     first_unformed n arrays f h lt m why = elim why [
       | inl e ↦ inl e
       | inr u ↦ inr (record { position = n; there = lt; before = λ k b q. kept_formed arrays h.values k (h.some k b q); here = (m, u) })
@@ -123,7 +125,8 @@ module _ (p : Problem) (setting point : Pairs) where
     all_formed n arrays h below k lt m = kept_formed arrays h.values k (h.some k (below k m) m)
 
     -- ---- of the nodes of which Q holds, where those that aren't marked are kept
-    module _ (Q : ℕ → Type 0) (h : AreKeptValues p setting point old) (sound : (i : ℕ) → IsMarked marks i → Q i) (known : (i : ℕ) → i < length p.tree → Q i → IsMarked marks i ⊎ IsSome (array_at old i)) where
+    module _ (Q : ℕ → Type 0) (h : AreKeptValues p setting point old) (sound : (i : ℕ) → IsMarked marks i → Q i)
+        (known : (i : ℕ) → i < length p.tree → Q i → IsMarked marks i ⊎ IsSome (array_at old i)) where
       known_formed : (i : ℕ) → i < length p.tree → ((forming_at p setting point (IsMarked marks)) i).passes → Q i → IsFormedAt p setting point i
       known_formed i lt formed q = elim (known i lt q) [ inl m ↦ formed m | inr s ↦ kept_formed old h i s ]
 

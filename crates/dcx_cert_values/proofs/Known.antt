@@ -1,9 +1,9 @@
 -- Each variable and parameter of a problem is among its names, and has an array where setting and point give one.
-use Rattle.std.proofs.Common.{◌≡◌, ℕ, true, List, Option, Some, None, option_map, slice_get, refl, sym, ap, ◌∙◌, subst}
+use Rattle.std.proofs.Common.{◌≡◌, ℕ, true, List, Option, Some, None, option_map, slice_get, refl, sym, ap, ◌∙◌}
 use Rattle.std.proofs.Props.{props}
-use Rattle.std.specs.List.{All, list_any}
+use Rattle.std.specs.List.{list_any}
 use mathlib.Core.Logic.{∥∥₁_map, ∥∥₁_elim}
-use Rattle.std.proofs.lemmas.Option.{none-some, same_Some, slice_get-map, slice_get_within, get_or_from_slice_get}
+use Rattle.std.proofs.lemmas.Option.{none-some, same_Some, slice_get-map}
 use Rattle.dcx_shape.specs.declared.shape.Sides.{Sides}
 use Rattle.dcx_shape.specs.Shape.{sides_of}
 use Rattle.dcx_atom.specs.declared.array.Array.{Array}
@@ -22,6 +22,7 @@ use Rattle.dcx_tree.specs.Meaning.{names_in}
 use Rattle.dcx_tree.specs.Values.{IsNamed, AreNamed}
 use Rattle.dcx_tree.proofs.Sublists.{contains_at, any_at, at_any}
 use Rattle.dcx_cert_values.specs.Forming.{GivesParameters, GivesVariables}
+use Rattle.dcx_math.proofs.Lists.{holds_at}
 
 -- ---- names
 -- a name that stands somewhere is found
@@ -32,7 +33,7 @@ found names name d at =
     (k, there ∙ ap Some (same_name-true x name same))
 
 -- there is one array, or none, under a name
-one_array : {D : Type 0} (given : Pairs) (name : List ℕ) (sides : Sides) (o : Option Array) → array_of given name ≡ o → ∥ D ∥₁ → (D → HasArray given name sides) → HasArray given name sides
+pub one_array : {D : Type 0} (given : Pairs) (name : List ℕ) (sides : Sides) (o : Option Array) → array_of given name ≡ o → ∥ D ∥₁ → (D → HasArray given name sides) → HasArray given name sides
 one_array given name sides None e d f = absurd (∥∥₁_elim d (hlevel props) (λ x. none-some (f x).array (sym e ∙ (f x).there)))
 one_array given name sides (Some a) e d f = record {
   array = a;
@@ -40,17 +41,15 @@ one_array given name sides (Some a) e d f = record {
   shape = ∥∥₁_elim d (hlevel props) (λ x. ap (λ (b : Array). sides_of b.shape) (same_Some a (f x).array (sym e ∙ (f x).there)) ∙ (f x).shape);
 }
 
--- what holds of all holds of the one at a place
-pub holds_at : {X : Type 0} (P : X → Type 0) (xs : List X) (k : ℕ) (x : X) → All P xs → slice_get xs k ≡ Some x → P x
-holds_at P xs k x h at = subst P (get_or_from_slice_get xs k x x at) (h k x (slice_get_within xs k x at))
-
 module _ (p : Problem) where
   -- ---- of a call that is listed
   named_call : (call : Call) → ∥ IsListed p.variables p.parameters call ∥₁ → IsNamed (names_in p) call
   named_call (calls.Variable v) l =
-      found (names_in p).variables v.name l (λ x. let (k, at) = contains_at p.variables v x in (k, slice_get-map (λ (w : Variable). w.name) p.variables k ∙ ap (option_map (λ (w : Variable). w.name)) at))
+      found (names_in p).variables v.name l (λ x. let (k, at) = contains_at p.variables v x in
+      (k, slice_get-map (λ (w : Variable). w.name) p.variables k ∙ ap (option_map (λ (w : Variable). w.name)) at))
   named_call (calls.Parameter q) l =
-      found (names_in p).parameters q.name l (λ x. let (k, at) = contains_at p.parameters q x in (k, slice_get-map (λ (w : Parameter). w.name) p.parameters k ∙ ap (option_map (λ (w : Parameter). w.name)) at))
+      found (names_in p).parameters q.name l (λ x. let (k, at) = contains_at p.parameters q x in
+      (k, slice_get-map (λ (w : Parameter). w.name) p.parameters k ∙ ap (option_map (λ (w : Parameter). w.name)) at))
   named_call (calls.Constant x) l = tt
   named_call (calls.Atom m) l = tt
   named_call (calls.Linear m) l = tt

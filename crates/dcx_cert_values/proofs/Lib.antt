@@ -1,4 +1,4 @@
--- The lemmas.
+-- The lemmas on values that are formed once and kept, and on divisors that are tested.
 pub mod Known
 pub mod Settling
 pub mod Keeping

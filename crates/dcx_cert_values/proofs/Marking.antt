@@ -1,5 +1,6 @@
 -- Marks for the nodes whose values are to be formed, and that nothing which is reached is left out.
-use Rattle.std.proofs.Common.{◌≡◌, ◌↔◌, ◌⊎◌, inl, inr, ℕ, zero, suc, ◌+◌, ◌<◌, ◌≤◌, Bool, true, false, List, [], ◌∷◌, ◌++◌, length, get_or, take, All, Option, Some, None, IsSome, refl, sym, subst, ◌∙◌, arith}
+use Rattle.std.proofs.Common.{◌≡◌, ◌↔◌, ◌⊎◌, inl, inr, ℕ, zero, suc, ◌+◌, ◌<◌, ◌≤◌, Bool, true, false, List, [], ◌∷◌, ◌++◌}
+use Rattle.std.proofs.Common.{length, get_or, take, All, Option, Some, None, IsSome, refl, sym, subst, ◌∙◌, arith}
 use Rattle.std.proofs.Math.ListN.{set}
 use Rattle.std.proofs.lemmas.Bool.{cases_eq}
 use Rattle.std.proofs.lemmas.List.{take_more, length-set}
@@ -118,8 +119,9 @@ module _ (nodes : List Node) (are : AreNodes shape_of nodes) (arrays : List (Opt
   }
 
   -- the arguments of a node with a mark
-  pub down_more : (n at low next : ℕ) (marks now : List Bool) → at ≡ n + 1 → at ≤ end → IsMarked marks n → IsMarkedDown nodes arrays old end at marks low → AreMarkedOf arrays (args_at nodes n) marks now →
-      ((j : ℕ) → IsMarked now j → next ≤ j) → IsMarkedDown nodes arrays old end n now next
+  pub down_more : (n at low next : ℕ) (marks now : List Bool) → at ≡ n + 1 → at ≤ end → IsMarked marks n → IsMarkedDown nodes arrays old end at marks low
+      → AreMarkedOf arrays (args_at nodes n) marks now
+      → ((j : ℕ) → IsMarked now j → next ≤ j) → IsMarkedDown nodes arrays old end n now next
   down_more n at low next marks now e most m d more lowest = record {
     starts = λ j k. (more j).1 (inl (d.starts j k));
     sound = λ j k. elim ((more j).0 k) [
@@ -153,7 +155,8 @@ module _ (nodes : List Node) (are : AreNodes shape_of nodes) (arrays : List (Opt
   }
 
 -- ---- nothing is left out
-module _ (nodes : List Node) (arrays : List (Option Array)) (marks : List Bool) (closed : AreClosed nodes arrays marks) (kept : (i a : ℕ) → IsSome (array_at arrays i) → has (args_at nodes i) a ≡ true → IsSome (array_at arrays a)) where
+module _ (nodes : List Node) (arrays : List (Option Array)) (marks : List Bool) (closed : AreClosed nodes arrays marks)
+    (kept : (i a : ℕ) → IsSome (array_at arrays i) → has (args_at nodes i) a ≡ true → IsSome (array_at arrays a)) where
   along : (path : List ℕ) (i j : ℕ) → Leads nodes i path j → IsMarked marks i ⊎ IsSome (array_at arrays i) → IsMarked marks j ⊎ IsSome (array_at arrays j)
   along [] i j e h = subst (λ z. IsMarked marks z ⊎ IsSome (array_at arrays z)) e h
   along (a ∷ path) i j l h = along path a j l.1 (elim h [ inl m ↦ closed i a m l.0 | inr s ↦ inr (kept i a s l.0) ])
@@ -187,7 +190,8 @@ pub record IsMarkedSoFar (arrays : List (Option Array)) (ids : List NodeId) (old
   pub marked : AreMarkedOf arrays (take k (positions ids)) old now
   pub lowest : (j : ℕ) → IsMarked now j → low ≤ j
 
-module _ (arrays : List (Option Array)) (ids : List NodeId) (old now : List Bool) (k : ℕ) (low : ℕ) (lt : k < length ids) (room : All (λ a. a < length old) (positions ids)) (h : IsMarkedSoFar arrays ids old k now low) where
+module _ (arrays : List (Option Array)) (ids : List NodeId) (old now : List Bool) (k : ℕ) (low : ℕ) (lt : k < length ids) (room : All (λ a. a < length old) (positions ids))
+    (h : IsMarkedSoFar arrays ids old k now low) where
   abbrev node : ℕ
   node = (get_or ids k (record { 0 = 0 })).0
 
@@ -201,7 +205,8 @@ module _ (arrays : List (Option Array)) (ids : List NodeId) (old now : List Bool
   unkept_step free next b c = record {
     count = length-set now node true ∙ h.count;
     marked = subst (λ a. AreMarkedOf arrays (take (k + 1) (positions ids)) old (set now a true)) (position_at ids k)
-        (unkept_more arrays (positions ids) old now k there h.marked (subst (λ a. a < length now) (sym (position_at ids k)) in_room) (subst (λ a. array_at arrays a ≡ None) (sym (position_at ids k)) free));
+        (unkept_more arrays (positions ids) old now k there h.marked (subst (λ a. a < length now) (sym (position_at ids k)) in_room)
+        (subst (λ a. array_at arrays a ≡ None) (sym (position_at ids k)) free));
     lowest = lowest_more now node low next in_room h.lowest b c;
   }
 

@@ -62,7 +62,8 @@ nonzero_settled i numbers j = record { apart = λ f h u. h u.0; one = λ f g u v
 
 dividing_settled : (p : Problem) (setting : Pairs) (i : ℕ) (o : Option ℕ) → IsSettled (dividing_if p setting i o)
 dividing_settled p setting i None = settled_together.none
-dividing_settled p setting i (Some d) = many (entries_of (sides_at p.tree i)) (nonzero i (source_value p.tree (names_in p) setting [] d)) (nonzero_settled i (source_value p.tree (names_in p) setting [] d))
+dividing_settled p setting i (Some d) =
+    many (entries_of (sides_at p.tree i)) (nonzero i (source_value p.tree (names_in p) setting [] d)) (nonzero_settled i (source_value p.tree (names_in p) setting [] d))
 
 step_settled : (p : Problem) (setting : Pairs) (i : ℕ) → IsSettled (divisor_step p setting i)
 step_settled p setting i =

@@ -68,14 +68,6 @@ forming_where p setting point Q = each_below (length p.tree) (forming_at p setti
 abbrev pub forming : Problem → (setting point : Pairs) → List ℕ → Check
 forming p setting point roots = forming_where p setting point (IsReached p.tree roots)
 
--- each node that these roots reach is formed
-abbrev pub AreFormedBelow : Problem → (setting point : Pairs) → List ℕ → Type 0
-AreFormedBelow p setting point roots = (forming p setting point roots).passes
-
--- the fault tells the first node that these roots reach and that isn't formed
-abbrev pub IsFirstUnformed : Problem → (setting point : Pairs) → List ℕ → CertFault → Type 0
-IsFirstUnformed p setting point roots f = (forming p setting point roots).fails f
-
 -- node i reaches no variable
 abbrev pub IsFixedNode : Problem → ℕ → Type 0
 IsFixedNode p i = is_fixed (convex_problem p).nodes i ≡ true

@@ -1,4 +1,4 @@
--- The main statements, as the clauses of the laws say them.
+-- The laws of forming: its checks tell one thing each, and divisors that pass theirs aren't 0.
 use Rattle.std.specs.Prelude.{ℕ, List}
 use Rattle.dcx_point.specs.Pairs.{Pairs}
 use Rattle.dcx_tree.specs.declared.problem.Problem.{Problem}

@@ -1,4 +1,4 @@
--- The lemmas.
+-- The lemmas by which a pivot in linked cells is the pivot of the tableau that they show.
 pub mod Counts
 pub mod RowReads
 pub mod Signs
@@ -9,7 +9,7 @@ pub mod Formed
 pub mod Columns
 pub mod Pivoted
 pub mod Turned
-pub mod Rewritten
+pub mod Listings
 pub mod Lines
 pub mod Agreements
 pub mod NarrowRows

@@ -1,7 +1,6 @@
 -- The entries that a row gets in a pivot: u times the row less v times the row of the pivot.
 use Rattle.std.specs.Prelude.{◌≡◌, ℕ, ◌<◌, List, get_or, ℤ, pos, ◌-ℤ◌, ◌*ℤ◌, ◌⊎◌}
 use Rattle.dcx_links.specs.declared.walk.Entry.{Entry}
-use Rattle.dcx_links.specs.Matrix.{listed}
 use Rattle.dcx_tab.specs.Rows.{Row, entry}
 use Rattle.dcx_tab.specs.Pivot.{turned, cleared, IsFormed, IsFormedAt}
 
@@ -21,13 +20,9 @@ column_at es k = (get_or es k (record { at = 0; value = pos 0 })).at
 abbrev pub value_at : List Entry → ℕ → ℤ
 value_at es k = (get_or es k (record { at = 0; value = pos 0 })).value
 
--- the numbers of the first entries
-abbrev pub values : List Entry → ℕ → List ℤ
-values es count = listed count (λ k. value_at es k)
-
--- the first entries are those of the new row in its first n columns: where there is none, both rows have 0
-pub record AreMixed (u : ℤ) (row : Row) (v : ℤ) (pivot : Row) (n : ℕ) (es : List Entry) (count : ℕ) : Type 0 where
+-- the first entries are the numbers of the row in its first n columns: where there is none, the row has 0
+pub record AreListed (row : Row) (n : ℕ) (es : List Entry) (count : ℕ) : Type 0 where
   pub within : (k : ℕ) → k < count → column_at es k < n
   pub rising : (j k : ℕ) → j < k → k < count → column_at es j < column_at es k
-  pub value : (k : ℕ) → k < count → value_at es k ≡ mixed_at u row v pivot (column_at es k)
-  pub zeros : (j : ℕ) → j < n → ((k : ℕ) × (k < count) × (column_at es k ≡ j)) ⊎ ((entry row j ≡ pos 0) × (entry pivot j ≡ pos 0))
+  pub value : (k : ℕ) → k < count → value_at es k ≡ entry row (column_at es k)
+  pub zeros : (j : ℕ) → j < n → ((k : ℕ) × (k < count) × (column_at es k ≡ j)) ⊎ (entry row j ≡ pos 0)

@@ -132,7 +132,7 @@ impl Tableau for Chained {
             return Err(at);
         }
         let are_narrow = clear_rows(&mut self.links, row, column, &mut self.entries);
-        turn_row(&mut self.links, row, column, &mut self.entries);
+        turn_row(&mut self.links, row, column);
         self.basis[row as usize] = column;
         self.narrow &= are_narrow;
         Ok(())

@@ -3,31 +3,33 @@ ghost use Rattle.std.specs.Prelude.{◌≡◌, ◌≢◌, ◌⊎◌, ℕ, ◌<�
 ghost use Rattle.dcx_tab.specs.Rows.{entry, AllSmall};
 ghost use Rattle.dcx_tab.specs.Pivot.{turned, eliminated, IsRowFormed};
 ghost use Rattle.dcx_links.specs.Matrix.{row_of};
-ghost use Rattle.dcx_chained.specs.NewRow.{Clears};
+ghost use Rattle.dcx_chained.specs.NewRow.{AreListed, Clears};
 ghost use Rattle.dcx_chained.specs.Narrow.{IsNarrow};
 
 use crate::factors::factors_of;
-use crate::mix::{divisor_of, mix, put_row};
-use crate::narrow::are_quotients_narrow;
+use crate::mix::{list_row, mix_row};
+use crate::narrow::is_row_narrow;
+use crate::reduce::reduce_row;
 use dcx_links::{Entry, Links};
 use dcx_tab::Factors;
 
-/// Clears row `i` at the column of a pivot at row `r`, by these factors. Answers whether it is narrow now.
+/// Clears row `i` at the column of a pivot at row `r`, whose numbers are listed, by these factors. Answers whether it is narrow now.
 fn clear_row(
     links: &mut Links,
     i: u32,
     r: u32,
     column: u32,
     factors: Factors,
-    entries: &mut [Entry],
+    entries: &[Entry],
+    count: usize,
 ) -> bool
     requires row { i < links.old.height }
-    requires pivot_row { r < links.old.height }
-    requires column { column < links.old.width }
     requires some { entry (row_of links.old r) column ≢ pos 0 }
     requires met { entry (row_of links.old i) column ≢ pos 0 }
     requires factors { Clears column (row_of links.old r) (row_of links.old i) factors.row factors.by }
-    requires room { links.old.width ≤ length entries.old }
+    requires factor { factors.row ≢ pos 0 }
+    requires count { count ≤ length entries.now }
+    requires listed { AreListed (row_of links.old r) links.old.width entries.now count }
     requires formed { IsRowFormed column (turned column (row_of links.old r)) (row_of links.old i) }
     ensures row { row_of links.new i ≡ eliminated column (turned column (row_of links.old r)) (row_of links.old i) }
     ensures narrow { result ≡ true → IsNarrow (row_of links.new i) }
@@ -35,10 +37,9 @@ fn clear_row(
     ensures height { links.new.height ≡ links.old.height }
     ensures width { links.new.width ≡ links.old.width }
 {
-    let count = mix(links, i, r, factors, entries);
-    let divisor = divisor_of(entries, count);
-    put_row(links, i, entries, count, divisor);
-    are_quotients_narrow(entries, count, divisor)
+    mix_row(links, i, r, factors, entries, count);
+    reduce_row(links, i);
+    is_row_narrow(links, i)
 }
 
 /// The first number of a column in a row other than row `r`.
@@ -74,28 +75,27 @@ pub(crate) fn clear_rows(links: &mut Links, r: u32, column: u32, entries: &mut [
     ensures width { links.new.width ≡ links.old.width }
 {
     let pivot = links.get(r, column);
+    let count = list_row(links, r, entries);
     let mut are_narrow = true;
     'rows: while let Some(met) = other_row(links, r, column) {
         let factors = factors_of(pivot, met.value);
-        let is_narrow = clear_row(links, met.at, r, column, factors, entries);
+        let is_narrow = clear_row(links, met.at, r, column, factors, entries, count);
         are_narrow &= is_narrow;
     }
     are_narrow
 }
 
 /// Negates row `r` where its number in a column is negative.
-pub(crate) fn turn_row(links: &mut Links, r: u32, column: u32, entries: &mut [Entry])
+pub(crate) fn turn_row(links: &mut Links, r: u32, column: u32)
     requires row { r < links.old.height }
     requires column { column < links.old.width }
     requires small { AllSmall (row_of links.old r) }
-    requires room { links.old.width ≤ length entries.old }
     ensures row { row_of links.new r ≡ turned column (row_of links.old r) }
     ensures same { (k : ℕ) → k ≢ r → row_of links.new k ≡ row_of links.old k }
     ensures height { links.new.height ≡ links.old.height }
     ensures width { links.new.width ≡ links.old.width }
 {
     if links.get(r, column) < 0 {
-        let count = mix(links, r, r, Factors { row: -1, by: 0 }, entries);
-        put_row(links, r, entries, count, 1);
+        links.multiply(r, -1);
     }
 }

@@ -4,10 +4,13 @@
 //! Its contract is that of the trait, as the contract of `Dense` is: both show the same table, and refuse the same pivots.
 //!
 //! A pivot at row r and column c walks c's chain and, row by row, tests every number that it would form: the row's chain and
-//! that of r are passed together, once. Only then it writes. While all numbers have at most 62 bits no such number is too great, and none is tested. The rows that c's chain leads to are cleared in rising order, each
-//! from the same walk, whose new entries are put into one list of entries that is as long as a row and is made once. A number
-//! that stays other than 0 is changed in its cell. A cell comes or goes only in a column where r has a number, and its place in
-//! that column is looked for from the cell where the row before it was written, so a pivot passes each such column once.
+//! that of r are passed together, once. Only then it writes. While all numbers have at most 62 bits no such number is too great,
+//! and none is tested.
+//!
+//! The numbers of r are listed once, and the rows that c's chain leads to are cleared in rising order, each in its cells: it is
+//! multiplied where its factor isn't 1, a multiple of each listed number is taken from it, and it is divided by its common
+//! divisor, which is looked for until it is 1. A cell comes or goes only in a column where r has a number, and its place there is
+//! looked for from the cell that the row before it has, so a pivot passes each such column once.
 #![tactic(auto)]
 
 mod build;
@@ -17,6 +20,7 @@ mod factors;
 pub mod laws;
 mod mix;
 mod narrow;
+mod reduce;
 mod wide;
 mod words;
 

@@ -37,7 +37,7 @@ pub(crate) fn shared_divisor(a: u128, b: u128) -> u128
 }
 
 /// The quotient by a divisor, cut off towards 0.
-pub(crate) fn quotient_by(value: i128, divisor: i128) -> i128
+fn quotient_by(value: i128, divisor: i128) -> i128
     requires { pos 0 <ℤ divisor }
     ensures { result ≡ divided (unsigned_abs divisor) value }
 {
@@ -45,5 +45,17 @@ pub(crate) fn quotient_by(value: i128, divisor: i128) -> i128
         (value as i64 / divisor as i64) as i128
     } else {
         quotient(value, divisor)
+    }
+}
+
+/// The quotient by a divisor.
+pub(crate) fn divided_by(value: i128, divisor: i128) -> i128
+    requires { pos 0 <ℤ divisor }
+    ensures { result ≡ divided (unsigned_abs divisor) value }
+{
+    if divisor == 1 {
+        value
+    } else {
+        quotient_by(value, divisor)
     }
 }

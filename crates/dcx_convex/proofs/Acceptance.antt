@@ -25,7 +25,8 @@ turned : (t r z x y : ℚ) → t *ℚ x +ℚ r *ℚ y ≤ℚ z → neg_ℚ z ≤
 turned t r z x y h = linear (t ∷ r ∷ z ∷ x ∷ y ∷ []) h (search reads depth 30 fits 4000) tt
 
 -- the minimized objective is below its chord
-objective_below : (sense : Sense) (g : Judgement) (t r z x y : ℚ) → IsTrue (may_be_objective sense g) → IsBeyondAs g z (t *ℚ x +ℚ r *ℚ y) → minimized sense z ≤ℚ t *ℚ minimized sense x +ℚ r *ℚ minimized sense y
+objective_below : (sense : Sense) (g : Judgement) (t r z x y : ℚ) → IsTrue (may_be_objective sense g) → IsBeyondAs g z (t *ℚ x +ℚ r *ℚ y)
+    → minimized sense z ≤ℚ t *ℚ minimized sense x +ℚ r *ℚ minimized sense y
 objective_below Minimize g t r z x y b h = h Convex b
 objective_below Maximize g t r z x y b h = turned t r z x y (h Concave b)
 
@@ -47,7 +48,8 @@ module _ (p : Problem) (law : AreLawful p.nodes) (s : Setting) (fit : Fits p.nod
       IsBentGap c.relation (IsInDomain p.nodes) (λ x. gap_at p s x c j)
   gap_bent c j = by c.relation
     where
-      by : (relation : Relation) → IsTrue (may_be_sides relation (judgement_at Plain p.nodes c.left) (judgement_at Plain p.nodes c.right)) → IsBentGap relation (IsInDomain p.nodes) (λ x. gap_at p s x c j)
+      by : (relation : Relation) → IsTrue (may_be_sides relation (judgement_at Plain p.nodes c.left) (judgement_at Plain p.nodes c.right))
+          → IsBentGap relation (IsInDomain p.nodes) (λ x. gap_at p s x c j)
       by AtMost b = λ t r x y ht hr one dx dy.
           let f = and_parts (judgement_at Plain p.nodes c.left).convex (judgement_at Plain p.nodes c.right).concave b in
           gap_below t r _ _ _ _ _ _ (between t r x y ht hr one dx dy c.left j Convex f.0) (between t r x y ht hr one dx dy c.right j Concave f.1)

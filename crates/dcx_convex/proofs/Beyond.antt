@@ -4,24 +4,17 @@ use Rattle.std.specs.Prelude.{◌⊎◌, ◌&&◌, ◌||◌}
 use Rattle.std.proofs.lemmas.Bool.{and_parts, or_cases}
 use Rattle.std.proofs.lemmas.List.Elements.{All-head, All-tail}
 use Rattle.dcx_math.specs.Rational.{ℚ}
-use Rattle.dcx_math.proofs.Orders.{≤ℚ_refl, ≤ℚ_trans, ≤ℚ_antisym}
+use Rattle.dcx_math.proofs.Orders.{≤ℚ_antisym}
 use Rattle.dcx_atom.specs.declared.flags.Trend.{Trend}
 use Rattle.dcx_atom.specs.declared.flags.Bend.{Bend}
 use Rattle.dcx_atom.specs.declared.flags.Bend.TheVariants.{Convex, Concave}
 use Rattle.dcx_atom.specs.Signs.{IsBeyond, Follows}
 use Rattle.dcx_convex.specs.Nodes.{Numbers, arguments}
 use Rattle.dcx_convex.specs.Rules.{Judgement, is_affine, is_bent, opposite, suits, all_suit}
-
-pub beyond_refl : (bend : Bend) (x : ℚ) → IsBeyond bend x x
-beyond_refl Convex x = ≤ℚ_refl x
-beyond_refl Concave x = ≤ℚ_refl x
+use Rattle.dcx_atom.specs.Farthest.{beyond_refl}
 
 pub beyond_same : (bend : Bend) {x y : ℚ} → x ≡ y → IsBeyond bend x y
 beyond_same bend {x} {y} e = subst (λ u. IsBeyond bend x u) e (beyond_refl bend x)
-
-pub beyond_trans : (bend : Bend) (x y z : ℚ) → IsBeyond bend x y → IsBeyond bend y z → IsBeyond bend x z
-beyond_trans Convex x y z h k = ≤ℚ_trans h k
-beyond_trans Concave x y z h k = ≤ℚ_trans k h
 
 pub beyond_turned : (bend : Bend) (x y : ℚ) → IsBeyond (opposite bend) x y → IsBeyond bend y x
 beyond_turned Convex x y h = h
@@ -48,7 +41,8 @@ follows bend trend g x y t h = by (or_cases (is_affine g) ((is_bent bend g && tr
     by (inr k) = then (or_cases (is_bent bend g && trend.rising) (is_bent (opposite bend) g && trend.falling) k)
 
 -- and so do all arguments, where it is known of nodes that meet P
-pub args_follow : (bend : Bend) (trend : ℕ → Trend) (judged : ℕ → Judgement) (v w : ℕ → Numbers) (P : ℕ → Type 0) → ((i : ℕ) → P i → (j : ℕ) → IsBeyondAs (judged i) (v i j) (w i j)) → (args : List ℕ) → All P args →
+pub args_follow : (bend : Bend) (trend : ℕ → Trend) (judged : ℕ → Judgement) (v w : ℕ → Numbers) (P : ℕ → Type 0)
+    → ((i : ℕ) → P i → (j : ℕ) → IsBeyondAs (judged i) (v i j) (w i j)) → (args : List ℕ) → All P args →
     IsTrue (all_suit bend trend (map judged args)) → (k e : ℕ) → Follows bend (trend k) (arguments (map v args) k e) (arguments (map w args) k e)
 args_follow bend trend judged v w P h [] all t k e = inl refl
 args_follow bend trend judged v w P h (i ∷ args) all t zero e =

@@ -15,11 +15,13 @@ use Rattle.dcx_atom.specs.Arrays.{Entries}
 use Rattle.dcx_atom.specs.Signs.{HasSign, IsBeyond, Follows, combination}
 use Rattle.dcx_atom.proofs.RowSums.{zero_combination, nonnegative_combination, nonpositive_combination}
 use Rattle.dcx_convex.specs.Calls.{Kind, Nonlinear, Linear, Product, Quotient, Call, BendsBetween, IsLawful}
-use Rattle.dcx_convex.specs.Nodes.{Attribute, Free, Nonneg, Nonpos, Symmetric, Diag, Head, Variable, Parameter, Constant, Apply, Node, Numbers, Point, Setting, told, told_within, zeros, first_of, arguments, value_by, Keeps, VariableKeeps, ParameterKeeps, EachNode, IsInDomain, IsLawfulHead, AreLawful}
+use Rattle.dcx_convex.specs.Nodes.{Attribute, Free, Nonneg, Nonpos, Symmetric, Diag, Head, Variable, Parameter, Constant, Apply, Node, Numbers, Point, Setting, told}
+use Rattle.dcx_convex.specs.Nodes.{told_within, zeros, first_of, arguments, value_by, Keeps, VariableKeeps, ParameterKeeps, EachNode, IsInDomain, IsLawfulHead, AreLawful}
 use Rattle.dcx_convex.specs.Rules.{Rules, Plain, Judgement, is_constant, is_bent, same_bend, no_argument, argument, bends, all_suit, is_bent_by, judgement_by}
 use Rattle.dcx_convex.proofs.Arguments.{args_signed, fixed_args_same, fixed_argument_same}
 use Rattle.dcx_convex.proofs.Signs.{at_test, signed, fixed_same}
-use Rattle.dcx_convex.proofs.Beyond.{beyond_refl, beyond_same, beyond_trans, IsBeyondAs, args_follow}
+use Rattle.dcx_convex.proofs.Beyond.{beyond_same, IsBeyondAs, args_follow}
+use Rattle.dcx_atom.specs.Farthest.{beyond_refl, beyond_trans}
 
 -- a mixture of a number with itself
 pub same_mixed : (t r w : ℚ) → t +ℚ r ≡ whole (pos 1) → w ≡ t *ℚ w +ℚ r *ℚ w
@@ -55,7 +57,8 @@ same_bend_is Concave Convex t = absurd (false≢true t)
 same_bend_is Concave Concave t = refl
 
 -- a call bends between two arguments that agree at the constant ones
-bends_between : (kind : Kind) (bend : Bend) (args : List Judgement) (a b : Entries) → IsTrue (bends Plain kind bend args) → ((k : ℕ) → IsTrue (argument args k).fixed → a k ≡ b k) → BendsBetween kind bend a b
+pub bends_between : (kind : Kind) (bend : Bend) (args : List Judgement) (a b : Entries) → IsTrue (bends Plain kind bend args)
+    → ((k : ℕ) → IsTrue (argument args k).fixed → a k ≡ b k) → BendsBetween kind bend a b
 bends_between (Nonlinear own) bend args a b t h = same_bend_is own bend t
 bends_between Linear bend args a b t h = tt
 bends_between Product bend args a b t h = elim (or_cases (argument args 0).fixed (argument args 1).fixed t) [ inl k ↦ inl (h 0 k) | inr k ↦ inr (h 1 k) ]
@@ -104,7 +107,8 @@ module _ (t r : ℚ) (p : IsNonnegative t) (q : IsNonnegative r) (one : t +ℚ r
       let trend = c.trend signs in
       beyond_trans bend _ (c.value (combination t r u v) j) _
       (law.monotonicity bend signs a (combination t r u v) (bends_between c.kind bend (map judged args) a (combination t r u v) bent same) (args_signed judged vz h.signs args)
-      (λ k e. subst (λ w. Follows bend (trend k) (a k e) w) (arguments_mixed t r vx vy args k e) (args_follow bend trend judged vz (λ i j. t *ℚ vx i j +ℚ r *ℚ vy i j) (λ _. Unit {0}) (λ i _. h.beyond i) args (λ _ _ _. tt) suit k e)) j b)
+      (λ k e. subst (λ w. Follows bend (trend k) (a k e) w) (arguments_mixed t r vx vy args k e)
+      (args_follow bend trend judged vz (λ i j. t *ℚ vx i j +ℚ r *ℚ vy i j) (λ _. Unit {0}) (λ i _. h.beyond i) args (λ _ _ _. tt) suit k e)) j b)
       (law.curvature bend t r u v (bends_between c.kind bend (map judged args) u v bent (fixed_argument_same judged vx vy h.right args)) p q one j b)
 
   -- any node
@@ -117,8 +121,10 @@ module _ (t r : ℚ) (p : IsNonnegative t) (q : IsNonnegative r) (one : t +ℚ r
   head_between (Apply c) args law s x y judged vz vx vy h bend b =
       by (or_cases (list_all (is_constant Plain) (map judged args)) (bends Plain c.kind bend (map judged args) && all_suit bend (c.trend (map (λ g. g.sign) (map judged args))) (map judged args)) b)
     where
-      by : IsTrue (list_all (is_constant Plain) (map judged args)) ⊎ IsTrue (bends Plain c.kind bend (map judged args) && all_suit bend (c.trend (map (λ g. g.sign) (map judged args))) (map judged args)) →
-          (j : ℕ) → IsBeyond bend (first_of c.size (c.value (arguments (map vz args))) j) (t *ℚ first_of c.size (c.value (arguments (map vx args))) j +ℚ r *ℚ first_of c.size (c.value (arguments (map vy args))) j)
+      by : IsTrue (list_all (is_constant Plain) (map judged args))
+          ⊎ IsTrue (bends Plain c.kind bend (map judged args) && all_suit bend (c.trend (map (λ g. g.sign) (map judged args))) (map judged args)) →
+          (j : ℕ) → IsBeyond bend (first_of c.size (c.value (arguments (map vz args))) j) (t *ℚ first_of c.size (c.value (arguments (map vx args))) j +ℚ r
+          *ℚ first_of c.size (c.value (arguments (map vy args))) j)
       by (inl k) = λ j. beyond_same bend
           (ap (λ l. first_of c.size (c.value (arguments l)) j) (fixed_args_same judged vz vx h.left args k) ∙ same_mixed t r _ one
           ∙ ap (λ l. t *ℚ first_of c.size (c.value (arguments (map vx args))) j +ℚ r *ℚ first_of c.size (c.value (arguments l)) j) (fixed_args_same judged vx vy h.right args k))
@@ -140,7 +146,8 @@ module _ (t r : ℚ) (p : IsNonnegative t) (q : IsNonnegative r) (one : t +ℚ r
     })
       where
         by : (o : Option Node) → slice_get nodes i ≡ o →
-            AreBetween t r (told_within no_argument (judgement_by Plain) nodes n) (told_within zeros (value_by s (combination t r x y)) nodes n) (told_within zeros (value_by s x) nodes n) (told_within zeros (value_by s y) nodes n) →
+            AreBetween t r (told_within no_argument (judgement_by Plain) nodes n) (told_within zeros (value_by s (combination t r x y)) nodes n)
+            (told_within zeros (value_by s x) nodes n) (told_within zeros (value_by s y) nodes n) →
             IsBeyondAs (told no_argument (judgement_by Plain) (told_within no_argument (judgement_by Plain) nodes n) o)
             (told zeros (value_by s (combination t r x y)) (told_within zeros (value_by s (combination t r x y)) nodes n) o j)
             (t *ℚ told zeros (value_by s x) (told_within zeros (value_by s x) nodes n) o j +ℚ r *ℚ told zeros (value_by s y) (told_within zeros (value_by s y) nodes n) o j)

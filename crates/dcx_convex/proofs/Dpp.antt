@@ -8,7 +8,8 @@ use Rattle.dcx_atom.specs.declared.flags.Bend.{Bend}
 use Rattle.dcx_atom.specs.declared.flags.Bend.TheVariants.{Convex, Concave}
 use Rattle.dcx_convex.specs.Calls.{Kind, Nonlinear, Linear, Product, Quotient, Call}
 use Rattle.dcx_convex.specs.Nodes.{Head, Variable, Parameter, Constant, Apply, Node, told, told_within}
-use Rattle.dcx_convex.specs.Rules.{Plain, Parametrized, Judgement, is_constant, is_affine, is_bent, opposite, no_argument, argument, scales, bends, suits, all_suit, is_bent_call, judgement_by, judgement_at}
+use Rattle.dcx_convex.specs.Rules.{Plain, Parametrized, Judgement, is_constant, is_affine, is_bent, opposite, no_argument}
+use Rattle.dcx_convex.specs.Rules.{argument, scales, bends, suits, all_suit, is_bent_call, judgement_by, judgement_at}
 use Rattle.dcx_convex.specs.Problems.{Sense, Minimize, Maximize, Relation, AtMost, Equal, Constraint, Problem, may_be_objective, may_be_sides, accepted_by, IsAccepted}
 
 -- the first judgement says no more than the second, and the same of signs and of what is reached
@@ -55,7 +56,8 @@ suited bend trend g h r t = by (or_cases (is_affine g) ((is_bent bend g && trend
 
     by : IsTrue (is_affine g) ⊎ IsTrue ((is_bent bend g && trend.rising) || (is_bent (opposite bend) g && trend.falling)) → IsTrue (suits bend trend h)
     by (inl k) = or_left (is_affine h) ((is_bent bend h && trend.rising) || (is_bent (opposite bend) h && trend.falling)) (affine g h r k)
-    by (inr k) = or_right (is_affine h) ((is_bent bend h && trend.rising) || (is_bent (opposite bend) h && trend.falling)) (then (or_cases (is_bent bend g && trend.rising) (is_bent (opposite bend) g && trend.falling) k))
+    by (inr k) = or_right (is_affine h) ((is_bent bend h && trend.rising) || (is_bent (opposite bend) h && trend.falling))
+        (then (or_cases (is_bent bend g && trend.rising) (is_bent (opposite bend) g && trend.falling) k))
 
 -- ---- arguments
 module _ (f g : ℕ → Judgement) (r : (i : ℕ) → Refines (f i) (g i)) where
@@ -105,7 +107,8 @@ module _ (f g : ℕ → Judgement) (r : (i : ℕ) → Refines (f i) (g i)) where
   bent_call : (c : Call) (bend : Bend) (args : List ℕ) → IsTrue (is_bent_call Parametrized c bend (map f args)) → IsTrue (is_bent_call Plain c bend (map g args))
   bent_call c bend args t =
       elim (or_cases (list_all (is_constant Parametrized) (map f args)) (bends Parametrized c.kind bend (map f args) && all_suit bend (c.trend (map (λ x. x.sign) (map f args))) (map f args)) t) [
-        | inl k ↦ or_left (list_all (is_constant Plain) (map g args)) (bends Plain c.kind bend (map g args) && all_suit bend (c.trend (map (λ x. x.sign) (map g args))) (map g args)) (all_constant args k)
+        | inl k ↦ or_left (list_all (is_constant Plain) (map g args))
+            (bends Plain c.kind bend (map g args) && all_suit bend (c.trend (map (λ x. x.sign) (map g args))) (map g args)) (all_constant args k)
         | inr k ↦
             let b = and_parts (bends Parametrized c.kind bend (map f args)) (all_suit bend (c.trend (map (λ x. x.sign) (map f args))) (map f args)) k in
             or_right (list_all (is_constant Plain) (map g args)) (bends Plain c.kind bend (map g args) && all_suit bend (c.trend (map (λ x. x.sign) (map g args))) (map g args))
@@ -131,7 +134,8 @@ refined nodes zero i = same no_argument
 refined nodes (suc n) i = by (slice_get nodes i) (refined nodes n)
   where
     by : (o : Option Node) → ((i : ℕ) → Refines (told_within no_argument (judgement_by Parametrized) nodes n i) (told_within no_argument (judgement_by Plain) nodes n i)) →
-        Refines (told no_argument (judgement_by Parametrized) (told_within no_argument (judgement_by Parametrized) nodes n) o) (told no_argument (judgement_by Plain) (told_within no_argument (judgement_by Plain) nodes n) o)
+        Refines (told no_argument (judgement_by Parametrized) (told_within no_argument (judgement_by Parametrized) nodes n) o)
+        (told no_argument (judgement_by Plain) (told_within no_argument (judgement_by Plain) nodes n) o)
     by None ih = same no_argument
     by (Some node) ih = head_refines (told_within no_argument (judgement_by Parametrized) nodes n) (told_within no_argument (judgement_by Plain) nodes n) ih node.head node.args
 

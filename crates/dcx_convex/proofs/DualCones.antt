@@ -91,4 +91,5 @@ dual Symmetric sides c shape h x k =
     (symmetric_zero (cols_of sides) (entry_at sides c) (entry_at sides x)
     (λ i j b d. h i j (record { row = subst (λ n. i < n) (sym shape) b; column = d })) (λ i j b d. k i j (record { row = subst (λ n. i < n) (sym shape) b; column = d })))
 dual Diag sides c shape h x k =
-    ≤ℚ-from_≡ (sym (by_entries sides c x ∙ all_zero (rows_of sides) (cols_of sides) (λ i j. entry_at sides c i j *ℚ entry_at sides x i j) (λ i j b d. diagonal_zero sides c x h k i j (record { row = b; column = d }))))
+    ≤ℚ-from_≡ (sym (by_entries sides c x ∙ all_zero (rows_of sides) (cols_of sides) (λ i j. entry_at sides c i j *ℚ entry_at sides x i j)
+    (λ i j b d. diagonal_zero sides c x h k i j (record { row = b; column = d }))))

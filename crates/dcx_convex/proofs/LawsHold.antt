@@ -1,9 +1,10 @@
--- The main statements hold.
+-- The main statements hold: on calls, nodes, signs, convexity, answers, reductions and certificates.
 use Rattle.std.proofs.Common.{[], ◌∷◌, ◌++◌}
 use Rattle.dcx_convex.specs.Nodes.{Setting, zeros, value_by, value_at}
 use Rattle.dcx_convex.specs.Rules.{no_argument, judgement_by, judgement_at}
 use Rattle.dcx_convex.specs.Problems.{Problem}
-use Rattle.dcx_convex.specs.Laws.{CallsAreLawful, NodesAreTold, SignsAreTrue, AcceptedIsConvex, AnswersAgree, DppIsAccepted, ConstantsAreFixed, ReachedAreBent, FormsAreBeyond, ReductionsMapBack, CertifiedIsAnswered, RenumberingChangesNothing, PushingChangesNothing, TestedAreInDualCone}
+use Rattle.dcx_convex.specs.Laws.{CallsAreLawful, NodesAreTold, SignsAreTrue, AcceptedIsConvex, AnswersAgree, DppIsAccepted, ConstantsAreFixed, ReachedAreBent}
+use Rattle.dcx_convex.specs.Laws.{FormsAreBeyond, ReductionsMapBack, CertifiedIsAnswered, RenumberingChangesNothing, PushingChangesNothing, TestedAreInDualCone}
 use Rattle.dcx_convex.specs.Examples.{Verdicts, LeastAbs}
 use Rattle.dcx_convex.proofs.Examples as examples
 use Rattle.dcx_convex.proofs.LeastAbs as abs

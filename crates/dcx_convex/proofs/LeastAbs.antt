@@ -6,7 +6,7 @@ use Rattle.std.proofs.lemmas.List.Elements.{All-nil, All-cons}
 use Rattle.dcx_math.specs.Rational.{ℚ, whole, ◌+ℚ◌, ◌-ℚ◌, ◌*ℚ◌, neg_ℚ, rat_abs, ◌≤ℚ◌}
 use Rattle.dcx_math.specs.Sums.{IsNonnegative}
 use Rattle.dcx_math.proofs.Ring.{ring, reads}
-use Rattle.dcx_math.proofs.Orders.{≤ℚ_refl, ≤ℚ_trans, ≤ℚ-from_≡, linear, neg_ℚ-≤ℚ}
+use Rattle.dcx_math.proofs.Orders.{≤ℚ_refl, ≤ℚ_trans, ≤ℚ-from_≡, linear, neg_ℚ-≤ℚ, -ℚ-nonpositive}
 use Rattle.dcx_math.proofs.Bounds.{rat_abs-≤ℚ, ≤ℚ-rat_abs, neg_ℚ-≤ℚ-rat_abs, rat_abs-nonnegative, rat_abs-convex}
 use Rattle.dcx_atom.specs.declared.flags.Sign.{Sign}
 use Rattle.dcx_atom.specs.declared.flags.Bend.{Bend}
@@ -21,7 +21,7 @@ use Rattle.dcx_convex.specs.Examples.{absolute, variable, call, least_abs, least
 use Rattle.dcx_convex.specs.Answers.{lagrangian_of}
 use Rattle.dcx_convex.specs.Certificates.{AreCollected, is_fixed, MayHandOn, given_at}
 use Rattle.dcx_convex.proofs.Signs.{at_test}
-use Rattle.dcx_convex.proofs.Beyond.{beyond_refl}
+use Rattle.dcx_atom.specs.Farthest.{beyond_refl}
 use Rattle.dcx_convex.proofs.Convexity.{same_bend_is}
 use Rattle.dcx_convex.proofs.MapBack.{optimal}
 
@@ -96,12 +96,10 @@ abbrev lift : Point → Unknowns
 lift y zero = y 0 0
 lift y (suc n) = rat_abs (y 0 0)
 
-below : (a b : ℚ) → a ≤ℚ b → a -ℚ b ≤ℚ whole (pos 0)
-below a b h = linear (a ∷ b ∷ []) h (search reads depth 30) tt
-
 lift_rows : (y : Point) → RowsHold least_abs_reduced (lift y)
-lift_rows y zero row e = subst (λ f. f (lift y) ≤ℚ whole (pos 0)) (same_Some (λ (u : Unknowns). u 0 -ℚ u 1) row e) (below (y 0 0) (rat_abs (y 0 0)) (≤ℚ-rat_abs (y 0 0)))
-lift_rows y (suc zero) row e = subst (λ f. f (lift y) ≤ℚ whole (pos 0)) (same_Some (λ (u : Unknowns). neg_ℚ (u 0) -ℚ u 1) row e) (below (neg_ℚ (y 0 0)) (rat_abs (y 0 0)) (neg_ℚ-≤ℚ-rat_abs (y 0 0)))
+lift_rows y zero row e = subst (λ f. f (lift y) ≤ℚ whole (pos 0)) (same_Some (λ (u : Unknowns). u 0 -ℚ u 1) row e) (-ℚ-nonpositive (y 0 0) (rat_abs (y 0 0)) (≤ℚ-rat_abs (y 0 0)))
+lift_rows y (suc zero) row e = subst (λ f. f (lift y) ≤ℚ whole (pos 0)) (same_Some (λ (u : Unknowns). neg_ℚ (u 0) -ℚ u 1) row e)
+    (-ℚ-nonpositive (neg_ℚ (y 0 0)) (rat_abs (y 0 0)) (neg_ℚ-≤ℚ-rat_abs (y 0 0)))
 lift_rows y (suc (suc k)) row e = absurd (none-some row e)
 
 lift_same : (s : Setting) (y : Point) (i : ℕ) → i < 2 → least_abs_reduced.forms (lift y) i ≡ value_at least_abs.nodes s y i
@@ -159,9 +157,11 @@ nothing x = ring (x ∷ []) (search reads depth 30) tt
 flat : (x t : ℚ) → whole (pos 0) ≤ℚ t → whole (pos 0) +ℚ (whole (pos 0) +ℚ whole (pos 0) *ℚ x) ≤ℚ whole (pos 0) +ℚ whole (pos 1) *ℚ t
 flat x t h = linear (x ∷ t ∷ []) h (search reads depth 30) tt
 
-handed : (s : Setting) (i : ℕ) (n : Node) → IsNode least_abs.nodes i n → IsFalse (is_fixed least_abs.nodes i) → MayHandOn least_abs.nodes (given_at least_abs.nodes s) n.head n.args (least_abs_coefficients i) (no_slopes i)
+handed : (s : Setting) (i : ℕ) (n : Node) → IsNode least_abs.nodes i n → IsFalse (is_fixed least_abs.nodes i)
+    → MayHandOn least_abs.nodes (given_at least_abs.nodes s) n.head n.args (least_abs_coefficients i) (no_slopes i)
 handed s i n e loose =
-    each (λ i n. MayHandOn least_abs.nodes (given_at least_abs.nodes s) n.head n.args (least_abs_coefficients i) (no_slopes i)) (λ x _. ≤ℚ-from_≡ (nothing (x 0))) (λ a _. flat (a 0 0) (rat_abs (a 0 0)) (rat_abs-nonnegative (a 0 0))) i n e
+    each (λ i n. MayHandOn least_abs.nodes (given_at least_abs.nodes s) n.head n.args (least_abs_coefficients i) (no_slopes i)) (λ x _. ≤ℚ-from_≡ (nothing (x 0)))
+    (λ a _. flat (a 0 0) (rat_abs (a 0 0)) (rat_abs-nonnegative (a 0 0))) i n e
 
 reaches : whole (pos 0) ≤ℚ (whole (pos 0) +ℚ whole (pos 0)) +ℚ whole (pos 0)
 reaches = ≤ℚ-from_≡ (ring [] (search reads depth 30) tt)

@@ -1,4 +1,4 @@
--- The lemmas by which the laws are proved.
+-- The lemmas by which accepted problems are convex, and answers of reduced programs are answers of them.
 pub mod Told
 pub mod Mapped
 pub mod Arguments

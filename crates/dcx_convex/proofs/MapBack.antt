@@ -11,7 +11,8 @@ use Rattle.dcx_math.proofs.Sums.{rat_sum_below-same}
 use Rattle.dcx_atom.specs.declared.flags.Bend.TheVariants.{Convex, Concave}
 use Rattle.dcx_convex.specs.Nodes.{Point, Setting, value_at, IsInDomain, Fits, AreLawful}
 use Rattle.dcx_convex.specs.Rules.{Rules, Judgement, is_affine, judgement_at}
-use Rattle.dcx_convex.specs.Problems.{Sense, Minimize, Maximize, Relation, AtMost, Equal, Constraint, Problem, may_be_objective, may_be_sides, accepted_by, minimized, objective_of, gap_of, objective_at, gap_at, Holds, IsFeasible}
+use Rattle.dcx_convex.specs.Problems.{Sense, Minimize, Maximize, Relation, AtMost, Equal, Constraint, Problem, may_be_objective}
+use Rattle.dcx_convex.specs.Problems.{may_be_sides, accepted_by, minimized, objective_of, gap_of, objective_at, gap_at, Holds, IsFeasible}
 use Rattle.dcx_convex.specs.Answers.{Multipliers, weighed, penalty_of, penalty, lagrangian, IsOptimal, IsInfeasible, IsUnbounded}
 use Rattle.dcx_convex.specs.Reductions.{IsWellFormed, Reduced, Unknowns, further, IsLifted, IsReduction, Solves, rows_weighed, IsRightOptimal, IsRightInfeasible, IsRightUnbounded}
 use Rattle.dcx_convex.proofs.Beyond.{IsBeyondAs, affine_same}
@@ -72,9 +73,11 @@ module _ (rules : Rules) (p : Problem) (law : AreLawful p.nodes) (formed : IsWel
           domain = dom;
           holds = λ k c e j b.
               one_holds c.relation (judgement_at rules p.nodes c.left) (judgement_at rules p.nodes c.right) (value_at p.nodes s (r.point u) c.left j) (value_at p.nodes s (r.point u) c.right j)
-              (r.forms u c.left j) (r.forms u c.right j) (all_at sides_taken p.constraints taken.1 k c e) ((beyond c.left (formed.sides k c e).0).beyond j) ((beyond c.right (formed.sides k c e).1).beyond j) (h.holds k c e j b);
+              (r.forms u c.left j) (r.forms u c.right j) (all_at sides_taken p.constraints taken.1 k c e) ((beyond c.left (formed.sides k c e).0).beyond j)
+              ((beyond c.right (formed.sides k c e).1).beyond j) (h.holds k c e j b);
         };
-        below = minimized_below p.sense (judgement_at rules p.nodes p.objective) (value_at p.nodes s (r.point u) p.objective 0) (r.forms u p.objective 0) taken.0 ((beyond p.objective formed.objective).beyond 0);
+        below = minimized_below p.sense (judgement_at rules p.nodes p.objective) (value_at p.nodes s (r.point u) p.objective 0) (r.forms u p.objective 0) taken.0
+            ((beyond p.objective formed.objective).beyond 0);
       }
 
   -- the penalty of the lifted point is that of the point

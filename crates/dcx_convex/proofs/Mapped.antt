@@ -1,17 +1,7 @@
 -- Lists of nodes that are made of other lists: of any items, and with a node added at the end.
-use Rattle.std.proofs.Common.{◌≡◌, ℕ, zero, suc, ◌<◌, List, [], ◌∷◌, ◌++◌, map, Some, slice_get, All, refl, sym, ap, ◌∙◌, subst}
-use Rattle.std.proofs.lemmas.Option.{none-some, same_Some}
+use Rattle.std.proofs.Common.{◌≡◌, ℕ, zero, suc, List, [], ◌∷◌, ◌++◌, map, Some, refl, sym, ap, ◌∙◌}
+use Rattle.std.proofs.lemmas.Option.{none-some}
 use Rattle.dcx_convex.specs.Nodes.{Node, IsNode, IsOrdered, AreRenumbered}
-
--- what holds of the node of each item holds of each node
-pub each_map : {X : Type 0} (f : X → Node) (P : ℕ → Node → Type 0) (items : List X) → ((i : ℕ) (x : X) → slice_get items i ≡ Some x → P i (f x)) → (i : ℕ) (n : Node) → IsNode (map f items) i n → P i n
-each_map f P [] h i n e = absurd (none-some n e)
-each_map f P (x ∷ items) h zero n e = subst (P 0) (same_Some (f x) n e) (h 0 x refl)
-each_map f P (x ∷ items) h (suc i) n e = each_map f (λ k. P (suc k)) items (λ k. h (suc k)) i n e
-
--- so nodes are ordered where the items are
-pub ordered_map : {X : Type 0} (f : X → Node) (items : List X) → ((i : ℕ) (x : X) → slice_get items i ≡ Some x → All (λ a. a < i) (f x).args) → IsOrdered (map f items)
-ordered_map f items h = each_map f (λ i n. All (λ a. a < i) n.args) items h
 
 -- ---- a node added at the end
 stays : (nodes : List Node) (n : Node) (i : ℕ) (m : Node) → IsNode nodes i m → IsNode (nodes ++ n ∷ []) i m

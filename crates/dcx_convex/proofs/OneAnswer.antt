@@ -23,7 +23,8 @@ pub weighed_nonpositive : (gap : Constraint → ℕ → ℚ) (constraints : List
 weighed_nonpositive gap [] m h k = ≤ℚ_refl _
 weighed_nonpositive gap (c ∷ constraints) m h k =
     +ℚ-nonpositive
-    (≤ℚ_trans (rat_sum_below-monotone c.size (λ j. m 0 j *ℚ gap c j) (λ _. whole (pos 0)) (λ j b. one_nonpositive c.relation (m 0 j) (gap c j) (h 0 c refl j b) (k 0 c refl j b))) (≤ℚ-from_≡ (rat_sum_below-zero c.size)))
+    (≤ℚ_trans (rat_sum_below-monotone c.size (λ j. m 0 j *ℚ gap c j) (λ _. whole (pos 0))
+    (λ j b. one_nonpositive c.relation (m 0 j) (gap c j) (h 0 c refl j b) (k 0 c refl j b))) (≤ℚ-from_≡ (rat_sum_below-zero c.size)))
     (weighed_nonpositive gap constraints (λ n. m (suc n)) (λ n. h (suc n)) (λ n. k (suc n)))
 
 -- a bound holds without a summand that is at most 0

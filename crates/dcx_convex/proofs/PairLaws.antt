@@ -18,8 +18,9 @@ use Rattle.dcx_convex.specs.Calls.{IsLawful}
 use Rattle.dcx_convex.specs.Pairs.{Pair, products_at, quotients_at, is_zero, paired_sign, trend_beside, product_trend, quotient_trend, product_call, quotient_call}
 use Rattle.dcx_convex.specs.Nodes.{Numbers}
 use Rattle.dcx_convex.proofs.Arguments.{zero_signed}
-use Rattle.dcx_convex.proofs.Beyond.{beyond_refl, beyond_same}
+use Rattle.dcx_convex.proofs.Beyond.{beyond_same}
 use Rattle.dcx_convex.proofs.Convexity.{same_mixed}
+use Rattle.dcx_atom.specs.Farthest.{beyond_refl}
 
 -- the sum of the products of the pairs
 abbrev paired : List Pair → Numbers → Numbers → ℚ

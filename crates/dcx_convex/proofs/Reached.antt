@@ -73,12 +73,15 @@ module _ (rules : Rules) (p : Problem) (ordered : IsOrdered p.nodes) (ok : IsTru
   sides_taken c = may_be_sides c.relation (judgement_at rules p.nodes c.left) (judgement_at rules p.nodes c.right)
 
   -- an argument of a call that is bent
-  argument_bent : (c : Call) (bend : Bend) (args : List ℕ) → IsTrue (is_bent_call rules c bend (map (judgement_at rules p.nodes) args)) → (k a : ℕ) → slice_get args k ≡ Some a → IsBent (judgement_at rules p.nodes a)
+  argument_bent : (c : Call) (bend : Bend) (args : List ℕ) → IsTrue (is_bent_call rules c bend (map (judgement_at rules p.nodes) args)) → (k a : ℕ) → slice_get args k ≡ Some a
+      → IsBent (judgement_at rules p.nodes a)
   argument_bent c bend args t k a e =
       let gs = map (judgement_at rules p.nodes) args in
       elim (or_cases (list_all (is_constant rules) gs) (bends rules c.kind bend gs && all_suit bend (c.trend (map (λ g. g.sign) gs)) gs) t) [
-        | inl b ↦ inl (constant_is_bent rules p.nodes a (all_at (is_constant rules) gs b k (judgement_at rules p.nodes a) (slice_get-map (judgement_at rules p.nodes) args k ∙ ap (option_map (judgement_at rules p.nodes)) e)))
-        | inr b ↦ item_suits bend (c.trend (map (λ g. g.sign) gs)) (judgement_at rules p.nodes) args (and_parts (bends rules c.kind bend gs) (all_suit bend (c.trend (map (λ g. g.sign) gs)) gs) b).1 k a e
+        | inl b ↦ inl (constant_is_bent rules p.nodes a (all_at (is_constant rules) gs b k (judgement_at rules p.nodes a)
+            (slice_get-map (judgement_at rules p.nodes) args k ∙ ap (option_map (judgement_at rules p.nodes)) e)))
+        | inr b ↦ item_suits bend (c.trend (map (λ g. g.sign) gs)) (judgement_at rules p.nodes) args
+            (and_parts (bends rules c.kind bend gs) (all_suit bend (c.trend (map (λ g. g.sign) gs)) gs) b).1 k a e
       ]
 
   objective_bent : (sense : Sense) (g : Judgement) → IsTrue (may_be_objective sense g) → IsBent g

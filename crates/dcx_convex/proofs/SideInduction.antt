@@ -8,14 +8,16 @@ use Rattle.dcx_math.specs.Rational.{whole}
 use Rattle.dcx_atom.specs.declared.flags.Bend.{Bend}
 use Rattle.dcx_atom.specs.Signs.{HasSign, IsBeyond}
 use Rattle.dcx_convex.specs.Calls.{Kind, Nonlinear, Linear, Product, Quotient, Call, BendsBetween, IsLawful}
-use Rattle.dcx_convex.specs.Nodes.{Head, Variable, Parameter, Constant, Apply, Node, Numbers, Point, Setting, IsOrdered, first_of, arguments, value_by, value_at, IsInDomain, Fits, IsLawfulHead, AreLawful}
+use Rattle.dcx_convex.specs.Nodes.{Head, Variable, Parameter, Constant, Apply, Node, Numbers, Point, Setting, IsOrdered}
+use Rattle.dcx_convex.specs.Nodes.{first_of, arguments, value_by, value_at, IsInDomain, Fits, IsLawfulHead, AreLawful}
 use Rattle.dcx_convex.specs.Rules.{Rules, Plain, Parametrized, Judgement, is_constant, is_affine, is_bent, argument, scales, bends, all_suit, is_bent_by, judgement_by, judgement_at}
 use Rattle.dcx_convex.specs.Reductions.{StandsFor, StandForNodes}
 use Rattle.dcx_convex.proofs.Told.{value_tells, judgement_tells}
 use Rattle.dcx_convex.proofs.Arguments.{args_signed, args_same, argument_same}
 use Rattle.dcx_convex.proofs.Signs.{at_test, value_signed}
-use Rattle.dcx_convex.proofs.Beyond.{beyond_refl, beyond_same, beyond_trans, IsBeyondAs, affine_same, args_follow}
+use Rattle.dcx_convex.proofs.Beyond.{beyond_same, IsBeyondAs, affine_same, args_follow}
 use Rattle.dcx_convex.proofs.Convexity.{same_bend_is, bent_is}
+use Rattle.dcx_atom.specs.Farthest.{beyond_refl, beyond_trans}
 
 -- ---- constant arguments
 -- a node is constant where all its arguments are
@@ -89,14 +91,16 @@ module _ (rules : Rules) (judged : ℕ → Judgement) (v f : ℕ → Numbers) (n
       constants Parametrized t = both_constant (map judged args) t
 
   head_beyond : (head : Head) → IsLawfulHead head (length args) → (s : Setting) (x : Point) → ((i j : ℕ) → HasSign (judged i).sign (v i j)) →
-      StandsFor rules s x head (map judged args) (map f args) (f n) → (bend : Bend) → IsTrue (is_bent_by rules bend head (map judged args)) → (j : ℕ) → IsBeyond bend (value_by s x head (map v args) j) (f n j)
+      StandsFor rules s x head (map judged args) (map f args) (f n) → (bend : Bend) → IsTrue (is_bent_by rules bend head (map judged args)) → (j : ℕ)
+      → IsBeyond bend (value_by s x head (map v args) j) (f n j)
   head_beyond (Variable d) law s x signs stands bend t j = beyond_same bend (ap (λ w. w j) (sym stands))
   head_beyond (Parameter d) law s x signs stands bend t j = beyond_same bend (ap (λ w. w j) (sym stands))
   head_beyond (Constant xs) law s x signs stands bend t j = beyond_same bend (ap (λ w. w j) (sym stands))
   head_beyond (Apply c) law s x signs stands bend t j =
       by (or_cases (list_all (is_constant rules) (map judged args)) (bends rules c.kind bend (map judged args) && all_suit bend (c.trend (map (λ g. g.sign) (map judged args))) (map judged args)) t)
     where
-      by : IsTrue (list_all (is_constant rules) (map judged args)) ⊎ IsTrue (bends rules c.kind bend (map judged args) && all_suit bend (c.trend (map (λ g. g.sign) (map judged args))) (map judged args)) →
+      by : IsTrue (list_all (is_constant rules) (map judged args))
+          ⊎ IsTrue (bends rules c.kind bend (map judged args) && all_suit bend (c.trend (map (λ g. g.sign) (map judged args))) (map judged args)) →
           IsBeyond bend (first_of c.size (c.value (arguments (map v args))) j) (f n j)
       by (inl k) = beyond_same bend (ap (λ w. w j) (sym (stands.same k ∙ ap (λ l. first_of c.size (c.value (arguments l))) (args_same judged f v (λ a. a < n) (is_constant rules) h.same args all k))))
       by (inr k) =

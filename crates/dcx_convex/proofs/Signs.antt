@@ -11,7 +11,8 @@ use Rattle.dcx_shape.specs.Sides.{entries_of}
 use Rattle.dcx_atom.specs.declared.flags.Sign.{Sign}
 use Rattle.dcx_atom.specs.Signs.{HasSign, unknown_sign}
 use Rattle.dcx_convex.proofs.Arguments.{zero_signed, unknown_signed, args_signed, count_of, fixed_args_same}
-use Rattle.dcx_convex.specs.Nodes.{Attribute, Free, Nonneg, Nonpos, Symmetric, Diag, Head, Variable, Parameter, Constant, Apply, Node, Numbers, Point, Setting, told, told_within, zeros, first_of, arguments, value_by, value_at, Keeps, VariableKeeps, ParameterKeeps, EachNode, IsInDomain, IsLawfulHead, AreLawful}
+use Rattle.dcx_convex.specs.Nodes.{Attribute, Free, Nonneg, Nonpos, Symmetric, Diag, Head, Variable, Parameter, Constant, Apply, Node, Numbers, Point, Setting, told, told_within}
+use Rattle.dcx_convex.specs.Nodes.{zeros, first_of, arguments, value_by, value_at, Keeps, VariableKeeps, ParameterKeeps, EachNode, IsInDomain, IsLawfulHead, AreLawful}
 use Rattle.dcx_convex.specs.Rules.{Rules, Judgement, attribute_sign, no_argument, judgement_by, judgement_at}
 
 -- ---- entries below a size, and 0 past it
@@ -80,7 +81,8 @@ pub fixed_same : (rules : Rules) (nodes : List Node) (s : Setting) (x y : Point)
 fixed_same rules nodes s x y zero i = λ t. refl
 fixed_same rules nodes s x y (suc n) i = by (slice_get nodes i) (fixed_same rules nodes s x y n)
   where
-    by : (o : Option Node) → ((i : ℕ) → IsTrue (told_within no_argument (judgement_by rules) nodes n i).fixed → told_within zeros (value_by s x) nodes n i ≡ told_within zeros (value_by s y) nodes n i) →
+    by : (o : Option Node) → ((i : ℕ) → IsTrue (told_within no_argument (judgement_by rules) nodes n i).fixed
+        → told_within zeros (value_by s x) nodes n i ≡ told_within zeros (value_by s y) nodes n i) →
         IsTrue (told no_argument (judgement_by rules) (told_within no_argument (judgement_by rules) nodes n) o).fixed →
         told zeros (value_by s x) (told_within zeros (value_by s x) nodes n) o ≡ told zeros (value_by s y) (told_within zeros (value_by s y) nodes n) o
     by None ih t = refl

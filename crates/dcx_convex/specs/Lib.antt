@@ -1,4 +1,4 @@
--- What the laws of this crate cite.
+-- What the laws cite: calls, nodes, the rules, problems, answers, reductions, certificates and examples.
 pub mod Calls
 pub mod Atoms
 pub mod Pairs

@@ -1,7 +1,22 @@
 //! The laws above the definitions of `specs/`. There is no code: each clause is a statement about all problems.
 ghost use Rattle.dcx_convex.specs.Nodes.{Setting};
 ghost use Rattle.dcx_convex.specs.Problems.{Problem};
-ghost use Rattle.dcx_convex.specs.Laws.{CallsAreLawful, NodesAreTold, SignsAreTrue, AcceptedIsConvex, AnswersAgree, DppIsAccepted, ConstantsAreFixed, ReachedAreBent, FormsAreBeyond, ReductionsMapBack, CertifiedIsAnswered, RenumberingChangesNothing, PushingChangesNothing, TestedAreInDualCone};
+ghost use Rattle.dcx_convex.specs.Laws.{
+  CallsAreLawful,
+  NodesAreTold,
+  SignsAreTrue,
+  AcceptedIsConvex,
+  AnswersAgree,
+  DppIsAccepted,
+  ConstantsAreFixed,
+  ReachedAreBent,
+  FormsAreBeyond,
+  ReductionsMapBack,
+  CertifiedIsAnswered,
+  RenumberingChangesNothing,
+  PushingChangesNothing,
+  TestedAreInDualCone,
+};
 ghost use Rattle.dcx_convex.specs.Examples.{Verdicts, LeastAbs};
 
 /// Nonlinear calls, linear calls, products and quotients keep the laws of calls.

@@ -54,13 +54,15 @@ module _ (nodes : List Node) (vs : List Variable) (ps : List Parameter) (d : Are
       taken names.variables given k v.name named
 
   -- a node with a variable keeps its domain exactly where the variable's array does
-  demand : (k : ℕ) (v : Variable) → slice_get vs k ≡ Some v → (args : List Sides) (sides : Sides) → VariableKeeps (numbers_by names.variables given) (head_of names (calls.Variable v) args sides) ↔ IsInside v given
+  demand : (k : ℕ) (v : Variable) → slice_get vs k ≡ Some v → (args : List Sides) (sides : Sides)
+      → VariableKeeps (numbers_by names.variables given) (head_of names (calls.Variable v) args sides) ↔ IsInside v given
   demand k v at args sides =
       subst (λ (f : Numbers). Keeps (variable_attribute v.whole v.attribute) (sides_of v.shape) f ↔ IsInside v given) (sym (numbers_are k v at))
       (same_demand v.whole v.attribute (sides_of v.shape) (given_by given v.name))
 
   -- a variable that has a node
-  stands_inside : EachNode (convex_nodes names nodes) (λ n. VariableKeeps (numbers_by names.variables given) n.head) → (k : ℕ) (v : Variable) → slice_get vs k ≡ Some v → (i : ℕ) → call_at nodes i ≡ Some (calls.Variable v) → IsInside v given
+  stands_inside : EachNode (convex_nodes names nodes) (λ n. VariableKeeps (numbers_by names.variables given) n.head) → (k : ℕ) (v : Variable) → slice_get vs k ≡ Some v
+      → (i : ℕ) → call_at nodes i ≡ Some (calls.Variable v) → IsInside v given
   stands_inside h k v at i call_is =
       let (n, there, is) = found_in (slice_get nodes i) (calls.Variable v) call_is in
       let kept = h i (convex_node names nodes n) (slice_get-map (convex_node names nodes) nodes i ∙ ap (option_map (convex_node names nodes)) there) in
@@ -69,7 +71,8 @@ module _ (nodes : List Node) (vs : List Variable) (ps : List Parameter) (d : Are
   pub to_variables : EachNode (convex_nodes names nodes) (λ n. VariableKeeps (numbers_by names.variables given) n.head) → All (λ v. IsInside v given) vs
   to_variables h = λ k e lt. let (i, call_is) = d.variables_stand k e lt in stands_inside h k (get_or vs k e) (slice_get-get_or vs k e lt) i call_is
 
-  call_keeps : All (λ v. IsInside v given) vs → (call : Call) (args : List Sides) (sides : Sides) → IsListed vs ps call → VariableKeeps (numbers_by names.variables given) (head_of names call args sides)
+  call_keeps : All (λ v. IsInside v given) vs → (call : Call) (args : List Sides) (sides : Sides) → IsListed vs ps call
+      → VariableKeeps (numbers_by names.variables given) (head_of names call args sides)
   call_keeps h (calls.Variable v) args sides l =
       let (k, at) = contains_at vs v l in
       let inside : IsInside v given = subst (λ (u : Variable). IsInside u given) (get_or_from_slice_get vs k v v at) (h k v (slice_get_within vs k v at)) in

@@ -73,10 +73,6 @@ pub record LeavesFirstAt (attribute : Attribute) (sides : Sides) (x : ℕ → �
 abbrev pub KeepsDomainAt : Variable → (ℕ → ℚ) → ℕ → Type 0
 KeepsDomainAt v x k = KeepsAt (counted v.whole v.attribute) (sides_of v.shape) x k
 
--- entry k leaves it
-abbrev pub LeavesDomainAt : Variable → (ℕ → ℚ) → ℕ → Type 0
-LeavesDomainAt v x k = LeavesAt (counted v.whole v.attribute) (sides_of v.shape) x k
-
 -- entry k is the first that leaves it
 abbrev pub LeavesDomainFirstAt : Variable → (ℕ → ℚ) → ℕ → Type 0
 LeavesDomainFirstAt v x k = LeavesFirstAt (counted v.whole v.attribute) (sides_of v.shape) x k

@@ -15,7 +15,8 @@ use Rattle.dcx_syntax.specs.declared.tree.Raised as code_raised
 use Rattle.dcx_syntax.specs.declared.tree.Scaled as code_scaled
 use Rattle.dcx_syntax.specs.declared.tree.Sum as code_sum
 use Rattle.dcx_syntax.specs.declared.tree.Term as code_term
-use Rattle.dcx_syntax.specs.Expressions.{Expr, expr, Compared, no_comparison, compared, Sum, sum, Added, no_addition, added, Term, term, Scaled, no_scaling, scaled, Factor, factor, Power, power_of, Raised, no_power, raised, Postfix, postfix, Trailers, no_trailer, attribute, call, indexed, Primary, name_at}
+use Rattle.dcx_syntax.specs.Expressions.{Expr, expr, Compared, no_comparison, compared, Sum, sum, Added, no_addition, added, Term, term, Scaled, no_scaling, scaled, Factor}
+use Rattle.dcx_syntax.specs.Expressions.{factor, Power, power_of, Raised, no_power, raised, Postfix, postfix, Trailers, no_trailer, attribute, call, indexed, Primary, name_at}
 use Rattle.dcx_syntax.specs.View.{chained, compared_view, added_view, scaled_view, raised_view, expr_view, postfix_view, primary_view}
 use Rattle.dcx_elab.specs.Statements.{only_postfix, is_just_name}
 use Rattle.dcx_elab.specs.View.{trailers_from}
@@ -112,7 +113,9 @@ added_of e = (code_sum.out-Sum (sum_of e)).rest
 abbrev pub compared_of : code_expr.Expr → Vec code_compared.Compared Global
 compared_of e = (code_expr.out-Expr e).rest
 
-whole-seen : (e : code_expr.Expr) → expr_view e ≡ whole (postfix_view (postfix_of e)) (signs_of e) (chained (map raised_view (raised_of e).items) no_power) (chained (map scaled_view (scaled_of e).items) no_scaling) (chained (map added_view (added_of e).items) no_addition) (chained (map compared_view (compared_of e).items) no_comparison)
+whole-seen : (e : code_expr.Expr) → expr_view e
+    ≡ whole (postfix_view (postfix_of e)) (signs_of e) (chained (map raised_view (raised_of e).items) no_power) (chained (map scaled_view (scaled_of e).items) no_scaling)
+    (chained (map added_view (added_of e).items) no_addition) (chained (map compared_view (compared_of e).items) no_comparison)
 whole-seen e =
     let c = chained (map compared_view (compared_of e).items) no_comparison in
     let a = chained (map added_view (added_of e).items) no_addition in
@@ -125,16 +128,22 @@ abbrev pub stands_alone : code_expr.Expr → Bool
 stands_alone e = has_none (signs_of e) && (has_none (raised_of e).items && (has_none (scaled_of e).items && (has_none (added_of e).items && has_none (compared_of e).items)))
 
 ends_alone : (e : code_expr.Expr)
-    → (has_none (signs_of e) && (ends_raised (chained (map raised_view (raised_of e).items) no_power) && (ends_scaled (chained (map scaled_view (scaled_of e).items) no_scaling) && (ends_added (chained (map added_view (added_of e).items) no_addition) && ends_compared (chained (map compared_view (compared_of e).items) no_comparison))))) ≡ stands_alone e
+    → (has_none (signs_of e) && (ends_raised (chained (map raised_view (raised_of e).items) no_power)
+    && (ends_scaled (chained (map scaled_view (scaled_of e).items) no_scaling) && (ends_added (chained (map added_view (added_of e).items) no_addition)
+    && ends_compared (chained (map compared_view (compared_of e).items) no_comparison))))) ≡ stands_alone e
 ends_alone e = rw (raised-ends (raised_of e).items, scaled-ends (scaled_of e).items, added-ends (added_of e).items, compared-ends (compared_of e).items) refl
 
 pub no-postfix : (e : code_expr.Expr) → stands_alone e ≡ false → only_postfix (expr_view e) ≡ None
 no-postfix e h =
-    ap only_postfix (whole-seen e) ∙ only-none (postfix_view (postfix_of e)) (signs_of e) (chained (map raised_view (raised_of e).items) no_power) (chained (map scaled_view (scaled_of e).items) no_scaling) (chained (map added_view (added_of e).items) no_addition) (chained (map compared_view (compared_of e).items) no_comparison) (ends_alone e ∙ h)
+    ap only_postfix (whole-seen e) ∙ only-none (postfix_view (postfix_of e)) (signs_of e) (chained (map raised_view (raised_of e).items) no_power)
+    (chained (map scaled_view (scaled_of e).items) no_scaling) (chained (map added_view (added_of e).items) no_addition)
+    (chained (map compared_view (compared_of e).items) no_comparison) (ends_alone e ∙ h)
 
 pub one-postfix : (e : code_expr.Expr) → stands_alone e ≡ true → only_postfix (expr_view e) ≡ Some (postfix_view (postfix_of e))
 one-postfix e h =
-    ap only_postfix (whole-seen e) ∙ only-some (postfix_view (postfix_of e)) (signs_of e) (chained (map raised_view (raised_of e).items) no_power) (chained (map scaled_view (scaled_of e).items) no_scaling) (chained (map added_view (added_of e).items) no_addition) (chained (map compared_view (compared_of e).items) no_comparison) (ends_alone e ∙ h)
+    ap only_postfix (whole-seen e) ∙ only-some (postfix_view (postfix_of e)) (signs_of e) (chained (map raised_view (raised_of e).items) no_power)
+    (chained (map scaled_view (scaled_of e).items) no_scaling) (chained (map added_view (added_of e).items) no_addition)
+    (chained (map compared_view (compared_of e).items) no_comparison) (ends_alone e ∙ h)
 
 -- ---- what the tests of the code say
 pub none-length : {A : Type 0} (xs : List A) → has_none xs ≡ (length xs == 0)

@@ -23,7 +23,8 @@ module _ (target : Option (List ℕ)) (n : Named) (p : Place) (xs : Args) (rest 
   pub name-call-fault : (b : Bool) (gs : List Given) (e : ElabFault) (t u : State) → is_range n s ≡ Ok (b, t) → args_mean false xs t ≡ Ok (gs, u) → Fails e (name_called n b gs u)
       → Fails e (postfix_means target (postfix (name_at n) (call p xs rest)) s)
   name-call-fault b gs e t u r a h =
-      Fails-same e _ (postfix_means target (postfix (name_at n) (call p xs rest)) s) (then_is (is_range n s) _ b t r ∙ then_is (args_mean false xs t) _ gs u a) (Fails-then e (name_called n b gs u) _ h)
+      Fails-same e _ (postfix_means target (postfix (name_at n) (call p xs rest)) s) (then_is (is_range n s) _ b t r ∙ then_is (args_mean false xs t) _ gs u a)
+      (Fails-then e (name_called n b gs u) _ h)
 
   pub name-call-is : (b : Bool) (gs : List Given) (v : Value) (t u w : State) → is_range n s ≡ Ok (b, t) → args_mean false xs t ≡ Ok (gs, u) → name_called n b gs u ≡ Ok (v, w)
       → postfix_means target (postfix (name_at n) (call p xs rest)) s ≡ trailers_mean target n.place rest v w
@@ -59,17 +60,20 @@ module _ (target : Option (List ℕ)) (place p : Place) (x : Index) (xs : Indice
   indexed-all i is t u a b =
       indexed-is target place p x xs rest v s ∙ ap (λ r. and_then r (λ js. index_value p v js >>= λ w. trailers_mean target place rest w)) (then_is (index_means x s) _ i t a ∙ b)
 
-  pub indexed-args-fault : (i : Evaluated) (e : ElabFault) (t : State) → index_means x s ≡ Ok (i, t) → Fails e (and_then (indices_mean xs t) (λ js. done (i ∷ js))) → Fails e (trailers_mean target place (indexed p x xs rest) v s)
+  pub indexed-args-fault : (i : Evaluated) (e : ElabFault) (t : State) → index_means x s ≡ Ok (i, t) → Fails e (and_then (indices_mean xs t) (λ js. done (i ∷ js)))
+      → Fails e (trailers_mean target place (indexed p x xs rest) v s)
   indexed-args-fault i e t a h =
       Fails-same e _ (trailers_mean target place (indexed p x xs rest) v s)
       (indexed-is target place p x xs rest v s ∙ ap (λ r. and_then r (λ js. index_value p v js >>= λ w. trailers_mean target place rest w)) (then_is (index_means x s) _ i t a))
       (Fails-then e (and_then (indices_mean xs t) (λ js. done (i ∷ js))) _ h)
 
-  pub indexed-fault : (i : Evaluated) (is : List Evaluated) (e : ElabFault) (t u : State) → index_means x s ≡ Ok (i, t) → and_then (indices_mean xs t) (λ js. done (i ∷ js)) ≡ Ok (is, u) → Fails e (index_value p v is u)
+  pub indexed-fault : (i : Evaluated) (is : List Evaluated) (e : ElabFault) (t u : State) → index_means x s ≡ Ok (i, t)
+      → and_then (indices_mean xs t) (λ js. done (i ∷ js)) ≡ Ok (is, u) → Fails e (index_value p v is u)
       → Fails e (trailers_mean target place (indexed p x xs rest) v s)
   indexed-fault i is e t u a b h =
       Fails-same e _ (trailers_mean target place (indexed p x xs rest) v s) (indexed-all i is t u a b) (Fails-then e (index_value p v is u) _ h)
 
-  pub indexed-value : (i : Evaluated) (is : List Evaluated) (w : Value) (t u r : State) → index_means x s ≡ Ok (i, t) → and_then (indices_mean xs t) (λ js. done (i ∷ js)) ≡ Ok (is, u) → index_value p v is u ≡ Ok (w, r)
+  pub indexed-value : (i : Evaluated) (is : List Evaluated) (w : Value) (t u r : State) → index_means x s ≡ Ok (i, t)
+      → and_then (indices_mean xs t) (λ js. done (i ∷ js)) ≡ Ok (is, u) → index_value p v is u ≡ Ok (w, r)
       → trailers_mean target place (indexed p x xs rest) v s ≡ trailers_mean target place rest w r
   indexed-value i is w t u r a b h = indexed-all i is t u a b ∙ then_is (index_value p v is u) _ w r h

@@ -87,7 +87,8 @@ name-alone target n (attribute m r) s h = refl
 name-alone target n (call p xs r) s h = absurd (true≢false h)
 name-alone target n (indexed p x xs r) s h = refl
 
-pub name-fault : (target : Option (List ℕ)) (n : Named) (ts : Trailers) (e : ElabFault) (s : State) → is_called ts ≡ false → Fails e (look n.name n.place s) → Fails e (postfix_means target (postfix (name_at n) ts) s)
+pub name-fault : (target : Option (List ℕ)) (n : Named) (ts : Trailers) (e : ElabFault) (s : State) → is_called ts ≡ false → Fails e (look n.name n.place s)
+    → Fails e (postfix_means target (postfix (name_at n) ts) s)
 name-fault target n ts e s h fails = Fails-same e _ (postfix_means target (postfix (name_at n) ts) s) (name-alone target n ts s h) (Fails-then e (look n.name n.place s) _ fails)
 
 pub name-is : (target : Option (List ℕ)) (n : Named) (ts : Trailers) (v : Value) (s t : State) → is_called ts ≡ false → look n.name n.place s ≡ Ok (v, t)
@@ -99,18 +100,13 @@ pub plain-postfix : (target : Option (List ℕ)) (x : Primary) (ts : Trailers) (
 plain-postfix target (name_at n) ts s h = absurd (true≢false h)
 plain-postfix target x ts s h = refl
 
-pub primary-fault : (target : Option (List ℕ)) (x : Primary) (ts : Trailers) (e : ElabFault) (s : State) → is_name x ≡ false → Fails e (primary_means x s) → Fails e (postfix_means target (postfix x ts) s)
+pub primary-fault : (target : Option (List ℕ)) (x : Primary) (ts : Trailers) (e : ElabFault) (s : State) → is_name x ≡ false → Fails e (primary_means x s)
+    → Fails e (postfix_means target (postfix x ts) s)
 primary-fault target x ts e s h fails = Fails-same e _ (postfix_means target (postfix x ts) s) (plain-postfix target x ts s h) (Fails-then e (primary_means x s) _ fails)
 
 pub primary-is : (target : Option (List ℕ)) (x : Primary) (ts : Trailers) (v : Value) (s t : State) → is_name x ≡ false → primary_means x s ≡ Ok (v, t)
     → postfix_means target (postfix x ts) s ≡ trailers_mean target (primary_place x) ts v t
 primary-is target x ts v s t h means = plain-postfix target x ts s h ∙ then_is (primary_means x s) _ v t means
-
-pub target-kept : (target : Option (List ℕ)) (ts : Trailers) → is_none ts ≡ true → target_before target ts ≡ target
-target-kept target no_trailer h = refl
-target-kept target (attribute n r) h = absurd cc
-target-kept target (call p xs r) h = absurd cc
-target-kept target (indexed p x xs r) h = absurd cc
 
 pub target-lost : (target : Option (List ℕ)) (ts : Trailers) → is_none ts ≡ false → target_before target ts ≡ None
 target-lost target no_trailer h = absurd (true≢false h)
@@ -122,13 +118,16 @@ target-lost target (indexed p x xs r) h = refl
 pub stop-fault : (a b : Optional) (c : Step) (x : Option Value) (e : ElabFault) (s t : State) → optional_means a s ≡ Ok (x, t) → Fails e (optional_means b t) → Fails e (index_means (slice a b c) s)
 stop-fault a b c x e s t h fails = Fails-same e _ (index_means (slice a b c) s) (then_is (optional_means a s) _ x t h) (Fails-then e (optional_means b t) _ fails)
 
-pub step-fault : (a b : Optional) (c : Step) (x y : Option Value) (e : ElabFault) (s t u : State) → optional_means a s ≡ Ok (x, t) → optional_means b t ≡ Ok (y, u) → Fails e (step_means c u) → Fails e (index_means (slice a b c) s)
+pub step-fault : (a b : Optional) (c : Step) (x y : Option Value) (e : ElabFault) (s t u : State) → optional_means a s ≡ Ok (x, t) → optional_means b t ≡ Ok (y, u)
+    → Fails e (step_means c u) → Fails e (index_means (slice a b c) s)
 step-fault a b c x y e s t u h g fails =
     Fails-same e _ (index_means (slice a b c) s) (then_is (optional_means a s) _ x t h ∙ then_is (optional_means b t) _ y u g) (Fails-then e (step_means c u) _ fails)
 
 -- ---- what can't be called
-pub refused-args-fault : (target : Option (List ℕ)) (place p : Place) (xs : Args) (rest : Trailers) (v : Value) (e : ElabFault) (s : State) → Fails e (args_mean false xs s) → Fails e (trailers_mean target place (call p xs rest) v s)
+pub refused-args-fault : (target : Option (List ℕ)) (place p : Place) (xs : Args) (rest : Trailers) (v : Value) (e : ElabFault) (s : State) → Fails e (args_mean false xs s)
+    → Fails e (trailers_mean target place (call p xs rest) v s)
 refused-args-fault target place p xs rest v e s h = Fails-then e (args_mean false xs s) _ h
 
-pub refused : (target : Option (List ℕ)) (place p : Place) (xs : Args) (rest : Trailers) (v : Value) (gs : List Given) (s t : State) → args_mean false xs s ≡ Ok (gs, t) → trailers_mean target place (call p xs rest) v s ≡ Err (UnknownCall place)
+pub refused : (target : Option (List ℕ)) (place p : Place) (xs : Args) (rest : Trailers) (v : Value) (gs : List Given) (s t : State) → args_mean false xs s ≡ Ok (gs, t)
+    → trailers_mean target place (call p xs rest) v s ≡ Err (UnknownCall place)
 refused target place p xs rest v gs s t h = then_is (args_mean false xs s) _ gs t h

@@ -1,5 +1,5 @@
 -- The forms of a line, lines one after the other, the turns of a `for`, and a list that is made longer.
-use Rattle.std.proofs.Common.{◌≡◌, ℕ, ◌+◌, ◌≤◌, List, ◌∷◌, map, drop, length, slice_get, Some, Result, Ok, Err, sym, ap, subst, ◌∙◌, Vec, Box, Global}
+use Rattle.std.proofs.Common.{◌≡◌, ℕ, ◌+◌, ◌≤◌, List, ◌∷◌, map, drop, length, slice_get, Some, Result, Ok, Err, sym, ap, ◌∙◌, Vec, Box, Global}
 use Rattle.std.proofs.lemmas.List.{at_drop_all, drop_more}
 use Rattle.std.proofs.lemmas.Option.{slice_get_within, get_or_from_slice_get}
 use Rattle.indexmap.specs.IndexMap.{insert_entry}
@@ -15,7 +15,7 @@ use Rattle.dcx_syntax.specs.View.{expr_view, line_layer, line_view, lines_of}
 use Rattle.dcx_syntax.specs.Statements.{Line, assign, add_to, set_value, repeats, Lines, lines}
 use Rattle.dcx_script_values.specs.declared.fault.ElabFault.{ElabFault}
 use Rattle.dcx_script_values.specs.Values.{Value, Values, nothing, list as list_value, State, Act, and_then, ◌>>=◌, ◌>>◌, bind, joined, step}
-use Rattle.dcx_script_values.specs.View.{Fails, Gives}
+use Rattle.dcx_script_values.specs.View.{Fails}
 use Rattle.dcx_script_values.proofs.Acts.{Fails-then, Fails-same, then_is}
 use Rattle.dcx_signature.specs.Turns.{items_through}
 use Rattle.dcx_elab.specs.Expressions.{expr_means}
@@ -38,7 +38,8 @@ pub line-repeats : (l : code_line.Line) (p : Place) (n : Named) (x : code_expr.E
 line-repeats l p n x first rest e = ap line_view e ∙ ap line_view (sym (forms.rolls-For p n x first rest)) ∙ code_line.fold-roll-Line Line line_layer (Line-F.For p n x first rest)
 
 -- the turns of a `for`, once it is known through what it goes
-pub repeats-is : (p : Place) (n : Named) (x : Expr) (first : Line) (rest : Lines) (v : Value) (vs : List Value) (s t u : State) → step p s ≡ Ok (tt, t) → expr_means x t ≡ Ok (v, u) → items_through p v u ≡ Ok (vs, u)
+pub repeats-is : (p : Place) (n : Named) (x : Expr) (first : Line) (rest : Lines) (v : Value) (vs : List Value) (s t u : State) → step p s ≡ Ok (tt, t)
+    → expr_means x t ≡ Ok (v, u) → items_through p v u ≡ Ok (vs, u)
     → line_means (repeats p n x first rest) s ≡ each_turn n.name (lines_mean (lines first rest)) vs u
 repeats-is p n x first rest v vs s t u steps gives through =
     then_is (step p s) (λ _. expr_means x >>= λ w. items_through p w >>= λ ws. each_turn n.name (lines_mean (lines first rest)) ws) tt t steps
@@ -55,7 +56,7 @@ lines_from xs i = lines_of (map line_view (drop i xs))
 abbrev pub turns_from : List ℕ → Line → Lines → List Value → ℕ → Act (Unit {0})
 turns_from name first rest vs k = each_turn name (lines_mean (lines first rest)) (drop k vs)
 
-drop-item : {A : Type 0} (xs : List A) (k : ℕ) (x : A) → slice_get xs k ≡ Some x → drop k xs ≡ x ∷ drop (k + 1) xs
+pub drop-item : {A : Type 0} (xs : List A) (k : ℕ) (x : A) → slice_get xs k ≡ Some x → drop k xs ≡ x ∷ drop (k + 1) xs
 drop-item xs k x h = drop_more xs k x (slice_get_within xs k x h) ∙ ap (λ y. y ∷ drop (k + 1) xs) (get_or_from_slice_get xs k x x h)
 
 turns-more : (name : List ℕ) (first : Line) (rest : Lines) (vs : List Value) (k : ℕ) (v : Value) (s : State) → slice_get vs k ≡ Some v
@@ -69,13 +70,15 @@ turns-bound name first rest vs k v s t h binds =
     turns-more name first rest vs k v s h ∙ then_is (bind name v s) (λ _. lines_mean (lines first rest) >> turns_from name first rest vs (k + 1)) tt t binds
 
 -- the first line of the body is carried out
-turns-begun : (name : List ℕ) (first : Line) (rest : Lines) (vs : List Value) (k : ℕ) (v : Value) (s t u : State) → slice_get vs k ≡ Some v → bind name v s ≡ Ok (tt, t) → line_means first t ≡ Ok (tt, u)
+turns-begun : (name : List ℕ) (first : Line) (rest : Lines) (vs : List Value) (k : ℕ) (v : Value) (s t u : State) → slice_get vs k ≡ Some v
+    → bind name v s ≡ Ok (tt, t) → line_means first t ≡ Ok (tt, u)
     → turns_from name first rest vs k s ≡ and_then (lines_mean rest u) (λ _. turns_from name first rest vs (k + 1))
 turns-begun name first rest vs k v s t u h binds begins =
     turns-bound name first rest vs k v s t h binds
     ∙ ap (λ r. and_then r (λ _. turns_from name first rest vs (k + 1))) (then_is (line_means first t) (λ _. lines_mean rest) tt u begins)
 
-pub turns-next : (name : List ℕ) (first : Line) (rest : Lines) (vs : List Value) (k : ℕ) (v : Value) (s t u w : State) → slice_get vs k ≡ Some v → bind name v s ≡ Ok (tt, t) → line_means first t ≡ Ok (tt, u)
+pub turns-next : (name : List ℕ) (first : Line) (rest : Lines) (vs : List Value) (k : ℕ) (v : Value) (s t u w : State) → slice_get vs k ≡ Some v
+    → bind name v s ≡ Ok (tt, t) → line_means first t ≡ Ok (tt, u)
     → lines_mean rest u ≡ Ok (tt, w) → turns_from name first rest vs k s ≡ turns_from name first rest vs (k + 1) w
 turns-next name first rest vs k v s t u w h binds begins ends =
     turns-begun name first rest vs k v s t u h binds begins ∙ then_is (lines_mean rest u) (λ _. turns_from name first rest vs (k + 1)) tt w ends
@@ -96,10 +99,6 @@ pub turns-end : (name : List ℕ) (first : Line) (rest : Lines) (vs : List Value
 turns-end name first rest vs k s h = at_drop_all (λ ys. each_turn name (lines_mean (lines first rest)) ys s) vs k h
 
 -- ---- faults
--- a function returns the fault that it was given
-pub given-fault : {X Y : Type 0} (view : X → Y) (r : Result X ElabFault) (after : State) (given : Result (Y × State) ElabFault) (y e : ElabFault) → r ≡ Err y → y ≡ e → Fails e given → Gives view r after given
-given-fault view r after given y e is same h = subst (λ q. Gives view q after given) (sym is) (subst (λ z. Fails z given) (sym same) h)
-
 -- ---- a list that is made longer, of which its name lets go meanwhile
 abbrev state_after : State → Result (Unit {0} × State) ElabFault → State
 state_after t (Ok p) = p.1

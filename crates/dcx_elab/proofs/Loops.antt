@@ -1,7 +1,6 @@
 -- The loops over arguments, indices, items and turns: one round of each, its end, and what a fault in it comes to.
 use Rattle.std.proofs.Common.{◌≡◌, ℕ, ◌+◌, ◌<◌, ◌≤◌, Bool, true, false, List, [], ◌∷◌, ◌++◌, map, drop, length, get_or, slice_get, Some, Result, Ok, Err, refl, sym, ap, ◌∙◌}
-use Rattle.std.proofs.lemmas.List.{at_drop_more, at_drop_all, drop_more}
-use Rattle.std.proofs.lemmas.Option.{slice_get_within, get_or_from_slice_get}
+use Rattle.std.proofs.lemmas.List.{at_drop_more, at_drop_all}
 use Rattle.dcx_shape.specs.declared.place.Place.{Place}
 use Rattle.dcx_syntax.specs.declared.tree.Named.{Named}
 use Rattle.dcx_syntax.specs.declared.tree.Arg as code_arg
@@ -21,6 +20,7 @@ use Rattle.dcx_signature.specs.Firsts.{expr_place}
 use Rattle.dcx_signature.specs.Turns.{items_through}
 use Rattle.dcx_elab.specs.Turns.{turn, turns}
 use Rattle.dcx_elab.proofs.Chains.{assoc, go_on, go_on-none, go_on-next, go_on-end, done-ok, done-fails, Fails-again}
+use Rattle.dcx_elab.proofs.Lines.{drop-item}
 
 -- ---- arguments
 -- the arguments from an index on
@@ -164,7 +164,8 @@ pub tuple-fault : (place : Place) (x : Expr) (xs : List Expr) (comma : Bool) (v 
     → Fails e (and_then (with_item place [] (done v) r) (more_items_mean place (more_items_of xs comma))) → Fails e (primary_means (tuple place x (tree_items xs comma)) s)
 tuple-fault place x xs comma v e s r m h =
     by (with_item place [] (expr_means x) s)
-    (Fails-same e _ (and_then (with_item place [] (expr_means x) s) (more_items_mean place (more_items_of xs comma))) (ap (λ q. and_then q (more_items_mean place (more_items_of xs comma))) (opened place x v s r m)) h)
+    (Fails-same e _ (and_then (with_item place [] (expr_means x) s) (more_items_mean place (more_items_of xs comma)))
+    (ap (λ q. and_then q (more_items_mean place (more_items_of xs comma))) (opened place x v s r m)) h)
   where
     by : (r : Result (List Value × State) ElabFault) → Fails e (and_then r (more_items_mean place (more_items_of xs comma)))
         → Fails e (and_then r (λ vs. items_mean place (tree_items xs comma) vs >>= λ ws. done (tuple_value (values_of ws))))
@@ -175,21 +176,25 @@ pub list-is : (place : Place) (x : Expr) (xs : List Expr) (comma : Bool) (v : Va
     → and_then (with_item place [] (done v) r) (more_items_mean place (more_items_of xs comma)) ≡ Ok (items_of us, t) → primary_means (list place x (more_items_of xs comma)) s ≡ Ok (list_value us, t)
 list-is place x xs comma v us s r t m h =
     sym (assoc (with_item place [] (expr_means x) s) (more_items_mean place (more_items_of xs comma)) (λ ws. done (list_of ws)))
-    ∙ ap (λ q. and_then q (λ ws. done (list_of ws))) (ap (λ q. and_then q (more_items_mean place (more_items_of xs comma))) (opened place x v s r m) ∙ h) ∙ ap (λ (ws : Values). Ok (list_value ws, t)) (values_of-items_of us)
+    ∙ ap (λ q. and_then q (λ ws. done (list_of ws))) (ap (λ q. and_then q (more_items_mean place (more_items_of xs comma))) (opened place x v s r m) ∙ h)
+    ∙ ap (λ (ws : Values). Ok (list_value ws, t)) (values_of-items_of us)
 
 pub list-fault : (place : Place) (x : Expr) (xs : List Expr) (comma : Bool) (v : Value) (e : ElabFault) (s r : State) → expr_means x s ≡ Ok (v, r)
     → Fails e (and_then (with_item place [] (done v) r) (more_items_mean place (more_items_of xs comma))) → Fails e (primary_means (list place x (more_items_of xs comma)) s)
 list-fault place x xs comma v e s r m h =
-    Fails-same e _ (primary_means (list place x (more_items_of xs comma)) s) (sym (assoc (with_item place [] (expr_means x) s) (more_items_mean place (more_items_of xs comma)) (λ ws. done (list_of ws))))
+    Fails-same e _ (primary_means (list place x (more_items_of xs comma)) s)
+    (sym (assoc (with_item place [] (expr_means x) s) (more_items_mean place (more_items_of xs comma)) (λ ws. done (list_of ws))))
     (Fails-then e (and_then (with_item place [] (expr_means x) s) (more_items_mean place (more_items_of xs comma))) (λ ws. done (list_of ws))
-    (Fails-same e _ (and_then (with_item place [] (expr_means x) s) (more_items_mean place (more_items_of xs comma))) (ap (λ q. and_then q (more_items_mean place (more_items_of xs comma))) (opened place x v s r m)) h))
+    (Fails-same e _ (and_then (with_item place [] (expr_means x) s) (more_items_mean place (more_items_of xs comma)))
+    (ap (λ q. and_then q (more_items_mean place (more_items_of xs comma))) (opened place x v s r m)) h))
 
 -- a comprehension
 module _ (place for_place : Place) (x : Expr) (n : Named) (from : Expr) (s : State) where
   pub source-fault : (e : ElabFault) → Fails e (expr_means from s) → Fails e (primary_means (comprehension place x for_place n from) s)
   source-fault e h = Fails-then e (expr_means from s) _ h
 
-  pub through-fault : (e : ElabFault) (v : Value) (t : State) → expr_means from s ≡ Ok (v, t) → Fails e (items_through for_place v t) → Fails e (primary_means (comprehension place x for_place n from) s)
+  pub through-fault : (e : ElabFault) (v : Value) (t : State) → expr_means from s ≡ Ok (v, t) → Fails e (items_through for_place v t)
+      → Fails e (primary_means (comprehension place x for_place n from) s)
   through-fault e v t m h = Fails-same e _ (primary_means (comprehension place x for_place n from) s) (then_is (expr_means from s) _ v t m) (Fails-then e (items_through for_place v t) _ h)
 
   pub elements-fault : (e : ElabFault) (v : Value) (vs : List Value) (t : State) → expr_means from s ≡ Ok (v, t) → items_through for_place v t ≡ Ok (vs, t)
@@ -205,9 +210,6 @@ module _ (place for_place : Place) (x : Expr) (n : Named) (from : Expr) (s : Sta
       ∙ ap (λ (ws : Values). Ok (list_value ws, u)) (values_of-items_of us)
 
 -- ---- turns
-drop-item : {A : Type 0} (xs : List A) (k : ℕ) (x : A) → slice_get xs k ≡ Some x → drop k xs ≡ x ∷ drop (k + 1) xs
-drop-item xs k x h = drop_more xs k x (slice_get_within xs k x h) ∙ ap (λ y. y ∷ drop (k + 1) xs) (get_or_from_slice_get xs k x x h)
-
 -- a turn is an item more, and then come the other turns
 pub turns-more : (place first : Place) (name : List ℕ) (element : Act Value) (xs vs : List Value) (k : ℕ) (v : Value) (s : State) → slice_get vs k ≡ Some v
     → turns place first name element xs (drop k vs) s ≡ and_then (with_item place xs (turn first name element v) s) (λ ws. turns place first name element ws (drop (k + 1) vs))

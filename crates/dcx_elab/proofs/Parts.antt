@@ -29,7 +29,8 @@ module _ (solving : Bool) (a : code_arg.Arg) (x : code_expr.Expr) (s : State) (i
   pub by-place-fault : (e : ElabFault) → Fails e (expr_means (expr_view x) s) → Fails e (arg_means solving (arg_view a) s)
   by-place-fault e h = Fails-same e _ (arg_means solving (arg_view a) s) place-parts (Fails-then e (expr_means (expr_view x) s) _ h)
 
-  pub by-place-is : (v : Value) (p : Place) (t : State) → expr_means (expr_view x) s ≡ Ok (v, t) → p ≡ expr_place (expr_view x) → arg_means solving (arg_view a) s ≡ Ok (record { word = None; place = p; value = v }, t)
+  pub by-place-is : (v : Value) (p : Place) (t : State) → expr_means (expr_view x) s ≡ Ok (v, t) → p ≡ expr_place (expr_view x)
+      → arg_means solving (arg_view a) s ≡ Ok (record { word = None; place = p; value = v }, t)
   by-place-is v p t h at = place-parts ∙ then_is (expr_means (expr_view x) s) _ v t h ∙ ap (λ (q : Place). Ok (record { word = None; place = q; value = v }, t)) (sym at)
 
 -- the value that an argument by name has
@@ -72,7 +73,8 @@ module _ (i : code_index.Index) (a b : Option code_expr.Expr) (c : code_step.Ste
 
 -- ---- parts of slices
 pub optional-fault : (a : Option code_expr.Expr) (x : code_expr.Expr) (e : ElabFault) (s : State) → a ≡ Some x → Fails e (expr_means (expr_view x) s) → Fails e (optional_means (optional_view a) s)
-optional-fault a x e s is h = Fails-same e (and_then (expr_means (expr_view x) s) (λ v. done (Some v))) (optional_means (optional_view a) s) (ap (λ y. optional_means (optional_view y) s) is) (Fails-then e (expr_means (expr_view x) s) _ h)
+optional-fault a x e s is h = Fails-same e (and_then (expr_means (expr_view x) s) (λ v. done (Some v))) (optional_means (optional_view a) s)
+    (ap (λ y. optional_means (optional_view y) s) is) (Fails-then e (expr_means (expr_view x) s) _ h)
 
 pub optional-is : (a : Option code_expr.Expr) (x : code_expr.Expr) (v : Value) (s t : State) → a ≡ Some x → expr_means (expr_view x) s ≡ Ok (v, t) → optional_means (optional_view a) s ≡ Ok (Some v, t)
 optional-is a x v s t is h = ap (λ y. optional_means (optional_view y) s) is ∙ then_is (expr_means (expr_view x) s) (λ v. done (Some v)) v t h
@@ -102,7 +104,8 @@ module _ (first at : Place) (name : List ℕ) (element : Act Value) (v : Value) 
   pub turn-bound-fault : (e : ElabFault) → step at s ≡ Ok (tt, t) → Fails e (bound_to name t) → Fails e (turn first name element v s)
   turn-bound-fault e h f = Fails-same e _ (turn first name element v s) (turn-stepped h) (Fails-then e (bound_to name t) (λ before. bind name v >> (element >>= λ x. restore name before >> done x)) f)
 
-  turn-bound : (before : Option Value) → step at s ≡ Ok (tt, t) → bound_to name t ≡ Ok (before, t) → turn first name element v s ≡ and_then (bind name v t) (λ _. element >>= λ x. restore name before >> done x)
+  turn-bound : (before : Option Value) → step at s ≡ Ok (tt, t) → bound_to name t ≡ Ok (before, t)
+      → turn first name element v s ≡ and_then (bind name v t) (λ _. element >>= λ x. restore name before >> done x)
   turn-bound before h b = turn-stepped h ∙ then_is (bound_to name t) (λ before. bind name v >> (element >>= λ x. restore name before >> done x)) before t b
 
   pub turn-bind-fault : (before : Option Value) (e : ElabFault) → step at s ≡ Ok (tt, t) → bound_to name t ≡ Ok (before, t) → Fails e (bind name v t) → Fails e (turn first name element v s)

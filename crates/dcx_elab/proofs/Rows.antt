@@ -4,12 +4,14 @@ use native.Mathlib.Decide.{dec_lt, dec_le}
 use Rattle.dcx_arena.specs.declared.fault.Count.TheVariants.{Entries}
 use Rattle.dcx_syntax.specs.declared.tree.Comparison.TheVariants.{AtMost, Less}
 use Rattle.dcx_syntax.specs.declared.tree.Sign.TheVariants.{Plus}
-use Rattle.dcx_syntax.specs.Expressions.{Expr, expr, sum, added, no_addition, term, no_scaling, factor, power_of, no_power, compared, no_comparison, postfix, no_trailer, tuple, items, items_end, no_args, args, more_args, args_end, by_place, by_name, at, slice, present, no_step, truth_at}
+use Rattle.dcx_syntax.specs.Expressions.{Expr, expr, sum, added, no_addition, term, no_scaling, factor, power_of, no_power, compared, no_comparison, postfix, no_trailer}
+use Rattle.dcx_syntax.specs.Expressions.{tuple, items, items_end, no_args, args, more_args, args_end, by_place, by_name, at, slice, present, no_step, truth_at}
 use Rattle.dcx_syntax.specs.Statements.{Lines, no_lines}
 use Rattle.dcx_script_values.specs.declared.fault.ElabFault.TheVariants.{UnknownName, UnknownCall, BadArgument, NotOffered, ShapeClash, IndexRange, EmptyResult, NoProblem, TooMany}
 use Rattle.dcx_array.specs.Shapes.{dec_few, shape_with}
 use Rattle.dcx_elab.specs.Meaning.{meaning}
-use Rattle.dcx_elab.proofs.Samples.{place, named, sum_of_one, alone, name_postfix, number_postfix, name_expr, number_expr, cp_expr, compared_expr, list_of_one, indexed_expr, one_arg, two_args, after_imports, after_variable, assigned, zero_number, one_number, two, three, five, twenty_thousand, twenty_thousand_and_one}
+use Rattle.dcx_elab.proofs.Samples.{place, named, sum_of_one, alone, name_postfix, number_postfix, name_expr, number_expr, cp_expr, compared_expr, list_of_one, indexed_expr}
+use Rattle.dcx_elab.proofs.Samples.{one_arg, two_args, after_imports, after_variable, assigned, zero_number, one_number, two, three, five, twenty_thousand, twenty_thousand_and_one}
 
 -- ---- scripts without a problem
 empty_script : meaning no_lines ≡ Err (NoProblem (place 1 1))
@@ -48,7 +50,8 @@ unfolding dec_few shape_with dec_lt dec_le
 one_too_many = refl
 
 -- `y = cp.sum(x, axis=0)`: a scalar has no side
-axis_of_a_scalar : meaning (y_is (cp_expr (codes "sum") 4 5 (args (by_place (name_expr (codes "x") 4 12)) (more_args (by_name (named (codes "axis") 4 15) (number_expr zero_number 4 20)) args_end)))) ≡ Err (BadArgument (place 4 15))
+axis_of_a_scalar : meaning (y_is (cp_expr (codes "sum") 4 5
+    (args (by_place (name_expr (codes "x") 4 12)) (more_args (by_name (named (codes "axis") 4 15) (number_expr zero_number 4 20)) args_end)))) ≡ Err (BadArgument (place 4 15))
 unfolding dec_few shape_with dec_lt dec_le
 axis_of_a_scalar = refl
 
@@ -60,7 +63,8 @@ problem_under e =
 
 -- `[0 <= x <= 1]`
 chained_comparisons : meaning (problem_under
-    (expr (sum_of_one (number_postfix zero_number 4 36)) (compared AtMost (place 4 38) (sum_of_one (name_postfix (codes "x") 4 41)) (compared AtMost (place 4 43) (sum_of_one (number_postfix one_number 4 46)) no_comparison))))
+    (expr (sum_of_one (number_postfix zero_number 4 36))
+    (compared AtMost (place 4 38) (sum_of_one (name_postfix (codes "x") 4 41)) (compared AtMost (place 4 43) (sum_of_one (number_postfix one_number 4 46)) no_comparison))))
     ≡ Err (NotOffered (place 4 43))
 unfolding dec_few shape_with dec_lt dec_le
 chained_comparisons = refl
@@ -94,7 +98,8 @@ variation_of_one = refl
 shapes_clash : meaning (after_variable (one_arg (number_expr two 3 17))
     (assigned (codes "z") 4 (cp_expr (codes "Variable") 4 5 (one_arg (number_expr three 4 17)))
     (assigned (codes "y") 5
-    (expr (sum (term (factor [] (power_of (name_postfix (codes "x") 5 5) no_power)) no_scaling) (added Plus (place 5 7) (term (factor [] (power_of (name_postfix (codes "z") 5 9) no_power)) no_scaling) no_addition)) no_comparison)
+    (expr (sum (term (factor [] (power_of (name_postfix (codes "x") 5 5) no_power)) no_scaling)
+    (added Plus (place 5 7) (term (factor [] (power_of (name_postfix (codes "z") 5 9) no_power)) no_scaling) no_addition)) no_comparison)
     no_lines)))
     ≡ Err (ShapeClash (place 5 7))
 unfolding dec_few shape_with dec_lt dec_le

@@ -7,7 +7,8 @@ use Rattle.dcx_shape.specs.declared.place.Place.{Place}
 use Rattle.dcx_syntax.specs.declared.tree.Named.{Named}
 use Rattle.dcx_syntax.specs.declared.tree.Module.TheVariants.{Cvxpy, Numpy}
 use Rattle.dcx_syntax.specs.declared.tree.Comparison.{Comparison}
-use Rattle.dcx_syntax.specs.Expressions.{Expr, expr, no_comparison, compared, Sum, sum, no_addition, term, no_scaling, factor, power_of, no_power, Postfix, postfix, no_trailer, attribute, call, indexed, Args, args, args_end, more_args, by_place, no_index, Index, number_at, name_at, list, items_end}
+use Rattle.dcx_syntax.specs.Expressions.{Expr, expr, no_comparison, compared, Sum, sum, no_addition, term, no_scaling, factor, power_of, no_power, Postfix, postfix}
+use Rattle.dcx_syntax.specs.Expressions.{no_trailer, attribute, call, indexed, Args, args, args_end, more_args, by_place, no_index, Index, number_at, name_at, list, items_end}
 use Rattle.dcx_syntax.specs.Statements.{importing, assign, Lines, no_lines, lines}
 
 abbrev pub place : ℕ → ℕ → Place

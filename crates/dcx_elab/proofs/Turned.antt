@@ -73,7 +73,8 @@ found : (names : List (List ℕ × Value)) (name : List ℕ) (v : Value) → loo
 found [] name v = rw (same_name-refl name) refl
 found (e ∷ es) name v = by (found es name v) (same_name name e.0) refl
   where
-    by : lookup (same_name name) (insert_entry same_name es name v) ≡ Some v → (t : Bool) → same_name name e.0 ≡ t → lookup (same_name name) (cond t ((e.0, v) ∷ es) (e ∷ insert_entry same_name es name v)) ≡ Some v
+    by : lookup (same_name name) (insert_entry same_name es name v) ≡ Some v → (t : Bool) → same_name name e.0 ≡ t
+        → lookup (same_name name) (cond t ((e.0, v) ∷ es) (e ∷ insert_entry same_name es name v)) ≡ Some v
     by rest true p = rw p refl
     by rest false p = rw p rest
 
@@ -85,7 +86,8 @@ gone names name distinct = lookup-remove_entry nat_list_eq_equiv (same_name name
     one x y e = ap (λ n. same_name n y) (same_name-true name x e)
 
 -- a name that is bound stands once
-all-insert : (P : List ℕ → Type 0) (names : List (List ℕ × Value)) (name : List ℕ) (v : Value) → AllByRecursion P (keys_of names) → P name → AllByRecursion P (keys_of (insert_entry same_name names name v))
+all-insert : (P : List ℕ → Type 0) (names : List (List ℕ × Value)) (name : List ℕ) (v : Value) → AllByRecursion P (keys_of names) → P name
+    → AllByRecursion P (keys_of (insert_entry same_name names name v))
 all-insert P [] name v all h = (h, tt)
 all-insert P (e ∷ es) name v all h = by (same_name name e.0) (all-insert P es name v all.1 h)
   where
@@ -98,7 +100,8 @@ unfolding IsDistinct
 insert-distinct [] name v d = (tt, tt)
 insert-distinct (e ∷ es) name v d = by (same_name name e.0) refl (insert-distinct es name v d.1)
   where
-    by : (t : Bool) → same_name name e.0 ≡ t → IsDistinct same_name (keys_of (insert_entry same_name es name v)) → IsDistinct same_name (keys_of (cond t ((e.0, v) ∷ es) (e ∷ insert_entry same_name es name v)))
+    by : (t : Bool) → same_name name e.0 ≡ t → IsDistinct same_name (keys_of (insert_entry same_name es name v))
+        → IsDistinct same_name (keys_of (cond t ((e.0, v) ∷ es) (e ∷ insert_entry same_name es name v)))
     by true p later = d
     by false p later = (all-insert (λ y. same_name e.0 y ≡ false) es name v d.0 (unlike name e.0 p), later)
 
@@ -142,7 +145,9 @@ name_as_before first name element v x s t distinct keeps e = after_step (step fi
     after_element u d (Err g) p f = absurd (no_fault f)
 
     after_step : (r : Result (Unit {0} × State) ElabFault) → step first s ≡ r → and_then r (λ _. rest) ≡ Ok (x, t) → lookup (same_name name) t.names ≡ lookup (same_name name) s.names
-    after_step (Ok z) p f = after_element z.1 (subst (λ (ns : List (List ℕ × Value)). IsDistinct same_name (keys_of ns)) (sym (step_keeps first s z p)) distinct) (element (bound z.1)) refl f ∙ ap (lookup (same_name name)) (step_keeps first s z p)
+    after_step (Ok z) p f =
+        after_element z.1 (subst (λ (ns : List (List ℕ × Value)). IsDistinct same_name (keys_of ns)) (sym (step_keeps first s z p)) distinct) (element (bound z.1)) refl f
+        ∙ ap (lookup (same_name name)) (step_keeps first s z p)
     after_step (Err g) p f = absurd (no_fault f)
 
 pub turns_hold : HoldsForTurns

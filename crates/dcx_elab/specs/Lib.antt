@@ -1,4 +1,4 @@
--- The meaning of scripts.
+-- The meaning of scripts: of expressions, of lines and their turns, and of a whole script, with its laws.
 pub mod Turns
 pub mod Expressions
 pub mod Statements

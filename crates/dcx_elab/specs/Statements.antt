@@ -5,12 +5,11 @@ use Rattle.dcx_syntax.specs.declared.tree.Import.{Import}
 use Rattle.dcx_syntax.specs.declared.tree.Named.{Named}
 use Rattle.dcx_syntax.specs.declared.tree.Sign.TheVariants.{Plus}
 use Rattle.dcx_syntax.specs.Expressions.{Expr, expr, no_comparison, sum, no_addition, term, no_scaling, factor, power_of, no_power, Postfix, postfix, no_trailer, name_at}
-use Rattle.dcx_syntax.specs.Statements.{Line, importing, assign, add_to, set_value, evaluate, prints, repeats, Lines, no_lines, lines}
+use Rattle.dcx_syntax.specs.Statements.{Line, importing, assign, add_to, set_value, evaluate, prints, repeats, Lines, no_lines, lines, module_bytes}
 use Rattle.dcx_script_values.specs.declared.fault.ElabFault.TheVariants.{NotOffered}
 use Rattle.dcx_script_values.specs.Values.{Value, library, Act, ◌>>=◌, ◌>>◌, done, unless, look, bind, step}
 use Rattle.dcx_script_values.specs.Kinds.{reading, is_list}
 use Rattle.dcx_operators.specs.Operators.{add_values}
-use Rattle.dcx_signature.specs.Table.{module_name}
 use Rattle.dcx_script_state.specs.Declarations.{give}
 use Rattle.dcx_signature.specs.Turns.{items_through}
 use Rattle.dcx_elab.specs.Turns.{each_turn}
@@ -20,7 +19,7 @@ use Rattle.dcx_elab.specs.Expressions.{expr_means, postfix_means}
 -- ---- imports
 -- the name that is bound: that behind `as`, or else the module's own
 abbrev pub bound_name : Import → Option Named → List ℕ
-bound_name i None = module_name i.module
+bound_name i None = module_bytes i.module
 bound_name i (Some n) = n.name
 
 -- ---- the right side of an assignment

@@ -1,7 +1,26 @@
 //! What an expression gives: one function for each rule of the grammar, and one for each of its repetitions.
 ghost use Rattle.std.specs.Prelude.{Bool, [], ◌∷◌, ◌<◌, ◌≤◌, length, map, option_copied, option_map, IfOk, if◌then◌else◌};
 ghost use Rattle.dcx_syntax.specs.Expressions.{no_addition, no_scaling, no_power, name_at, attribute as attribute_of, postfix as postfix_of};
-ghost use Rattle.dcx_syntax.specs.View.{chained, args_of, indices_of, more_items_of, optional_view, step_view, expr_view, sum_view, added_view, term_view, scaled_view, factor_view, power_view, raised_view, postfix_view, arg_view, index_view, primary_view};
+ghost use Rattle.dcx_syntax.specs.View.{
+  chained,
+  args_of,
+  indices_of,
+  more_items_of,
+  optional_view,
+  step_view,
+  expr_view,
+  sum_view,
+  added_view,
+  term_view,
+  scaled_view,
+  factor_view,
+  power_view,
+  raised_view,
+  postfix_view,
+  arg_view,
+  index_view,
+  primary_view,
+};
 ghost use Rattle.dcx_script_values.specs.Values.{items_of, nothing, done, and_then};
 ghost use Rattle.dcx_script_values.specs.Meant.{meant};
 ghost use Rattle.dcx_script_values.specs.View.{Gives};
@@ -217,7 +236,8 @@ fn trailer(
     value: Value,
 ) -> Result<(Value, usize), ElabFault>
     requires { at < length all.now }
-    ensures goes_on { GoesOn (λ r. meaning.trailers_mean (option_copied target.entry) place (trailers_from all.now r.1) (meant r.0)) result state.new (meaning.trailers_mean (option_copied target.entry) place (trailers_from all.now at) (meant value) state.old) }
+    ensures goes_on { GoesOn (λ r. meaning.trailers_mean (option_copied target.entry) place (trailers_from all.now r.1) (meant r.0)) result state.new
+        (meaning.trailers_mean (option_copied target.entry) place (trailers_from all.now at) (meant value) state.old) }
     ensures further { IfOk result (λ r. at < r.1) }
 {
     let next = at + 1;
@@ -250,7 +270,8 @@ fn attribute(
     name: &Named,
     value: Value,
 ) -> Result<(Value, usize), ElabFault>
-    ensures goes_on { GoesOn (λ r. meaning.trailers_mean (option_copied target.entry) place (trailers_from all.now r.1) (meant r.0)) result state.new (meaning.trailers_mean (option_copied target.entry) place (attribute_of name.now (trailers_from all.now at)) (meant value) state.old) }
+    ensures goes_on { GoesOn (λ r. meaning.trailers_mean (option_copied target.entry) place (trailers_from all.now r.1) (meant r.0)) result state.new
+        (meaning.trailers_mean (option_copied target.entry) place (attribute_of name.now (trailers_from all.now at)) (meant value) state.old) }
     ensures further { IfOk result (λ r. at ≤ r.1) }
 {
     if at >= all.len() {
@@ -441,7 +462,8 @@ fn items(
     others: &[Expr],
     first: Value,
 ) -> Result<Rc<Items>, ElabFault>
-    ensures { (comma : Bool) → Gives (λ r. items_of r.value) result state.new (and_then (meaning.with_item place [] (done (meant first)) state.old) (meaning.more_items_mean place (more_items_of (map expr_view others.now) comma))) }
+    ensures { (comma : Bool) → Gives (λ r. items_of r.value) result state.new (and_then (meaning.with_item place [] (done (meant first)) state.old)
+        (meaning.more_items_mean place (more_items_of (map expr_view others.now) comma))) }
 {
     let alloc = state.alloc();
     let mut items = Items::new(alloc);
@@ -462,7 +484,8 @@ fn elements(
     element: &Expr,
     through: &Through,
 ) -> Result<Rc<Items>, ElabFault>
-    ensures { Gives (λ r. items_of r.value) result state.new (turns place (first_place (expr_view element.now)) name.now (meaning.expr_means (expr_view element.now)) [] (through_seen through.now) state.old) }
+    ensures { Gives (λ r. items_of r.value) result state.new
+        (turns place (first_place (expr_view element.now)) name.now (meaning.expr_means (expr_view element.now)) [] (through_seen through.now) state.old) }
 {
     let alloc = state.alloc();
     let mut items = Items::new(alloc);

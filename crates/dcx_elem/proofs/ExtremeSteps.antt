@@ -1,5 +1,6 @@
 -- The greatest and the least: their shape, their value, and the steps by which their slopes come from weights.
-use Rattle.std.proofs.Common.{◌≡◌, ◌≢◌, ℕ, zero, suc, ◌+◌, ◌*◌, ◌/◌, ◌%◌, ◌<◌, ◌≤◌, ◌==◌, ◌&&◌, if◌then◌else◌, arith, Bool, true, false, List, [], ◌∷◌, ◌++◌, map, length, take, drop, get_or, All, refl, sym, ap, ap₂, ◌∙◌, subst, Option, Some, None, IsSome, IfSome, Result, Ok, Err, IsOk, IfOk, replicate, pos}
+use Rattle.std.proofs.Common.{◌≡◌, ◌≢◌, ℕ, zero, suc, ◌+◌, ◌*◌, ◌/◌, ◌%◌, ◌<◌, ◌≤◌, ◌==◌, ◌&&◌, if◌then◌else◌, arith, Bool, true, false, List, [], ◌∷◌, ◌++◌, map, length}
+use Rattle.std.proofs.Common.{take, drop, get_or, All, refl, sym, ap, ap₂, ◌∙◌, subst, Option, Some, None, IsSome, IfSome, Result, Ok, Err, IsOk, IfOk, replicate, pos}
 use Rattle.std.specs.List.{list_all}
 use Rattle.std.proofs.Math.Nat.{div-lt_iff_lt-mul, mod-lt}
 use Rattle.std.proofs.lemmas.Nat.{mod-mul-add, div-mul-add}
@@ -36,6 +37,7 @@ use Rattle.dcx_elem.specs.ExtremeLaws.{AreAlike, alike_are}
 use Rattle.dcx_atom.proofs.Lists.{one_forms, list_below-numbers, list_below-same, number_is, rat_at-list_below}
 use Rattle.dcx_atom.proofs.Totals.{earlier-none_right}
 use Rattle.dcx_atom.proofs.Weights.{rows_before-same, within_rows, own_length, own_weight}
+use Rattle.dcx_math.proofs.Lists.{map-map}
 
 -- ---- shape
 -- the shape of two or more arguments
@@ -97,7 +99,8 @@ extreme_stop bend count args c w j =
     let slopes = map (λ (x : ArgumentEntry). form (number (outward bend (w x.entry x.argument)))) (list_below count (λ i. record { argument = i; entry = j })) in
     ap (λ n. first_stop j (map (λ x. test (is_weight x)) (list_below n (w j)) ++ test condition ∷ [] ++ slopes)) (length-list_below count (λ i. bound_row bend j (argument_term i j (whole (pos 1)))))
     ∙ first_stop-append j (total_steps Free (outward bend (c j)) (list_below count (w j))) slopes
-    ∙ ap (earlier (first_stop j (total_steps Free (outward bend (c j)) (list_below count (w j))))) (numbers_formed j (λ x. outward bend (w x.entry x.argument)) (list_below count (λ i. record { argument = i; entry = j })))
+    ∙ ap (earlier (first_stop j (total_steps Free (outward bend (c j)) (list_below count (w j)))))
+    (numbers_formed j (λ x. outward bend (w x.entry x.argument)) (list_below count (λ i. record { argument = i; entry = j })))
     ∙ earlier-none_right (first_stop j (total_steps Free (outward bend (c j)) (list_below count (w j))))
 
 -- the weights of an entry's rows
@@ -110,7 +113,8 @@ own_weights bend count args ws j h =
     (own_weight (extreme_meaning bend count) args ws count j (extreme_rows_before bend count args j))
 
 -- the first stop of an entry, from its own weights
-pub own_stop : (bend : Bend) (count : ℕ) (args : List Sides) (cs ws own : List Frac) (j : ℕ) (c b : Frac) → j * count + count ≤ length ws → value c ≡ number_at cs j → value b ≡ outward bend (value c) →
+pub own_stop : (bend : Bend) (count : ℕ) (args : List Sides) (cs ws own : List Frac) (j : ℕ) (c b : Frac) → j * count + count ≤ length ws
+    → value c ≡ number_at cs j → value b ≡ outward bend (value c) →
     own ≡ take count (drop (j * count) ws) →
     entry_stop (extreme_meaning bend count) args (number_at cs) (weights_of (extreme_meaning bend count) args ws) j ≡ first_stop j (total_steps Free (value b) (map value own))
 own_stop bend count args cs ws own j c b h e f g =
@@ -210,10 +214,6 @@ weights_are bend count args ws some h =
     of_alike count args (λ s. length ws ≡ rows_before (extreme_meaning bend count) args (entries_of s)) (length ws ≡ entries_of (sides_at args 0) * count) some h
     (λ s e l. l ∙ extreme_rows_before bend count args (entries_of s) ∙ ap (λ r. entries_of r * count) (sym (alike_are count args s e).first))
 
-map-map : {A B C : Type 0} (f : A → B) (g : B → C) (xs : List A) → map g (map f xs) ≡ map (λ x. g (f x)) xs
-map-map f g [] = refl
-map-map f g (x ∷ xs) = ap (λ ys. g (f x) ∷ ys) (map-map f g xs)
-
 -- the terms of each argument once are the rows of the meaning
 pub rows_are : (bend : Bend) (count : ℕ) (pieces : List Piece) (j : ℕ) → map (piece_term j) pieces ≡ list_below count (λ i. argument_term i j (whole (pos 1))) →
     piece_rows bend pieces j ≡ list_below count (λ i. bound_row bend j (argument_term i j (whole (pos 1))))
@@ -253,7 +253,8 @@ slopes_at bend count args size cs ws gs n none e =
 -- the graph where there is a shape
 pub graph_at : (bend : Bend) (count : ℕ) (args : List Sides) (size : ℕ) (pieces : List Piece) (r : Result Graph AllocError) → size ≡ entries_of (sides_at args 0) →
     ((j : ℕ) → map (piece_term j) pieces ≡ list_below count (λ i. argument_term i j (whole (pos 1)))) →
-    IfOk r (λ g. g.aux ≡ replicate size Free) → IfOk r (λ g. map placed_row g.rows ≡ rows_below size (piece_rows bend pieces)) → IfOk r (λ g. map (map form_term) g.results ≡ list_below size unknown_form) →
+    IfOk r (λ g. g.aux ≡ replicate size Free) → IfOk r (λ g. map placed_row g.rows ≡ rows_below size (piece_rows bend pieces))
+    → IfOk r (λ g. map (map form_term) g.results ≡ list_below size unknown_form) →
     IfOk r (λ g. IfSome (alike count args) (λ s. IsGraphOf (extreme_meaning bend count) args (entries_of s) g))
 graph_at bend count args size pieces (Ok g) n p kinds rows results =
     if_alike count args (λ s. IsGraphOf (extreme_meaning bend count) args (entries_of s) g) (λ s is. extreme_graph_is bend count args s size pieces g is n p kinds rows results)
@@ -265,7 +266,8 @@ first_array [] x h e = absurd (omega arith)
 first_array (y ∷ ys) x h e = ap (λ (z : Array). sides_of z.shape) e
 
 -- each argument's array has as many entries
-pub sizes_at : (count : ℕ) (args : List Array) (x : Array) (size : ℕ) → IsSome (alike count (array_sides args)) → x ≡ get_or args 0 x → size ≡ entries_of (sides_of x.shape) → (k : ℕ) (d : Array) → k < length args →
+pub sizes_at : (count : ℕ) (args : List Array) (x : Array) (size : ℕ) → IsSome (alike count (array_sides args)) → x ≡ get_or args 0 x → size ≡ entries_of (sides_of x.shape)
+    → (k : ℕ) (d : Array) → k < length args →
     length (get_or args k d).entries ≡ size
 sizes_at count args x size some e n k d h = by (alike count (array_sides args)) refl some
   where

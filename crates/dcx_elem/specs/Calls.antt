@@ -8,8 +8,12 @@ use Rattle.dcx_elem.specs.declared.kinks.Kink.{Kink}
 use Rattle.dcx_elem.specs.declared.kinks.Kink.TheVariants.{Abs, Pos, Neg}
 use Rattle.dcx_elem.specs.Kinks.{kink_meaning}
 use Rattle.dcx_elem.specs.KinkLaws.{kink_formation, kink_sign, kink_monotonicity, kink_curvature, kink_soundness, kink_tightness, kink_subgradient, kink_recession}
+use Rattle.dcx_elem.specs.KinkDualLaws.{kink_duality}
 use Rattle.dcx_elem.specs.Extremes.{extreme_meaning}
 use Rattle.dcx_elem.specs.ExtremeLaws.{extreme_formation, extreme_sign_law, extreme_monotonicity, extreme_curvature, extreme_soundness, extreme_tightness, extreme_subgradient, extreme_recession}
+use Rattle.dcx_elem.specs.ExtremeDualLaws.{extreme_duality}
+use Rattle.dcx_elem.specs.OwnLaws.{kink_own, extreme_own}
+use Rattle.dcx_elem.specs.FractionLaws.{kink_fraction_summands, kink_fraction_coefficients, kink_fraction_slopes, extreme_fraction_summands, extreme_fraction_coefficients, extreme_fraction_slopes}
 
 kink_lawful : (kink : Kink) → IsLawful (kink_meaning kink)
 kink_lawful kink = record {
@@ -21,6 +25,11 @@ kink_lawful kink = record {
   tightness = kink_tightness kink;
   subgradient = kink_subgradient kink;
   recession = kink_recession kink;
+  own_unknowns = kink_own kink;
+  duality = kink_duality kink;
+  fraction_summands = kink_fraction_summands kink;
+  fraction_coefficients = kink_fraction_coefficients kink;
+  fraction_slopes = kink_fraction_slopes kink;
 }
 
 extreme_lawful : (bend : Bend) (count : ℕ) → IsLawful (extreme_meaning bend count)
@@ -33,6 +42,11 @@ extreme_lawful bend count = record {
   tightness = extreme_tightness bend count;
   subgradient = extreme_subgradient bend count;
   recession = extreme_recession bend count;
+  own_unknowns = extreme_own bend count;
+  duality = extreme_duality bend count;
+  fraction_summands = extreme_fraction_summands bend count;
+  fraction_coefficients = extreme_fraction_coefficients bend count;
+  fraction_slopes = extreme_fraction_slopes bend count;
 }
 
 abbrev pub abs_meaning : Meaning

@@ -20,7 +20,8 @@ use Rattle.dcx_atom.specs.Rows.{row_at, form_at, RowsHold, weighted}
 use Rattle.dcx_atom.specs.Meaning.{IsMet}
 use Rattle.dcx_atom.specs.Laws.{SumsUp, KeepsSign, KeepsTrend, IsBent, IsSoundGraph, IsTightGraph, HasSubgradients, Recedes}
 use Rattle.dcx_atom.proofs.Sublinear.{curvature_of, recession_of}
-use Rattle.dcx_atom.proofs.Duality.{no_entries, no_filling, AreRowSlopes, AreBalanced, subgradient_of}
+use Rattle.dcx_atom.specs.Duality.{no_entries, no_filling, AreRowSlopes, AreBalanced}
+use Rattle.dcx_atom.proofs.Duality.{subgradient_of}
 use Rattle.dcx_atom.proofs.LinearSums.{follows_rising, All-list_below}
 use Rattle.dcx_atom.specs.Bounding.{argument_term, bound_row, outward, unknown_form, free_kinds}
 use Rattle.dcx_atom.proofs.BoundRows.{map-list_below, length-list_below, All-at, RowsHold-list_below, weighted-list_below, beyond_of_rows, row_of_beyond, alone_is, times_one, free_balanced}

@@ -6,7 +6,18 @@ use Rattle.dcx_math.specs.Rational.{ℚ, whole, neg_ℚ, ◌+ℚ◌, ◌-ℚ◌,
 use Rattle.dcx_math.specs.Sums.{IsNonnegative, rat_sum_below}
 use Rattle.dcx_math.proofs.Ring.{ring, reads}
 use Rattle.dcx_math.proofs.Orders.{≤ℚ_refl, ≤ℚ_trans, ≤ℚ-from_≡, neg_ℚ-≤ℚ, +ℚ_idl, +ℚ_idr}
-use Rattle.dcx_math.proofs.Bounds.{≤ℚ-rat_max_left, ≤ℚ-rat_max_right, rat_max-≤ℚ, rat_max-monotone, ≤ℚ-rat_abs, neg_ℚ-≤ℚ-rat_abs, rat_abs-≤ℚ, rat_abs-nonnegative, rat_abs-of_nonnegative, rat_abs-of_nonpositive}
+use Rattle.dcx_math.proofs.Bounds.{
+  ≤ℚ-rat_max_left,
+  ≤ℚ-rat_max_right,
+  rat_max-≤ℚ,
+  rat_max-monotone,
+  ≤ℚ-rat_abs,
+  neg_ℚ-≤ℚ-rat_abs,
+  rat_abs-≤ℚ,
+  rat_abs-nonnegative,
+  rat_abs-of_nonnegative,
+  rat_abs-of_nonpositive,
+}
 use Rattle.dcx_math.proofs.Sums.{rat_sum_below-same, rat_sum_below-nonnegative}
 use Rattle.dcx_shape.specs.declared.shape.Sides.{Sides}
 use Rattle.dcx_shape.specs.Sides.{entries_of}
@@ -20,7 +31,8 @@ use Rattle.dcx_atom.specs.Rows.{Filling, RowsHold, weighted}
 use Rattle.dcx_atom.specs.Meaning.{IsMet}
 use Rattle.dcx_atom.specs.Laws.{SumsUp, KeepsSign, KeepsTrend, IsBent, IsSoundGraph, IsTightGraph, HasSubgradients, Recedes}
 use Rattle.dcx_atom.proofs.Sublinear.{curvature_of, recession_of}
-use Rattle.dcx_atom.proofs.Duality.{no_filling, AreRowSlopes, AreBalanced, subgradient_of}
+use Rattle.dcx_atom.specs.Duality.{no_filling, AreRowSlopes, AreBalanced}
+use Rattle.dcx_atom.proofs.Duality.{subgradient_of}
 use Rattle.dcx_elem.specs.declared.kinks.Kink.{Kink}
 use Rattle.dcx_elem.specs.declared.kinks.Kink.TheVariants.{Abs, Pos, Neg}
 use Rattle.dcx_atom.specs.Bounding.{argument_term, only_is}
@@ -106,7 +118,7 @@ slope_is Abs args w a j = abs_slope (w 0) (w 1) (a 0 j)
 slope_is Pos args w a j = pos_slope (w 0) (a 0 j)
 slope_is Neg args w a j = neg_slope (w 0) (a 0 j)
 
-row_slopes : (p : Kink) → AreRowSlopes (kink_meaning p)
+pub row_slopes : (p : Kink) → AreRowSlopes (kink_meaning p)
 row_slopes p [] sides is w a = cc
 row_slopes p (s ∷ []) sides is w a =
     let e : s ≡ sides = cc in

@@ -12,6 +12,9 @@ ghost use Rattle.dcx_elem.specs.Rows.{piece_term};
 ghost use Rattle.dcx_atom.specs.Farthest.{farther, extreme_from, extreme};
 ghost use Rattle.dcx_elem.specs.Extremes.{alike, extreme_sign, extreme_meaning};
 ghost use Rattle.dcx_elem.specs.ExtremeLaws.{extreme_formation, extreme_sign_law, extreme_monotonicity, extreme_curvature, extreme_soundness, extreme_tightness, extreme_subgradient, extreme_recession};
+ghost use Rattle.dcx_elem.specs.ExtremeDualLaws.{extreme_duality};
+ghost use Rattle.dcx_elem.specs.OwnLaws.{extreme_own};
+ghost use Rattle.dcx_elem.specs.FractionLaws.{extreme_fraction_summands, extreme_fraction_coefficients, extreme_fraction_slopes};
 
 use crate::rows::{Piece, entrywise_graph};
 use dcx_atom::{
@@ -190,6 +193,16 @@ impl Atom for Extreme {
     ghost subgradient = { λ x. extreme_subgradient x.bend x.count };
 
     ghost recession = { λ x. extreme_recession x.bend x.count };
+
+    ghost own_unknowns = { λ x. extreme_own x.bend x.count };
+
+    ghost duality = { λ x. extreme_duality x.bend x.count };
+
+    ghost fraction_summands = { λ x. extreme_fraction_summands x.bend x.count };
+
+    ghost fraction_coefficients = { λ x. extreme_fraction_coefficients x.bend x.count };
+
+    ghost fraction_slopes = { λ x. extreme_fraction_slopes x.bend x.count };
 
     fn shape(&self, args: &[Shape]) -> Option<Shape> {
         alike_shape(self.count, args)

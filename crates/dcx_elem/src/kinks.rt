@@ -10,6 +10,9 @@ ghost use Rattle.dcx_atom.specs.Graph.{IsGraphOf};
 ghost use Rattle.dcx_atom.specs.Steps.{first_stop, rows_before, AreSlopesOf, IsSlopeStop};
 ghost use Rattle.dcx_elem.specs.Kinks.{kink_at, kink_rows, kink_slope, kink_steps, kink_meaning};
 ghost use Rattle.dcx_elem.specs.KinkLaws.{kink_formation, kink_sign, kink_monotonicity, kink_curvature, kink_soundness, kink_tightness, kink_subgradient, kink_recession};
+ghost use Rattle.dcx_elem.specs.KinkDualLaws.{kink_duality};
+ghost use Rattle.dcx_elem.specs.OwnLaws.{kink_own};
+ghost use Rattle.dcx_elem.specs.FractionLaws.{kink_fraction_summands, kink_fraction_coefficients, kink_fraction_slopes};
 
 use crate::rows::{Piece, entrywise_graph};
 use dcx_atom::{
@@ -49,6 +52,16 @@ impl Atom for Kink {
     ghost subgradient = { λ kink. kink_subgradient kink };
 
     ghost recession = { λ kink. kink_recession kink };
+
+    ghost own_unknowns = { λ kink. kink_own kink };
+
+    ghost duality = { λ kink. kink_duality kink };
+
+    ghost fraction_summands = { λ kink. kink_fraction_summands kink };
+
+    ghost fraction_coefficients = { λ kink. kink_fraction_coefficients kink };
+
+    ghost fraction_slopes = { λ kink. kink_fraction_slopes kink };
 
     fn shape(&self, args: &[Shape]) -> Option<Shape> {
         only_shape(args)

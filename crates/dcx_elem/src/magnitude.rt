@@ -1,6 +1,9 @@
 //! The magnitude of each entry.
 ghost use Rattle.dcx_elem.specs.Kinks.{kink_meaning};
 ghost use Rattle.dcx_elem.specs.KinkLaws.{kink_formation, kink_sign, kink_monotonicity, kink_curvature, kink_soundness, kink_tightness, kink_subgradient, kink_recession};
+ghost use Rattle.dcx_elem.specs.KinkDualLaws.{kink_duality};
+ghost use Rattle.dcx_elem.specs.OwnLaws.{kink_own};
+ghost use Rattle.dcx_elem.specs.FractionLaws.{kink_fraction_summands, kink_fraction_coefficients, kink_fraction_slopes};
 
 use crate::kinks::Kink;
 use dcx_atom::{Array, Atom, Bend, Graph, Sign, SlopeStop, Trend, ValueStop};
@@ -32,6 +35,16 @@ impl Atom for Abs {
     ghost subgradient = { λ _. kink_subgradient Kink.Abs };
 
     ghost recession = { λ _. kink_recession Kink.Abs };
+
+    ghost own_unknowns = { λ _. kink_own Kink.Abs };
+
+    ghost duality = { λ _. kink_duality Kink.Abs };
+
+    ghost fraction_summands = { λ _. kink_fraction_summands Kink.Abs };
+
+    ghost fraction_coefficients = { λ _. kink_fraction_coefficients Kink.Abs };
+
+    ghost fraction_slopes = { λ _. kink_fraction_slopes Kink.Abs };
 
     fn shape(&self, args: &[Shape]) -> Option<Shape> {
         Kink::Abs.shape(args)

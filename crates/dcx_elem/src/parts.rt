@@ -1,6 +1,9 @@
 //! The part of each entry above 0, and the size of the part below 0.
 ghost use Rattle.dcx_elem.specs.Kinks.{kink_meaning};
 ghost use Rattle.dcx_elem.specs.KinkLaws.{kink_formation, kink_sign, kink_monotonicity, kink_curvature, kink_soundness, kink_tightness, kink_subgradient, kink_recession};
+ghost use Rattle.dcx_elem.specs.KinkDualLaws.{kink_duality};
+ghost use Rattle.dcx_elem.specs.OwnLaws.{kink_own};
+ghost use Rattle.dcx_elem.specs.FractionLaws.{kink_fraction_summands, kink_fraction_coefficients, kink_fraction_slopes};
 
 use crate::kinks::Kink;
 use dcx_atom::{Array, Atom, Bend, Graph, Sign, SlopeStop, Trend, ValueStop};
@@ -32,6 +35,16 @@ impl Atom for Pos {
     ghost subgradient = { λ _. kink_subgradient Kink.Pos };
 
     ghost recession = { λ _. kink_recession Kink.Pos };
+
+    ghost own_unknowns = { λ _. kink_own Kink.Pos };
+
+    ghost duality = { λ _. kink_duality Kink.Pos };
+
+    ghost fraction_summands = { λ _. kink_fraction_summands Kink.Pos };
+
+    ghost fraction_coefficients = { λ _. kink_fraction_coefficients Kink.Pos };
+
+    ghost fraction_slopes = { λ _. kink_fraction_slopes Kink.Pos };
 
     fn shape(&self, args: &[Shape]) -> Option<Shape> {
         Kink::Pos.shape(args)
@@ -92,6 +105,16 @@ impl Atom for Neg {
     ghost subgradient = { λ _. kink_subgradient Kink.Neg };
 
     ghost recession = { λ _. kink_recession Kink.Neg };
+
+    ghost own_unknowns = { λ _. kink_own Kink.Neg };
+
+    ghost duality = { λ _. kink_duality Kink.Neg };
+
+    ghost fraction_summands = { λ _. kink_fraction_summands Kink.Neg };
+
+    ghost fraction_coefficients = { λ _. kink_fraction_coefficients Kink.Neg };
+
+    ghost fraction_slopes = { λ _. kink_fraction_slopes Kink.Neg };
 
     fn shape(&self, args: &[Shape]) -> Option<Shape> {
         Kink::Neg.shape(args)

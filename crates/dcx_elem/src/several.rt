@@ -2,6 +2,9 @@
 ghost use Rattle.std.specs.Prelude.{◌≡◌};
 ghost use Rattle.dcx_elem.specs.Extremes.{extreme_meaning};
 ghost use Rattle.dcx_elem.specs.ExtremeLaws.{extreme_formation, extreme_sign_law, extreme_monotonicity, extreme_curvature, extreme_soundness, extreme_tightness, extreme_subgradient, extreme_recession};
+ghost use Rattle.dcx_elem.specs.ExtremeDualLaws.{extreme_duality};
+ghost use Rattle.dcx_elem.specs.OwnLaws.{extreme_own};
+ghost use Rattle.dcx_elem.specs.FractionLaws.{extreme_fraction_summands, extreme_fraction_coefficients, extreme_fraction_slopes};
 
 use crate::extremes::Extreme;
 use dcx_atom::{Array, Atom, Bend, Graph, Sign, SlopeStop, Trend, ValueStop};
@@ -48,6 +51,16 @@ impl Atom for Maximum {
     ghost subgradient = { λ x. extreme_subgradient Bend.Convex x.count };
 
     ghost recession = { λ x. extreme_recession Bend.Convex x.count };
+
+    ghost own_unknowns = { λ x. extreme_own Bend.Convex x.count };
+
+    ghost duality = { λ x. extreme_duality Bend.Convex x.count };
+
+    ghost fraction_summands = { λ x. extreme_fraction_summands Bend.Convex x.count };
+
+    ghost fraction_coefficients = { λ x. extreme_fraction_coefficients Bend.Convex x.count };
+
+    ghost fraction_slopes = { λ x. extreme_fraction_slopes Bend.Convex x.count };
 
     fn shape(&self, args: &[Shape]) -> Option<Shape> {
         self.extreme().shape(args)
@@ -123,6 +136,16 @@ impl Atom for Minimum {
     ghost subgradient = { λ x. extreme_subgradient Bend.Concave x.count };
 
     ghost recession = { λ x. extreme_recession Bend.Concave x.count };
+
+    ghost own_unknowns = { λ x. extreme_own Bend.Concave x.count };
+
+    ghost duality = { λ x. extreme_duality Bend.Concave x.count };
+
+    ghost fraction_summands = { λ x. extreme_fraction_summands Bend.Concave x.count };
+
+    ghost fraction_coefficients = { λ x. extreme_fraction_coefficients Bend.Concave x.count };
+
+    ghost fraction_slopes = { λ x. extreme_fraction_slopes Bend.Concave x.count };
 
     fn shape(&self, args: &[Shape]) -> Option<Shape> {
         self.extreme().shape(args)

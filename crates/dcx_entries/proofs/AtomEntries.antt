@@ -21,10 +21,12 @@ use Rattle.dcx_entries.proofs.Each.{each_more, each_stops, at_entry_stops, OnSto
 use Rattle.dcx_entries.proofs.OwnRows.{AreLeft, own_count, own_then_left, made_of_own, list_below_at}
 use Rattle.dcx_entries.proofs.Places.{parts_of_row}
 
-module _ {C : Type 0} (of_number : Frac → C) (number_of : C → Option Frac) (Sums : C → C → Result C Passes → Type 0) (Changes : Change → C → Result C Passes → Type 0) (args : Arguments C) (first : ℕ) where
+module _ {C : Type 0} (of_number : Frac → C) (number_of : C → Option Frac) (Sums : C → C → Result C Passes → Type 0) (Changes : Change → C → Result C Passes → Type 0) (args : Arguments C)
+    (first : ℕ) where
   -- entry j, as the contract says it
   abbrev pub AtomGives : Meaning → List Sides → ℕ → Result (EntryForms C) ValueStop → Type 0
-  AtomGives m sides j r = AtEntry j (AtomEntry of_number number_of Sums Changes (map (aux_part of_number first) (m.result sides j)) (map (λ row. map (row_part of_number args first) row) (m.rows sides j))) r
+  AtomGives m sides j r =
+      AtEntry j (AtomEntry of_number number_of Sums Changes (map (aux_part of_number first) (m.result sides j)) (map (λ row. map (row_part of_number args first) row) (m.rows sides j))) r
 
   -- an entry, as it is formed from these terms and rows
   abbrev pub CodeGives : List AuxTerm → List GraphRow → Result (EntryForms C) Passes → Type 0
@@ -44,17 +46,23 @@ module _ {C : Type 0} (of_number : Frac → C) (number_of : C → Option Frac) (
         ∙ ap (λ rs. map (λ row. map (row_part of_number args first) row) (map (λ r. map row_term r.terms) rs)) own_is
         ∙ ap (λ rows. map (λ row. map (row_part of_number args first) row) rows) (own_then_left (m.rows sides) j size rest lt left).own
 
-    here : (r : Result (EntryForms C) Passes) → CodeGives terms own r → AtomEntry of_number number_of Sums Changes (map (aux_part of_number first) (m.result sides j)) (map (λ row. map (row_part of_number args first) row) (m.rows sides j)) r
+    here : (r : Result (EntryForms C) Passes) → CodeGives terms own r → AtomEntry of_number number_of Sums Changes (map (aux_part of_number first) (m.result sides j))
+        (map (λ row. map (row_part of_number args first) row) (m.rows sides j)) r
     here r h =
         subst (λ x. AtomEntry of_number number_of Sums Changes (map (aux_part of_number first) x) (map (λ row. map (row_part of_number args first) row) (m.rows sides j)) r) result_is
         (subst (λ y. AtomEntry of_number number_of Sums Changes (map (aux_part of_number first) (map form_term terms)) y r) rows_are h)
 
-    pub atom_more : (formed : List (EntryForms C)) (entry : EntryForms C) → FormsEach (AtomGives m sides) j (Ok formed) → CodeGives terms own (Ok entry) → FormsEach (AtomGives m sides) (j + 1) (Ok (formed ++ entry ∷ []))
+    pub atom_more : (formed : List (EntryForms C)) (entry : EntryForms C) → FormsEach (AtomGives m sides) j (Ok formed) → CodeGives terms own (Ok entry)
+        → FormsEach (AtomGives m sides) (j + 1) (Ok (formed ++ entry ∷ []))
     atom_more formed entry h f = each_more (AtomGives m sides) j formed entry h (here (Ok entry) f)
 
-    pub atom_stops : (formed : List (EntryForms C)) (stop : CoefStop) → FormsEach (AtomGives m sides) j (Ok formed) → OnPass stop (λ passes. CodeGives terms own (Err passes)) → OnStop (stop_at j stop) (λ e. FormsEach (AtomGives m sides) size (Err e))
+    pub atom_stops : (formed : List (EntryForms C)) (stop : CoefStop) → FormsEach (AtomGives m sides) j (Ok formed) → OnPass stop (λ passes. CodeGives terms own (Err passes))
+        → OnStop (stop_at j stop) (λ e. FormsEach (AtomGives m sides) size (Err e))
     atom_stops formed stop h f =
         OnStop-weaker (stop_at j stop) (λ e. AtomGives m sides j (Err e)) (λ e. FormsEach (AtomGives m sides) size (Err e))
         (λ e q. each_stops (AtomGives m sides) size j formed e h lt q)
-        (at_entry_stops (λ r. AtomEntry of_number number_of Sums Changes (map (aux_part of_number first) (m.result sides j)) (map (λ row. map (row_part of_number args first) row) (m.rows sides j)) r) j stop
-        (OnPass-weaker stop (λ passes. CodeGives terms own (Err passes)) (λ passes. AtomEntry of_number number_of Sums Changes (map (aux_part of_number first) (m.result sides j)) (map (λ row. map (row_part of_number args first) row) (m.rows sides j)) (Err passes)) (λ passes q. here (Err passes) q) f))
+        (at_entry_stops (λ r. AtomEntry of_number number_of Sums Changes (map (aux_part of_number first) (m.result sides j))
+        (map (λ row. map (row_part of_number args first) row) (m.rows sides j)) r) j stop
+        (OnPass-weaker stop (λ passes. CodeGives terms own (Err passes))
+        (λ passes. AtomEntry of_number number_of Sums Changes (map (aux_part of_number first) (m.result sides j)) (map (λ row. map (row_part of_number args first) row) (m.rows sides j))
+        (Err passes)) (λ passes q. here (Err passes) q) f))

@@ -1,5 +1,6 @@
 -- Entries that are formed one after the other.
-use Rattle.std.proofs.Common.{◌≡◌, ℕ, zero, suc, ◌+◌, ◌<◌, ◌≤◌, ◌⊎◌, List, [], ◌∷◌, ◌++◌, map, slice_index_or, Some, None, Result, Ok, Err, IfOk, length, get_or, slice_get, inl, inr, refl, sym, ap, ◌∙◌, subst, arith, length-append}
+use Rattle.std.proofs.Common.{◌≡◌, ℕ, zero, suc, ◌+◌, ◌<◌, ◌≤◌, ◌⊎◌, List, [], ◌∷◌, ◌++◌, map, slice_index_or, Some, None, Result, Ok, Err}
+use Rattle.std.proofs.Common.{IfOk, length, get_or, slice_get, inl, inr, refl, sym, ap, ◌∙◌, subst, arith, length-append}
 use Rattle.std.proofs.lemmas.List.{length-map}
 use Rattle.std.proofs.lemmas.Option.{slice_get_within, slice_get_cases}
 use Rattle.dcx_frac.specs.declared.fraction.Passes.{Passes}
@@ -93,7 +94,8 @@ module _ {P A : Type 0} (xs : List P) (none : P) (F : P → Result A Passes → 
     pub entry_more : (formed : List A) (a : A) → FormsEach EntryOf k (Ok formed) → F x (Ok a) → FormsEach EntryOf (k + 1) (Ok (formed ++ a ∷ []))
     entry_more formed a h f = each_more EntryOf k formed a h (subst (λ p. F p (Ok a)) (sym at) f)
 
-    pub entry_stops : (n : ℕ) → k < n → (formed : List A) (stop : CoefStop) → FormsEach EntryOf k (Ok formed) → OnPass stop (λ passes. F x (Err passes)) → OnStop (stop_at k stop) (λ e. FormsEach EntryOf n (Err e))
+    pub entry_stops : (n : ℕ) → k < n → (formed : List A) (stop : CoefStop) → FormsEach EntryOf k (Ok formed) → OnPass stop (λ passes. F x (Err passes))
+        → OnStop (stop_at k stop) (λ e. FormsEach EntryOf n (Err e))
     entry_stops n lt formed stop h f =
         OnStop-weaker (stop_at k stop) (λ e. AtEntry k (F x) (Err e)) (λ e. FormsEach EntryOf n (Err e))
         (λ e q. each_stops EntryOf n k formed e h lt (subst (λ p. AtEntry k (F p) (Err e)) (sym at) q)) (at_entry_stops (F x) k stop f)

@@ -1,4 +1,4 @@
--- Lemmas of this crate.
+-- The lemmas by which entries are formed one after the other, in one way, and are worth what they should be.
 pub mod AtomEntries
 pub mod Each
 pub mod EntryValues

@@ -76,53 +76,69 @@ one_adds_each Add one [] f r s h k = h ∙ sym k
 one_adds_each Add one (x ∷ xs) f r s h k = one_follows (Add x f) (λ g q. adds_each Add xs g q) (one x f) (λ g. one_adds_each Add one xs g) r s h k
 
 module _ {C : Type 0} (of_number : Frac → C) (number_of : C → Option Frac) (Sums : C → C → Result C Passes → Type 0) (Changes : Change → C → Result C Passes → Type 0)
-    (one_sum : (a b : C) (r s : Result C Passes) → Sums a b r → Sums a b s → r ≡ s) (one_change : (change : Change) (a : C) (r s : Result C Passes) → Changes change a r → Changes change a s → r ≡ s) where
+    (one_sum : (a b : C) (r s : Result C Passes) → Sums a b r → Sums a b s → r ≡ s)
+    (one_change : (change : Change) (a : C) (r s : Result C Passes) → Changes change a r → Changes change a s → r ≡ s) where
   one_parts_sum : (parts : List (Change × Form C)) (r s : Result (Form C) Passes) → sums_parts of_number number_of Sums Changes parts r → sums_parts of_number number_of Sums Changes parts s → r ≡ s
   one_parts_sum parts r s h k = one_parts number_of Sums Changes one_sum one_change parts (zero_form of_number) r s h k
 
-  one_linear : (parts : List (Change × Form C)) (r s : Result (EntryForms C) Passes) → LinearEntry of_number number_of Sums Changes parts r → LinearEntry of_number number_of Sums Changes parts s → r ≡ s
+  one_linear : (parts : List (Change × Form C)) (r s : Result (EntryForms C) Passes) → LinearEntry of_number number_of Sums Changes parts r → LinearEntry of_number number_of Sums Changes parts s
+      → r ≡ s
   one_linear parts r s h k = one_follows (sums_parts of_number number_of Sums Changes parts) (λ f q. q ≡ Ok (alone f)) (one_parts_sum parts) (λ f r s h k. h ∙ sym k) r s h k
 
   one_rows : (lists : List (List (Change × Form C))) (r s : Result (List (Form C)) Passes) → EachSum of_number number_of Sums Changes lists r → EachSum of_number number_of Sums Changes lists s → r ≡ s
   one_rows lists r s h k = one_each (λ j q. sums_parts of_number number_of Sums Changes (slice_index_or lists j []) q) (λ j. one_parts_sum (slice_index_or lists j [])) (length lists) r s h k
 
-  one_atom : (result : List (Change × Form C)) (rows : List (List (Change × Form C))) (r s : Result (EntryForms C) Passes) → AtomEntry of_number number_of Sums Changes result rows r → AtomEntry of_number number_of Sums Changes result rows s → r ≡ s
+  one_atom : (result : List (Change × Form C)) (rows : List (List (Change × Form C))) (r s : Result (EntryForms C) Passes) → AtomEntry of_number number_of Sums Changes result rows r
+      → AtomEntry of_number number_of Sums Changes result rows s → r ≡ s
   one_atom result rows r s h k =
-      one_follows (sums_parts of_number number_of Sums Changes result) (λ f q. Follows (EachSum of_number number_of Sums Changes rows) (λ gs s. s ≡ Ok (record { form = f; rows = gs })) q) (one_parts_sum result)
+      one_follows (sums_parts of_number number_of Sums Changes result) (λ f q. Follows (EachSum of_number number_of Sums Changes rows) (λ gs s. s ≡ Ok (record { form = f; rows = gs })) q)
+      (one_parts_sum result)
       (λ f. one_follows (EachSum of_number number_of Sums Changes rows) (λ gs s. s ≡ Ok (record { form = f; rows = gs })) (one_rows rows) (λ gs r s h k. h ∙ sym k)) r s h k
 
   one_added : (part : Change × Form C) (f : Form C) (r s : Result (Form C) Passes) → adds number_of Sums Changes part f r → adds number_of Sums Changes part f s → r ≡ s
   one_added part f r s h k =
-      one_follows (change_gives_linear number_of Changes part.0 part.1) (sum_gives_linear number_of Sums f) (one_linear_change number_of Changes one_change part.0 part.1) (λ x. one_linear_sum number_of Sums one_sum f x) r s h k
+      one_follows (change_gives_linear number_of Changes part.0 part.1) (sum_gives_linear number_of Sums f) (one_linear_change number_of Changes one_change part.0 part.1)
+      (λ x. one_linear_sum number_of Sums one_sum f x) r s h k
 
   one_multiple_added : (c : C) (g f : Form C) (r s : Result (Form C) Passes) → adds_multiple number_of Sums Changes c g f r → adds_multiple number_of Sums Changes c g f s → r ≡ s
   one_multiple_added c g f r s h k =
       one_follows (multiple_gives number_of Changes c g) (sum_gives_linear number_of Sums f) (one_multiple number_of Changes c one_change g) (λ x. one_linear_sum number_of Sums one_sum f x) r s h k
 
   module _ (args : Arguments C) where
-    one_pair : (scaling : Scaling) (x : Pair) (f : Form C) (r s : Result (Form C) Passes) → adds_pair number_of Sums Changes scaling args x f r → adds_pair number_of Sums Changes scaling args x f s → r ≡ s
+    one_pair : (scaling : Scaling) (x : Pair) (f : Form C) (r s : Result (Form C) Passes) → adds_pair number_of Sums Changes scaling args x f r → adds_pair number_of Sums Changes scaling args x f s
+        → r ≡ s
     one_pair LeftNumber x f r s h k = one_added (left_scaled number_of args x) f r s h k
     one_pair RightNumber x f r s h k = one_added (right_scaled number_of args x) f r s h k
     one_pair LeftAffine x f r s h k = one_multiple_added (args 0 x.left).constant (args 1 x.right) f r s h k
     one_pair RightAffine x f r s h k = one_multiple_added (args 1 x.right).constant (args 0 x.left) f r s h k
     one_pair Divisor x f r s h k = one_added (divided number_of args x) f r s h k
 
-    one_pair_sum : (scaling : Scaling) (pairs : List Pair) (r s : Result (EntryForms C) Passes) → PairSum of_number number_of Sums Changes scaling args pairs r → PairSum of_number number_of Sums Changes scaling args pairs s → r ≡ s
+    one_pair_sum : (scaling : Scaling) (pairs : List Pair) (r s : Result (EntryForms C) Passes) → PairSum of_number number_of Sums Changes scaling args pairs r
+        → PairSum of_number number_of Sums Changes scaling args pairs s → r ≡ s
     one_pair_sum scaling pairs r s h k =
         one_follows (adds_each (adds_pair number_of Sums Changes scaling args) pairs (zero_form of_number)) (λ f q. q ≡ Ok (alone f))
         (one_adds_each (adds_pair number_of Sums Changes scaling args) (one_pair scaling) pairs (zero_form of_number)) (λ f r s h k. h ∙ sym k) r s h k
 
-    one_pair_by : (zero : Bool) (scaling : Scaling) (pairs : List Pair) (j : ℕ) (r s : Result (EntryForms C) ValueStop) → PairEntryBy of_number number_of Sums Changes zero scaling args pairs j r → PairEntryBy of_number number_of Sums Changes zero scaling args pairs j s → r ≡ s
+    one_pair_by : (zero : Bool) (scaling : Scaling) (pairs : List Pair) (j : ℕ) (r s : Result (EntryForms C) ValueStop) → PairEntryBy of_number number_of Sums Changes zero scaling args pairs j r
+        → PairEntryBy of_number number_of Sums Changes zero scaling args pairs j s → r ≡ s
     one_pair_by true scaling pairs j r s h k = h ∙ sym k
     one_pair_by false scaling pairs j r s h k = one_at_entry (PairSum of_number number_of Sums Changes scaling args pairs) (one_pair_sum scaling pairs) j r s h k
 
   -- ---- all entries
-  pub one_linear_entries : (parts : ℕ → List (Change × Form C)) (n : ℕ) (r s : Result (List (EntryForms C)) ValueStop) → FormsEach (λ j. AtEntry j (LinearEntry of_number number_of Sums Changes (parts j))) n r → FormsEach (λ j. AtEntry j (LinearEntry of_number number_of Sums Changes (parts j))) n s → r ≡ s
-  one_linear_entries parts n r s h k = one_each (λ j q. AtEntry j (LinearEntry of_number number_of Sums Changes (parts j)) q) (λ j. one_at_entry (LinearEntry of_number number_of Sums Changes (parts j)) (one_linear (parts j)) j) n r s h k
+  pub one_linear_entries : (parts : ℕ → List (Change × Form C)) (n : ℕ) (r s : Result (List (EntryForms C)) ValueStop)
+      → FormsEach (λ j. AtEntry j (LinearEntry of_number number_of Sums Changes (parts j))) n r → FormsEach (λ j. AtEntry j (LinearEntry of_number number_of Sums Changes (parts j))) n s → r ≡ s
+  one_linear_entries parts n r s h k =
+      one_each (λ j q. AtEntry j (LinearEntry of_number number_of Sums Changes (parts j)) q)
+      (λ j. one_at_entry (LinearEntry of_number number_of Sums Changes (parts j)) (one_linear (parts j)) j) n r s h k
 
-  pub one_atom_entries : (results : ℕ → List (Change × Form C)) (rows : ℕ → List (List (Change × Form C))) (n : ℕ) (r s : Result (List (EntryForms C)) ValueStop) → FormsEach (λ j. AtEntry j (AtomEntry of_number number_of Sums Changes (results j) (rows j))) n r → FormsEach (λ j. AtEntry j (AtomEntry of_number number_of Sums Changes (results j) (rows j))) n s → r ≡ s
-  one_atom_entries results rows n r s h k = one_each (λ j q. AtEntry j (AtomEntry of_number number_of Sums Changes (results j) (rows j)) q) (λ j. one_at_entry (AtomEntry of_number number_of Sums Changes (results j) (rows j)) (one_atom (results j) (rows j)) j) n r s h k
+  pub one_atom_entries : (results : ℕ → List (Change × Form C)) (rows : ℕ → List (List (Change × Form C))) (n : ℕ) (r s : Result (List (EntryForms C)) ValueStop)
+      → FormsEach (λ j. AtEntry j (AtomEntry of_number number_of Sums Changes (results j) (rows j))) n r
+      → FormsEach (λ j. AtEntry j (AtomEntry of_number number_of Sums Changes (results j) (rows j))) n s → r ≡ s
+  one_atom_entries results rows n r s h k =
+      one_each (λ j q. AtEntry j (AtomEntry of_number number_of Sums Changes (results j) (rows j)) q)
+      (λ j. one_at_entry (AtomEntry of_number number_of Sums Changes (results j) (rows j)) (one_atom (results j) (rows j)) j) n r s h k
 
-  pub one_pair_entries : (scaling : Scaling) (args : Arguments C) (pairs : ℕ → List Pair) (n : ℕ) (r s : Result (List (EntryForms C)) ValueStop) → FormsEach (λ j. PairEntry of_number number_of Sums Changes scaling args (pairs j) j) n r → FormsEach (λ j. PairEntry of_number number_of Sums Changes scaling args (pairs j) j) n s → r ≡ s
+  pub one_pair_entries : (scaling : Scaling) (args : Arguments C) (pairs : ℕ → List Pair) (n : ℕ) (r s : Result (List (EntryForms C)) ValueStop)
+      → FormsEach (λ j. PairEntry of_number number_of Sums Changes scaling args (pairs j) j) n r → FormsEach (λ j. PairEntry of_number number_of Sums Changes scaling args (pairs j) j) n s → r ≡ s
   one_pair_entries scaling args pairs n r s h k = one_each (λ j q. PairEntry of_number number_of Sums Changes scaling args (pairs j) j q)
       (λ j. one_pair_by args (list_any (has_zero_divisor number_of scaling args) (pairs j)) scaling (pairs j) j) n r s h k

@@ -18,16 +18,19 @@ item_is [] i d lt = absurd (omega (arith, lt))
 item_is (x ∷ xs) zero d lt = refl
 item_is (x ∷ xs) (suc i) d lt = item_is xs i d (omega (arith, lt))
 
-module _ {C : Type 0} (of_number : Frac → C) (number_of : C → Option Frac) (Sums : C → C → Result C Passes → Type 0) (Changes : Change → C → Result C Passes → Type 0) (scaling : Scaling) (args : Arguments C) (pairs : List (List Pair)) where
+module _ {C : Type 0} (of_number : Frac → C) (number_of : C → Option Frac) (Sums : C → C → Result C Passes → Type 0) (Changes : Change → C → Result C Passes → Type 0) (scaling : Scaling)
+    (args : Arguments C) (pairs : List (List Pair)) where
   -- entry j, as the contract says it
   abbrev pub PairGives : ℕ → Result (EntryForms C) ValueStop → Type 0
   PairGives j r = PairEntry of_number number_of Sums Changes scaling args (slice_index_or pairs j []) j r
 
   module _ (j : ℕ) (own : List Pair) (at : slice_index_or pairs j [] ≡ own) where
-    pub pair_more : (formed : List (EntryForms C)) (entry : EntryForms C) → FormsEach PairGives j (Ok formed) → PairEntry of_number number_of Sums Changes scaling args own j (Ok entry) → FormsEach PairGives (j + 1) (Ok (formed ++ entry ∷ []))
+    pub pair_more : (formed : List (EntryForms C)) (entry : EntryForms C) → FormsEach PairGives j (Ok formed) → PairEntry of_number number_of Sums Changes scaling args own j (Ok entry)
+        → FormsEach PairGives (j + 1) (Ok (formed ++ entry ∷ []))
     pair_more formed entry h f = each_more PairGives j formed entry h (subst (λ ps. PairEntry of_number number_of Sums Changes scaling args ps j (Ok entry)) (sym at) f)
 
-    pub pair_stops : (n : ℕ) → j < n → (formed : List (EntryForms C)) (stop : ValueStop) → FormsEach PairGives j (Ok formed) → OnStop stop (λ e. PairEntry of_number number_of Sums Changes scaling args own j (Err e)) → OnStop stop (λ e. FormsEach PairGives n (Err e))
+    pub pair_stops : (n : ℕ) → j < n → (formed : List (EntryForms C)) (stop : ValueStop) → FormsEach PairGives j (Ok formed)
+        → OnStop stop (λ e. PairEntry of_number number_of Sums Changes scaling args own j (Err e)) → OnStop stop (λ e. FormsEach PairGives n (Err e))
     pair_stops n lt formed stop h f =
         OnStop-weaker stop (λ e. PairEntry of_number number_of Sums Changes scaling args own j (Err e)) (λ e. FormsEach PairGives n (Err e))
         (λ e q. each_stops PairGives n j formed e h lt (subst (λ ps. PairEntry of_number number_of Sums Changes scaling args ps j (Err e)) (sym at) q)) f

@@ -1,4 +1,4 @@
--- What the contracts of this crate cite.
+-- What contracts cite: the forms of a node's entries, the parts that they are sums of, and where forming stops.
 pub mod Forming
 pub mod Entries
 pub mod Standing

@@ -21,7 +21,8 @@ abbrev pub adds_multiple : {C : Type 0} → (C → Option Frac) → (C → C →
 adds_multiple number_of Sums Changes c f so_far = Follows (multiple_gives number_of Changes c f) (sum_gives_linear number_of Sums so_far)
 
 -- what adding a pair of a product or a quotient answers
-abbrev pub adds_pair : {C : Type 0} → (C → Option Frac) → (C → C → Result C Passes → Type 0) → (Change → C → Result C Passes → Type 0) → Scaling → Arguments C → Pair → Form C → Result (Form C) Passes → Type 0
+abbrev pub adds_pair : {C : Type 0} → (C → Option Frac) → (C → C → Result C Passes → Type 0) → (Change → C → Result C Passes → Type 0) → Scaling → Arguments C → Pair → Form C
+    → Result (Form C) Passes → Type 0
 adds_pair number_of Sums Changes LeftNumber args x so_far r = adds number_of Sums Changes (left_scaled number_of args x) so_far r
 adds_pair number_of Sums Changes RightNumber args x so_far r = adds number_of Sums Changes (right_scaled number_of args x) so_far r
 adds_pair number_of Sums Changes LeftAffine args x so_far r = adds_multiple number_of Sums Changes (args 0 x.left).constant (args 1 x.right) so_far r

@@ -64,7 +64,8 @@ fn row_forms<C: Coef>(
 ) -> Result<FormList<C>, CoefStop>
     requires zero { sum.old ≡ zero_form C.of_number }
     requires there { All (λ r. All (λ t. IsOperand first t.operand) r.terms) rows.now }
-    ensures forms { Gives result (EachSum C.of_number C.number_of C.sum_gives C.change_gives (map (λ r. map (row_part C.of_number (args_of C.of_number args.now) first) (map row_term r.terms)) rows.now)) }
+    ensures forms { Gives result (EachSum C.of_number C.number_of C.sum_gives C.change_gives
+        (map (λ r. map (row_part C.of_number (args_of C.of_number args.now) first) (map row_term r.terms)) rows.now)) }
     ensures zero { OnOk result (sum.new ≡ zero_form C.of_number) }
 {
     let mut forms = Vec::new(alloc);
@@ -87,7 +88,8 @@ fn atom_entry<C: Coef>(
     requires zero { sum.old ≡ zero_form C.of_number }
     requires few { All (λ t. first + t.aux < 2 ^ 32) terms.now }
     requires there { All (λ r. All (λ t. IsOperand first t.operand) r.terms) rows.now }
-    ensures entry { Gives result (AtomEntry C.of_number C.number_of C.sum_gives C.change_gives (map (aux_part C.of_number first) (map form_term terms.now)) (map (λ r. map (row_part C.of_number (args_of C.of_number args.now) first) (map row_term r.terms)) rows.now)) }
+    ensures entry { Gives result (AtomEntry C.of_number C.number_of C.sum_gives C.change_gives (map (aux_part C.of_number first) (map form_term terms.now))
+        (map (λ r. map (row_part C.of_number (args_of C.of_number args.now) first) (map row_term r.terms)) rows.now)) }
     ensures zero { OnOk result (sum.new ≡ zero_form C.of_number) }
 {
     let form = result_form(alloc, sum, first, terms)?;
@@ -116,7 +118,10 @@ pub fn atom_entries<C: Coef>(
     requires size { length graph.now.results ≡ size }
     requires few { All (λ ts. All (λ t. first + t.aux < 2 ^ 32) ts) graph.now.results }
     requires there { All (λ r. All (λ t. IsOperand first t.operand) r.terms) graph.now.rows }
-    ensures { (m : Meaning) (sides : List Sides) → IsGraphOf m sides size graph.now → IsFormed result (FormsEach (λ j. AtEntry j (AtomEntry C.of_number C.number_of C.sum_gives C.change_gives (map (aux_part C.of_number first) (m.result sides j)) (map (λ row. map (row_part C.of_number (args_of C.of_number args.now) first) row) (m.rows sides j)))) size) }
+    ensures { (m : Meaning) (sides : List Sides) → IsGraphOf m sides size graph.now
+        → IsFormed result (FormsEach
+        (λ j. AtEntry j (AtomEntry C.of_number C.number_of C.sum_gives C.change_gives (map (aux_part C.of_number first) (m.result sides j))
+        (map (λ row. map (row_part C.of_number (args_of C.of_number args.now) first) row) (m.rows sides j)))) size) }
 {
     let mut sum = Accumulator::new(alloc);
     let mut entries = Vec::new(alloc);

@@ -21,21 +21,29 @@ use dcx_linear::Coef;
 
 /// The entries of a linear call have one answer: one list of forms, or one entry that stops with one operation.
 pub fn one_list_of_linear_entries<C: Coef>()
-    ensures { (parts : ℕ → List (Change × Form C)) (n : ℕ) (r s : Result (List (EntryForms C)) ValueStop) → FormsEach (λ j. AtEntry j (LinearEntry C.of_number C.number_of C.sum_gives C.change_gives (parts j))) n r → FormsEach (λ j. AtEntry j (LinearEntry C.of_number C.number_of C.sum_gives C.change_gives (parts j))) n s → r ≡ s }
+    ensures { (parts : ℕ → List (Change × Form C)) (n : ℕ) (r s : Result (List (EntryForms C)) ValueStop)
+        → FormsEach (λ j. AtEntry j (LinearEntry C.of_number C.number_of C.sum_gives C.change_gives (parts j))) n r
+        → FormsEach (λ j. AtEntry j (LinearEntry C.of_number C.number_of C.sum_gives C.change_gives (parts j))) n s → r ≡ s }
 {}
 
 /// The entries of an atom have one answer: one list of forms and rows, or one entry that stops with one operation.
 pub fn one_list_of_atom_entries<C: Coef>()
-    ensures { (results : ℕ → List (Change × Form C)) (rows : ℕ → List (List (Change × Form C))) (n : ℕ) (r s : Result (List (EntryForms C)) ValueStop) → FormsEach (λ j. AtEntry j (AtomEntry C.of_number C.number_of C.sum_gives C.change_gives (results j) (rows j))) n r → FormsEach (λ j. AtEntry j (AtomEntry C.of_number C.number_of C.sum_gives C.change_gives (results j) (rows j))) n s → r ≡ s }
+    ensures { (results : ℕ → List (Change × Form C)) (rows : ℕ → List (List (Change × Form C))) (n : ℕ) (r s : Result (List (EntryForms C)) ValueStop)
+        → FormsEach (λ j. AtEntry j (AtomEntry C.of_number C.number_of C.sum_gives C.change_gives (results j) (rows j))) n r
+        → FormsEach (λ j. AtEntry j (AtomEntry C.of_number C.number_of C.sum_gives C.change_gives (results j) (rows j))) n s → r ≡ s }
 {}
 
 /// The entries of a product or a quotient have one answer: one list of forms, or one entry that stops with one operation or with
 /// a divisor of 0.
 pub fn one_list_of_pair_entries<C: Coef>()
-    ensures { (scaling : Scaling) (args : Arguments C) (pairs : ℕ → List Pair) (n : ℕ) (r s : Result (List (EntryForms C)) ValueStop) → FormsEach (λ j. PairEntry C.of_number C.number_of C.sum_gives C.change_gives scaling args (pairs j) j) n r → FormsEach (λ j. PairEntry C.of_number C.number_of C.sum_gives C.change_gives scaling args (pairs j) j) n s → r ≡ s }
+    ensures { (scaling : Scaling) (args : Arguments C) (pairs : ℕ → List Pair) (n : ℕ) (r s : Result (List (EntryForms C)) ValueStop)
+        → FormsEach (λ j. PairEntry C.of_number C.number_of C.sum_gives C.change_gives scaling args (pairs j) j) n r
+        → FormsEach (λ j. PairEntry C.of_number C.number_of C.sum_gives C.change_gives scaling args (pairs j) j) n s → r ≡ s }
 {}
 
 /// The form of an entry of a linear call is the sum of its terms over the forms of the arguments, at all unknowns and parameters.
 pub fn linear_entries_are_sums<C: Coef>()
-    ensures { (args : Arguments C) (terms : List Triple) (e : EntryForms C) (x : Unknowns) (p : Parameters) → LinearEntry C.of_number C.number_of C.sum_gives C.change_gives (map (term_part args) (map linear_term terms)) (Ok e) → linear_value C.value_at e.form x p ≡ terms_at (map linear_term terms) (λ k j. linear_value C.value_at (args k j) x p) }
+    ensures { (args : Arguments C) (terms : List Triple) (e : EntryForms C) (x : Unknowns) (p : Parameters)
+        → LinearEntry C.of_number C.number_of C.sum_gives C.change_gives (map (term_part args) (map linear_term terms)) (Ok e)
+        → linear_value C.value_at e.form x p ≡ terms_at (map linear_term terms) (λ k j. linear_value C.value_at (args k j) x p) }
 {}

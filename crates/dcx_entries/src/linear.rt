@@ -41,7 +41,8 @@ pub fn linear_entries<C: Coef>(
     size: u32,
 ) -> Result<EntryList<C>, ValueStop>
     requires { length terms.now ≡ size }
-    ensures { IsFormed result (FormsEach (λ j. AtEntry j (LinearEntry C.of_number C.number_of C.sum_gives C.change_gives (map (term_part (args_of C.of_number args.now)) (map linear_term (slice_index_or terms.now j []))))) size) }
+    ensures { IsFormed result (FormsEach
+        (λ j. AtEntry j (LinearEntry C.of_number C.number_of C.sum_gives C.change_gives (map (term_part (args_of C.of_number args.now)) (map linear_term (slice_index_or terms.now j []))))) size) }
 {
     let mut sum = Accumulator::new(alloc);
     let mut entries = Vec::new(alloc);

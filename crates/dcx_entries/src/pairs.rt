@@ -29,7 +29,8 @@ fn add_multiple<C: Coef>(
     scaled: (u32, u32),
 ) -> Result<(), CoefStop>
     requires { HasNumbers C.number_of (args_of C.of_number args.now scaled.0 scaled.1) }
-    ensures { GivesBy result (λ _. sum.new) (adds_multiple C.number_of C.sum_gives C.change_gives (args_of C.of_number args.now scaler.0 scaler.1).constant (args_of C.of_number args.now scaled.0 scaled.1) sum.old) }
+    ensures { GivesBy result (λ _. sum.new) (adds_multiple C.number_of C.sum_gives C.change_gives (args_of C.of_number args.now scaler.0 scaler.1).constant
+        (args_of C.of_number args.now scaled.0 scaled.1) sum.old) }
 {
     let coefficient = argument_constant(alloc, args, scaler.0, scaler.1)?;
     let part = multiple_of_argument(alloc, args, scaled.0, scaled.1, &coefficient)?;

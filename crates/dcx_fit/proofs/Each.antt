@@ -81,7 +81,8 @@ module _ (given : Pairs) (q : Parameter) (x : Array) (there : array_of given q.n
 
   of_its_shape : sides_of x.shape ≡ sides_of q.shape → IsMet given q ⊎ HasFault given q
   of_its_shape same =
-      elim (first_below (KeepsAt q.attribute (sides_of q.shape) (number_at x.entries)) (LeavesAt q.attribute (sides_of q.shape) (number_at x.entries)) (entries_of (sides_of q.shape)) (entries_hold.either q.attribute (sides_of q.shape) (number_at x.entries))) [
+      elim (first_below (KeepsAt q.attribute (sides_of q.shape) (number_at x.entries)) (LeavesAt q.attribute (sides_of q.shape) (number_at x.entries))
+      (entries_of (sides_of q.shape)) (entries_hold.either q.attribute (sides_of q.shape) (number_at x.entries))) [
         | inl all ↦ inl (met given q x there same (all_keep q.attribute (sides_of q.shape) (number_at x.entries) all))
         | inr (k, lt, leaves, before) ↦ inr (broken same k (record { there = lt; leaves = leaves; before = before }))
       ]

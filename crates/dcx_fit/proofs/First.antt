@@ -44,7 +44,8 @@ module _ (given : Pairs) (q : Parameter) where
   data Wrong (stop : Stop) : Type 0 where
     missing : array_of given q.name ≡ None → stop ≡ MissingParam q.name → Wrong stop
     misshaped : (array : Array) → array_of given q.name ≡ Some array → ¬ (sides_of array.shape ≡ sides_of q.shape) → stop ≡ ParamShape q.name q.shape array.shape → Wrong stop
-    signed : (array : Array) → array_of given q.name ≡ Some array → sides_of array.shape ≡ sides_of q.shape → (entry : ℕ) (v : Frac) → IsFirstLeft q array entry v → stop ≡ ParamSign q.name entry v → Wrong stop
+    signed : (array : Array) → array_of given q.name ≡ Some array → sides_of array.shape ≡ sides_of q.shape → (entry : ℕ) (v : Frac) → IsFirstLeft q array entry v
+        → stop ≡ ParamSign q.name entry v → Wrong stop
 
   wrong : (stop : Stop) → IsFaultOf given q stop → stop ≢ Memory → Wrong stop
   wrong (UnknownParam name) f m = absurd f
@@ -65,7 +66,8 @@ module _ (given : Pairs) (q : Parameter) where
   one_left array i j v w a b =
       let s = sides_of q.shape in
       let x = number_at array.entries in
-      let same : i ≡ j = one_place (KeepsAt q.attribute s x) i j (λ h. not_both q.attribute s x i h a.leaves.leaves) (λ h. not_both q.attribute s x j h b.leaves.leaves) a.leaves.before b.leaves.before in
+      let same : i ≡ j = one_place (KeepsAt q.attribute s x) i j (λ h. not_both q.attribute s x i h a.leaves.leaves)
+      (λ h. not_both q.attribute s x j h b.leaves.leaves) a.leaves.before b.leaves.before in
       ap₂ (ParamSign q.name) same (same_Some v w (sym a.number ∙ ap (slice_get array.entries) same ∙ b.number))
 
   one_wrong : (s t : Stop) → Wrong s → Wrong t → s ≡ t

@@ -25,7 +25,7 @@ use Rattle.dcx_tree.proofs.Sublists.{contains_at}
 use Rattle.dcx_tree.proofs.Values.{taken}
 use Rattle.dcx_domain.proofs.Points.{same_attribute, keeps_prop, within_prop}
 use Rattle.dcx_fit.specs.Laws.{HoldsForFitting}
-use Rattle.dcx_fit.proofs.Misfits.{holds_at}
+use Rattle.dcx_math.proofs.Lists.{holds_at}
 
 -- the numbers that the setting gives the parameter are as its attribute demands
 abbrev KeptBy : Pairs → Parameter → Type 0
@@ -34,14 +34,16 @@ KeptBy given q = IsWithin q.attribute (sides_of q.shape) (given_by given q.name)
 -- ---- the parameters and the nodes
 module _ (nodes : List Node) (vs : List Variable) (ps : List Parameter) (d : AreDeclared nodes vs ps) (names : Names) (are : names.parameters ≡ map (λ q. q.name) ps) (given : Pairs) where
   -- a node with a parameter is as is demanded exactly where the parameter's array is
-  demand : (k : ℕ) (q : Parameter) → slice_get ps k ≡ Some q → (args : List Sides) (sides : Sides) → ParameterKeeps (numbers_by names.parameters given) (head_of names (calls.Parameter q) args sides) ↔ KeptBy given q
+  demand : (k : ℕ) (q : Parameter) → slice_get ps k ≡ Some q → (args : List Sides) (sides : Sides)
+      → ParameterKeeps (numbers_by names.parameters given) (head_of names (calls.Parameter q) args sides) ↔ KeptBy given q
   demand k q at args sides =
       let named : slice_get names.parameters k ≡ Some q.name = ap (λ ns. slice_get ns k) are ∙ slice_get-map (λ (p : Parameter). p.name) ps k ∙ ap (option_map (λ (p : Parameter). p.name)) at in
       subst (λ (f : Numbers). Keeps (attribute_of q.attribute) (sides_of q.shape) f ↔ KeptBy given q) (sym (taken names.parameters given k q.name named))
       (same_attribute q.attribute (sides_of q.shape) (given_by given q.name))
 
   -- a parameter that has a node
-  stands_kept : EachNode (convex_nodes names nodes) (λ n. ParameterKeeps (numbers_by names.parameters given) n.head) → (k : ℕ) (q : Parameter) → slice_get ps k ≡ Some q → (i : ℕ) → call_at nodes i ≡ Some (calls.Parameter q) → KeptBy given q
+  stands_kept : EachNode (convex_nodes names nodes) (λ n. ParameterKeeps (numbers_by names.parameters given) n.head) → (k : ℕ) (q : Parameter) → slice_get ps k ≡ Some q
+      → (i : ℕ) → call_at nodes i ≡ Some (calls.Parameter q) → KeptBy given q
   stands_kept h k q at i call_is =
       let (n, there, is) = found_in (slice_get nodes i) (calls.Parameter q) call_is in
       let kept = h i (convex_node names nodes n) (slice_get-map (convex_node names nodes) nodes i ∙ ap (option_map (convex_node names nodes)) there) in
@@ -81,13 +83,15 @@ kept_prop ps given f g = λ z k e lt.
 pub fitting_holds : HoldsForFitting
 fitting_holds p given = (
   (λ h.
-      let kept : All (KeptBy given) p.parameters = ∥∥₁_elim p.declared (kept_prop p.parameters given) (λ d. to_parameters p.tree p.variables p.parameters d (names_in p) refl given h.fits.parameters) in
+      let kept : All (KeptBy given) p.parameters =
+      ∥∥₁_elim p.declared (kept_prop p.parameters given) (λ d. to_parameters p.tree p.variables p.parameters d (names_in p) refl given h.fits.parameters) in
       (record { named = h.named; met = λ k e lt. record { shaped = h.shaped k e lt; within = kept k e lt } }, h.fits.divisors)),
   (λ (f, divisors). record {
     named = f.named;
     shaped = λ k e lt. (f.met k e lt).shaped;
     fits = record {
-      parameters = ∥∥₁_elim p.declared (nodes_prop (convex_nodes (names_in p) p.tree) (setting_of p given)) (λ d. to_nodes p.tree p.variables p.parameters d (names_in p) refl given (λ k e lt. (f.met k e lt).within));
+      parameters = ∥∥₁_elim p.declared (nodes_prop (convex_nodes (names_in p) p.tree) (setting_of p given))
+          (λ d. to_nodes p.tree p.variables p.parameters d (names_in p) refl given (λ k e lt. (f.met k e lt).within));
       divisors = divisors;
     };
   }),

@@ -1,4 +1,4 @@
--- The lemmas.
+-- The lemmas by which a setting fits or has one first misfit, and what fitting means to the problem.
 pub mod Names
 pub mod Misfits
 pub mod Each

@@ -1,8 +1,8 @@
 -- A parameter is met, or something is wrong with it, and not both.
 use Rattle.std.proofs.Common.{◌≡◌, inl, inr, ℕ, List, [], Some, option_map, Option, Result, Ok, Err, IsOk, IfErr, MatchResult, ◌↔◌, true≢false, refl, sym, ap, ◌∙◌, subst}
-use Rattle.std.specs.List.{slice_get, All}
+use Rattle.std.specs.List.{All}
 use Rattle.std.specs.Option.{unwrap_or}
-use Rattle.std.proofs.lemmas.Option.{none-some, same_Some, slice_get_within, get_or_from_slice_get}
+use Rattle.std.proofs.lemmas.Option.{none-some, same_Some}
 use Rattle.dcx_shape.specs.Shape.{sides_of}
 use Rattle.dcx_atom.specs.declared.array.Array.{Array}
 use Rattle.dcx_atom.specs.Arrays.{number_at}
@@ -15,10 +15,7 @@ use Rattle.dcx_answer.specs.declared.stop.Stop.{Stop}
 use Rattle.dcx_answer.specs.declared.stop.Stop.TheVariants.{UnknownParam, MissingParam, ParamShape, ParamSign, TooLarge, ZeroDivisor, Wide, PivotLimit, Memory}
 use Rattle.dcx_fit.specs.Fit.{IsNamed, IsMet, FitsParameters, IsFaultOf, IsUnknown, IsUnmet, IsFirstMisfit}
 use Rattle.dcx_fit.specs.Faults.{IsOrMemory}
-
--- what holds of all holds of the one at a place
-pub holds_at : {X : Type 0} (P : X → Type 0) (xs : List X) (k : ℕ) (x : X) → All P xs → slice_get xs k ≡ Some x → P x
-holds_at P xs k x all at = subst P (get_or_from_slice_get xs k x x at) (all k x (slice_get_within xs k x at))
+use Rattle.dcx_math.proofs.Lists.{holds_at}
 
 -- the numbers of an array that is given
 pub given_are : (given : Pairs) (name : List ℕ) (array : Array) → array_of given name ≡ Some array → given_by given name ≡ number_at array.entries

@@ -1,4 +1,4 @@
--- What the contracts of this crate cite.
+-- What contracts cite: which settings fit, the stop that comes first, and the laws.
 pub mod Fit
 pub mod Faults
 pub mod Laws

@@ -24,6 +24,7 @@ use Rattle.dcx_atom.proofs.Lists.{list_below-numbers}
 use Rattle.dcx_fold.specs.Sorted.{insert, falling, IsFalling, falling-falls, length-falling}
 use Rattle.dcx_fold.specs.Largest.{chosen}
 use Rattle.dcx_fold.specs.LargestLaws.{turned_twice}
+use Rattle.dcx_math.proofs.Lists.{map-map}
 
 -- ---- counts
 -- 1 where x is at least q
@@ -168,10 +169,6 @@ falling_of f (x ∷ y ∷ ys) h =
     let l = h 0 x (omega arith) in
     (All-cons (λ z. z ≤ℚ f x) (f y) (map f ys) l (All-weaker (λ z. z ≤ℚ f y) (λ z. z ≤ℚ f x) (λ z p. ≤ℚ_trans p l) (map f ys) rest.0), rest)
 
-map-map : {A B C : Type 0} (f : A → B) (g : B → C) (xs : List A) → map g (map f xs) ≡ map (λ x. g (f x)) xs
-map-map f g [] = refl
-map-map f g (x ∷ xs) = ap (λ ys. g (f x) ∷ ys) (map-map f g xs)
-
 map-same : {A B : Type 0} (f g : A → B) (xs : List A) → ((x : A) → f x ≡ g x) → map f xs ≡ map g xs
 map-same f g [] h = refl
 map-same f g (x ∷ xs) h = ap₂ ◌∷◌ (h x) (map-same f g xs h)
@@ -195,7 +192,8 @@ numbers_turned : (bend : Bend) (xs : List Frac) → map (λ x. outward bend (val
 numbers_turned bend xs = sym (map-map value (outward bend) xs) ∙ ap (map (outward bend)) (sym (list_below-numbers xs)) ∙ map-list_below (length xs) (number_at xs) (outward bend)
 
 -- the first of a sorted list are those that are chosen
-pub first_chosen : (bend : Bend) (k : ℕ) (xs ys zs : List Frac) → map value ys ≡ map (outward bend) (falling (map (λ x. outward bend (value x)) xs)) → zs ≡ take k ys → map value zs ≡ chosen bend k (length xs) (number_at xs)
+pub first_chosen : (bend : Bend) (k : ℕ) (xs ys zs : List Frac) → map value ys ≡ map (outward bend) (falling (map (λ x. outward bend (value x)) xs)) → zs ≡ take k ys
+    → map value zs ≡ chosen bend k (length xs) (number_at xs)
 first_chosen bend k xs ys zs e t =
     ap (map value) t ∙ map-take value k ys ∙ ap (take k) e ∙ sym (map-take (outward bend) k (falling (map (λ x. outward bend (value x)) xs)))
     ∙ ap (λ ws. map (outward bend) (take k (falling ws))) (numbers_turned bend xs)

@@ -32,13 +32,15 @@ at_fold axis args x to r size P some first is made n h =
     subst (λ o. IfSome o (λ s. P (sides_list args) (entries_of s))) (sym value) (subst (λ xs. P xs (entries_of (sides_of to))) (sym args_are) (subst (P (sides_of x ∷ [])) n h))
 
 -- the same under a result
-pub ok_at_fold : {A E : Type 0} (axis : Axis) (args : List Shape) (x to : Shape) (r : Option Shape) (size : ℕ) (P : List Sides → ℕ → A → Type 0) (result : Result A E) → IsSome (fold_sides axis (sides_list args)) →
+pub ok_at_fold : {A E : Type 0} (axis : Axis) (args : List Shape) (x to : Shape) (r : Option Shape) (size : ℕ) (P : List Sides → ℕ → A → Type 0) (result : Result A E)
+    → IsSome (fold_sides axis (sides_list args)) →
     x ≡ get_or args 0 x → r ≡ Some to → option_map sides_of r ≡ folded axis (sides_of x) → size ≡ entries_of (sides_of to) →
     IfOk result (P (sides_of x ∷ []) size) → IfOk result (λ g. IfSome (fold_sides axis (sides_list args)) (λ s. P (sides_list args) (entries_of s) g))
 ok_at_fold axis args x to r size P (Ok g) some first is made n h = at_fold axis args x to r size (λ xs k. P xs k g) some first is made n h
 ok_at_fold axis args x to r size P (Err e) some first is made n h = tt
 
-pub err_at_fold : {A E : Type 0} (axis : Axis) (args : List Shape) (x to : Shape) (r : Option Shape) (size : ℕ) (P : List Sides → ℕ → E → Type 0) (result : Result A E) → IsSome (fold_sides axis (sides_list args)) →
+pub err_at_fold : {A E : Type 0} (axis : Axis) (args : List Shape) (x to : Shape) (r : Option Shape) (size : ℕ) (P : List Sides → ℕ → E → Type 0) (result : Result A E)
+    → IsSome (fold_sides axis (sides_list args)) →
     x ≡ get_or args 0 x → r ≡ Some to → option_map sides_of r ≡ folded axis (sides_of x) → size ≡ entries_of (sides_of to) →
     IfErr result (P (sides_of x ∷ []) size) → IfErr result (λ e. IfSome (fold_sides axis (sides_list args)) (λ s. P (sides_list args) (entries_of s) e))
 err_at_fold axis args x to r size P (Ok g) some first is made n h = tt

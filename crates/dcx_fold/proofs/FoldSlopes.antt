@@ -92,7 +92,8 @@ group_stop p axis s c w k h =
     let n = folded_count axis s in
     ap₂ (λ (rows : ℕ) (slopes : List Step). first_stop k (map (λ x. test (is_weight x)) (list_below rows (w k)) ++ map test (group_conditions p n (c k) (w k)) ++ slopes))
     (group_counted p axis s k)
-    (map-list_below n (λ i. record { argument = 0; entry = member axis s k i }) (λ (x : ArgumentEntry). form (member_slope p (member_weights p (w (group_of axis s x.entry)) (member_of axis s x.entry))))
+    (map-list_below n (λ i. record { argument = 0; entry = member axis s k i })
+    (λ (x : ArgumentEntry). form (member_slope p (member_weights p (w (group_of axis s x.entry)) (member_of axis s x.entry))))
     ∙ list_below-same n _ _ (λ i b. let m = is_member axis s k i h b in ap₂ (λ g j. form (member_slope p (member_weights p (w g) j))) m.group m.index))
 
 -- the weights of a group among all
@@ -151,7 +152,8 @@ fold_slopes_are p axis s size cs ws by_group gs n none grouped ordered = record 
     len : length gs ≡ entries_of s
     len = sym (length-map gs value) ∙ ap length ordered ∙ length-list_below (entries_of s) _
 
-    each : (i e : ℕ) → i < 1 → e < entries_of (sides_at (s ∷ []) i) → slope_at (s ∷ []) gs i e ≡ exact (member_slope p (member_weights p (w (group_of axis (sides_at (s ∷ []) 0) e)) (member_of axis (sides_at (s ∷ []) 0) e)))
+    each : (i e : ℕ) → i < 1 → e < entries_of (sides_at (s ∷ []) i)
+        → slope_at (s ∷ []) gs i e ≡ exact (member_slope p (member_weights p (w (group_of axis (sides_at (s ∷ []) 0) e)) (member_of axis (sides_at (s ∷ []) 0) e)))
     each zero e h b =
         let z : 0 + e ≡ e = omega arith in
         let a = is_among axis s e b in
@@ -170,12 +172,14 @@ by_group_counted p axis s size ws by_group e =
     sym (length-map by_group value) ∙ ap length e ∙ length-joined size (folded_count axis s) _ (λ k. length-list_below (folded_count axis s) _)
 
 -- the slope of a member, from its own weights
-pub own_member : (p : Fold) (ws own : List Frac) (i rows : ℕ) → rows ≡ member_rows p → own ≡ take rows (drop (i * rows) ws) → member_slope p (number_at own) ≡ member_slope p (member_weights p (number_at ws) i)
+pub own_member : (p : Fold) (ws own : List Frac) (i rows : ℕ) → rows ≡ member_rows p → own ≡ take rows (drop (i * rows) ws)
+    → member_slope p (number_at own) ≡ member_slope p (member_weights p (number_at ws) i)
 own_member p ws own i rows n e =
     member_slope-same p _ _ (λ f b.
     ap (λ (xs : List Frac). number_at xs f) (e ∙ ap (λ k. take k (drop (i * k) ws)) n)
     ∙ number_at-take (drop (i * member_rows p) ws) (member_rows p) f b ∙ number_at-drop ws (i * member_rows p) f)
 
 -- as many weights as rows
-pub fold_weights : (p : Fold) (axis : Axis) (s : Sides) (size : ℕ) (ws : List Frac) → length ws ≡ rows_before (fold_meaning p axis) (s ∷ []) size → length ws ≡ size * (folded_count axis s * member_rows p)
+pub fold_weights : (p : Fold) (axis : Axis) (s : Sides) (size : ℕ) (ws : List Frac) → length ws ≡ rows_before (fold_meaning p axis) (s ∷ []) size
+    → length ws ≡ size * (folded_count axis s * member_rows p)
 fold_weights p axis s size ws e = e ∙ fold_rows_before p axis s size

@@ -22,7 +22,7 @@ use Rattle.dcx_atom.specs.Axis.{folded, folded_count, folded_stride, stride_entr
 use Rattle.dcx_atom.proofs.BoundRows.{length-list_below}
 use Rattle.dcx_fold.specs.declared.folding.Fold.{Fold}
 use Rattle.dcx_fold.specs.Groups.{groups, member, fold_sides}
-use Rattle.dcx_fold.specs.GroupLaws.{count_is, is_member, some_members, groups_are, at_only}
+use Rattle.dcx_fold.specs.GroupLaws.{count_is, is_member, some_members, at_only}
 use Rattle.dcx_fold.specs.Folds.{part, parts, fold_of, fold_summands, fold_meaning}
 use Rattle.dcx_fold.specs.Stops.{IsStopOfSum, IsFirstOfSums}
 
@@ -55,9 +55,6 @@ first_array axis (y ∷ ys) x some e = ap (λ (z : Array). sides_of z.shape) (sy
 pub first_numbers : (axis : Axis) (args : List Array) (x : Array) → IsSome (fold_sides axis (array_sides args)) → x ≡ get_or args 0 x → numbers_of args 0 ≡ number_at x.entries
 first_numbers axis [] x some e = cc
 first_numbers axis (y ∷ ys) x some e = ap (λ (z : Array). number_at z.entries) (sym e)
-
-pub groups_at : (axis : Axis) (s to : Sides) (size : ℕ) → folded axis s ≡ Some to → size ≡ entries_of to → size ≡ groups axis s
-groups_at axis s to size e n = n ∙ groups_are axis s to e
 
 -- the value, made group by group
 pub fold_value_is : (p : Fold) (axis : Axis) (args : List Array) (x v : Array) (size : ℕ) → IsSome (fold_sides axis (array_sides args)) → x ≡ get_or args 0 x →

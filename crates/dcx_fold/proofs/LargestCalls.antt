@@ -1,5 +1,5 @@
 -- The value, the graph and the slopes of the largest and the smallest, as the code has them.
-use Rattle.std.proofs.Common.{◌≡◌, ℕ, zero, suc, ◌+◌, ◌<◌, ◌≤◌, arith, List, [], ◌∷◌, ◌++◌, map, length, get_or, replicate, Option, Some, None, Result, Ok, Err, IsSome, IfSome, IfOk, IfErr, IsOk, refl, sym, ap, ◌∙◌, subst}
+use Rattle.std.proofs.Common.{◌≡◌, ℕ, zero, suc, ◌+◌, ◌<◌, arith, List, [], ◌∷◌, ◌++◌, map, length, get_or, replicate, Option, Some, None, Ok, IsSome, IfSome, IsOk, refl, sym, ap, ◌∙◌, subst}
 use Rattle.std.proofs.lemmas.List.{length-map}
 use Rattle.dcx_math.specs.Sums.{rat_sum}
 use Rattle.dcx_frac.specs.declared.fraction.Frac.{Frac}
@@ -46,14 +46,6 @@ of_chosen k args P some h = by (chosen_sides k args) refl some h
     by None e some h = cc
     by (Some s) e some h = subst (λ (r : Sides). P (entries_of r)) (is_chosen k args s e).is h
 
-pub ok_at_chosen : {A E : Type 0} (k : ℕ) (args : List Sides) (P : ℕ → A → Type 0) (r : Result A E) → IfOk r (P 1) → IfOk r (λ g. IfSome (chosen_sides k args) (λ s. P (entries_of s) g))
-ok_at_chosen k args P (Ok g) h = at_chosen k args (λ n. P n g) h
-ok_at_chosen k args P (Err e) h = tt
-
-pub err_at_chosen : {A E : Type 0} (k : ℕ) (args : List Sides) (P : ℕ → E → Type 0) (r : Result A E) → IfErr r (P 1) → IfErr r (λ e. IfSome (chosen_sides k args) (λ s. P (entries_of s) e))
-err_at_chosen k args P (Ok g) h = tt
-err_at_chosen k args P (Err e) h = at_chosen k args (λ n. P n e) h
-
 sides_are : (k : ℕ) (args : List Sides) → IsSome (chosen_sides k args) → chosen_sides k args ≡ Some Scalar
 sides_are k args some = by (chosen_sides k args) refl some
   where
@@ -67,20 +59,6 @@ entries_chosen : (bend : Bend) (k : ℕ) (args : List Array) (x : Array) → IsS
     chosen bend k (entries_of (sides_at (array_sides args) 0)) (numbers_of args 0) ≡ chosen bend k (length x.entries) (number_at x.entries)
 entries_chosen bend k [] x some e = cc
 entries_chosen bend k (y ∷ ys) x some e = ap (λ n. chosen bend k n (number_at y.entries)) (sym y.full) ∙ ap (λ (z : Array). chosen bend k (length z.entries) (number_at z.entries)) (sym e)
-
-pub enough_entries : (k : ℕ) (args : List Array) (x : Array) (xs : List Frac) → IsSome (chosen_sides k (array_sides args)) → x ≡ get_or args 0 x → xs ≡ x.entries → k ≤ length xs
-enough_entries k args x xs some e f = by (chosen_sides k (array_sides args)) refl some
-  where
-    first : (args : List Array) → IsSome (chosen_sides k (array_sides args)) → x ≡ get_or args 0 x → entries_of (sides_at (array_sides args) 0) ≡ length x.entries
-    first [] some e = cc
-    first (y ∷ ys) some e = sym y.full ∙ ap (λ (z : Array). length z.entries) (sym e)
-
-    by : (o : Option Sides) → chosen_sides k (array_sides args) ≡ o → IsSome o → k ≤ length xs
-    by None g s = cc
-    by (Some t) g s =
-        let w = is_chosen k (array_sides args) t g in
-        let n : entries_of w.from ≡ length xs = ap (λ (ys : List Sides). entries_of (sides_at ys 0)) (sym w.only) ∙ first args some e ∙ ap length (sym f) in
-        subst (λ m. k ≤ m) n w.most
 
 pub largest_value_is : (bend : Bend) (k : ℕ) (args : List Array) (x v : Array) (sum : Frac) (xs : List Frac) → IsSome (chosen_sides k (array_sides args)) → x ≡ get_or args 0 x → xs ≡ x.entries →
     sides_of v.shape ≡ Scalar → v.entries ≡ sum ∷ [] → Ok sum ≡ sum_in_order (chosen bend k (length xs) (number_at xs)) → value sum ≡ rat_sum (chosen bend k (length xs) (number_at xs)) →
@@ -116,14 +94,6 @@ largest_value_stop bend k args x xs stop some e f h =
 pub first_size : (k : ℕ) (args : List Shape) (x : Shape) (size : ℕ) → IsSome (chosen_sides k (sides_list args)) → x ≡ get_or args 0 x → size ≡ entries_of (sides_of x) → size ≡ entries_of (sides_at (sides_list args) 0)
 first_size k [] x size some e n = cc
 first_size k (y ∷ ys) x size some e n = n ∙ ap (λ z. entries_of (sides_of z)) e
-
-pub some_shapes : (k : ℕ) (args : List Shape) → IsSome (chosen_sides k (sides_list args)) → 0 < length args
-some_shapes k [] some = cc
-some_shapes k (y ∷ ys) some = omega arith
-
-pub some_arrays : (k : ℕ) (args : List Array) → IsSome (chosen_sides k (array_sides args)) → 0 < length args
-some_arrays k [] some = cc
-some_arrays k (y ∷ ys) some = omega arith
 
 pub largest_graph_is : (bend : Bend) (k : ℕ) (args : List Sides) (size : ℕ) (g : Graph) → size ≡ entries_of (sides_at args 0) → g.aux ≡ Free ∷ replicate size Nonneg →
     map placed_row g.rows ≡ list_below size (λ i. record { entry = 0; row = level_row bend i }) → map (map form_term) g.results ≡ level_form bend k size ∷ [] → IsGraphOf (largest_meaning bend k) args 1 g

@@ -22,6 +22,7 @@ use Rattle.dcx_atom.proofs.FormedSums.{frac_at-value, take-next}
 use Rattle.dcx_atom.proofs.Lists.{list_below-numbers, list_below-same}
 use Rattle.dcx_atom.proofs.Totals.{earlier-none_right, value-sum_in_order}
 use Rattle.dcx_fold.specs.Largest.{level_row, each_condition, sum_condition, level_conditions, largest_meaning}
+use Rattle.dcx_math.proofs.Lists.{map-map}
 
 -- ---- steps of the weights of a list
 -- one more
@@ -39,27 +40,26 @@ steps-at g ws i w stop h e none here =
     ∙ first_stop-stopped 0 (map g (take (i + 1) ws)) (map g (drop (i + 1) ws)) stop (steps-next g ws i w h e none ∙ here)
 
 -- a weight is compared with its bound
-pub each_tested : (bend : Bend) (c w bound : Frac) → value bound ≡ outward bend (value c) → step_stop 0 (test (each_condition bend (value c) (value w))) ≡ broken_at 0 (rat_le (value w) (value bound)) w bound
+pub each_tested : (bend : Bend) (c w bound : Frac) → value bound ≡ outward bend (value c)
+    → step_stop 0 (test (each_condition bend (value c) (value w))) ≡ broken_at 0 (rat_le (value w) (value bound)) w bound
 each_tested bend c w bound e =
     ap₂ (λ x (y : Frac). condition_stop 0 (rat_le (value w) x) (Ok (frac_at (value w))) (Ok y)) (sym e) (ap frac_at (sym e) ∙ frac_at-value bound)
     ∙ ap (λ (y : Frac). condition_stop 0 (rat_le (value w) (value bound)) (Ok y) (Ok bound)) (frac_at-value w)
 
 -- the sum is compared with the product
-pub all_tested : (bend : Bend) (k : ℕ) (c factor : Frac) (ws : List Frac) (r p : Result Frac Passes) → value factor ≡ outward bend (whole (pos k)) → sum_in_order (map value ws) ≡ r → product_of factor c ≡ p →
+pub all_tested : (bend : Bend) (k : ℕ) (c factor : Frac) (ws : List Frac) (r p : Result Frac Passes) → value factor ≡ outward bend (whole (pos k))
+    → sum_in_order (map value ws) ≡ r → product_of factor c ≡ p →
     step_stop 0 (test (sum_condition bend k (value c) (map value ws))) ≡ condition_stop 0 (rat_eq (rat_sum (map value ws)) (value factor *ℚ value c)) r p
 all_tested bend k c factor ws r p e f g =
     let product : product_of (frac_at (outward bend (whole (pos k)))) (frac_at (value c)) ≡ p = ap₂ product_of (ap frac_at (sym e) ∙ frac_at-value factor) (frac_at-value c) ∙ g in
     ap₂ (λ (x y : Result Frac Passes). condition_stop 0 (rat_eq (rat_sum (map value ws)) (outward bend (whole (pos k)) *ℚ value c)) x y) f product
     ∙ ap (λ m. condition_stop 0 (rat_eq (rat_sum (map value ws)) (m *ℚ value c)) r p) (sym e)
 
-pub all_compared : (bend : Bend) (k : ℕ) (c factor : Frac) (ws : List Frac) (s p : Frac) → value factor ≡ outward bend (whole (pos k)) → sum_in_order (map value ws) ≡ Ok s → product_of factor c ≡ Ok p →
+pub all_compared : (bend : Bend) (k : ℕ) (c factor : Frac) (ws : List Frac) (s p : Frac) → value factor ≡ outward bend (whole (pos k))
+    → sum_in_order (map value ws) ≡ Ok s → product_of factor c ≡ Ok p →
     value p ≡ value factor *ℚ value c → step_stop 0 (test (sum_condition bend k (value c) (map value ws))) ≡ broken_at 0 (rat_eq (value s) (value p)) s p
 all_compared bend k c factor ws s p e f g h =
     all_tested bend k c factor ws (Ok s) (Ok p) e f g ∙ ap₂ (λ x y. broken_at 0 (rat_eq x y) s p) (sym (value-sum_in_order ws s f)) (sym h)
-
-map-map : {A B C : Type 0} (f : A → B) (g : B → C) (xs : List A) → map g (map f xs) ≡ map (λ x. g (f x)) xs
-map-map f g [] = refl
-map-map f g (x ∷ xs) = ap (λ ys. g (f x) ∷ ys) (map-map f g xs)
 
 -- the conditions as steps
 pub conditions_are : (bend : Bend) (k : ℕ) (c : ℚ) (ws : List Frac) →
@@ -73,7 +73,8 @@ numbers_formed : (g : ArgumentEntry → ℚ) (xs : List ArgumentEntry) → first
 numbers_formed g [] = refl
 numbers_formed g (x ∷ xs) = numbers_formed g xs
 
-own_weights : (bend : Bend) (k : ℕ) (args : List Sides) (ws : List Frac) → length ws ≡ entries_of (sides_at args 0) → list_below (entries_of (sides_at args 0)) (weights_of (largest_meaning bend k) args ws 0) ≡ map value ws
+own_weights : (bend : Bend) (k : ℕ) (args : List Sides) (ws : List Frac) → length ws ≡ entries_of (sides_at args 0)
+    → list_below (entries_of (sides_at args 0)) (weights_of (largest_meaning bend k) args ws 0) ≡ map value ws
 own_weights bend k args ws n =
     list_below-same (entries_of (sides_at args 0)) _ _ (λ r b. let e : 0 + r ≡ r = omega arith in ap (number_at ws) e)
     ∙ ap (λ m. list_below m (number_at ws)) (sym n) ∙ list_below-numbers ws
@@ -86,10 +87,12 @@ largest_stop bend k args cs ws c n e =
     let size = entries_of (sides_at args 0) in
     let w = weights_of m args ws in
     let slopes = map (λ (x : ArgumentEntry). form (number (outward bend (w 0 x.entry)))) (list_below size (λ i. record { argument = 0; entry = i })) in
-    ap (λ rows. first_stop 0 (map (λ x. test (is_weight x)) (list_below rows (w 0)) ++ map test (level_conditions bend k (number_at cs 0) (list_below size (w 0))) ++ slopes)) (length-list_below size (level_row bend))
+    ap (λ rows. first_stop 0 (map (λ x. test (is_weight x)) (list_below rows (w 0)) ++ map test (level_conditions bend k (number_at cs 0) (list_below size (w 0))) ++ slopes))
+    (length-list_below size (level_row bend))
     ∙ ap₂ (λ xs y. first_stop 0 (map (λ x. test (is_weight x)) xs ++ map test (level_conditions bend k y xs) ++ slopes)) (own_weights bend k args ws n) (sym e)
     ∙ first_stop-append 0 (map (λ x. test (is_weight x)) (map value ws) ++ map test (level_conditions bend k (value c) (map value ws))) slopes
-    ∙ ap (earlier (first_stop 0 (map (λ x. test (is_weight x)) (map value ws) ++ map test (level_conditions bend k (value c) (map value ws))))) (numbers_formed (λ x. outward bend (w 0 x.entry)) (list_below size (λ i. record { argument = 0; entry = i })))
+    ∙ ap (earlier (first_stop 0 (map (λ x. test (is_weight x)) (map value ws) ++ map test (level_conditions bend k (value c) (map value ws)))))
+    (numbers_formed (λ x. outward bend (w 0 x.entry)) (list_below size (λ i. record { argument = 0; entry = i })))
     ∙ earlier-none_right _
 
 -- ---- slopes

@@ -1,4 +1,4 @@
--- The lemmas.
+-- The lemmas on values, graphs and slopes of folds, of the largest and smallest, and of the running maximum.
 pub mod FoldValues
 pub mod StepLists
 pub mod FoldSlopes

@@ -1,5 +1,5 @@
 -- The value, the graph and the slopes of the running maximum at its only argument.
-use Rattle.std.proofs.Common.{◌≡◌, ℕ, ◌<◌, arith, List, [], ◌∷◌, map, length, get_or, replicate, Result, Ok, Err, Some, IsSome, IfSome, IfOk, IfErr, IsOk, refl, sym, ap, ◌∙◌, subst}
+use Rattle.std.proofs.Common.{◌≡◌, ℕ, ◌<◌, arith, List, [], ◌∷◌, map, length, get_or, Result, Ok, Err, Some, IsSome, IfSome, IfErr, IsOk, refl, sym, ap, ◌∙◌, subst}
 use Rattle.dcx_math.specs.Sums.{rat_at}
 use Rattle.dcx_frac.specs.declared.fraction.Frac.{Frac}
 use Rattle.dcx_frac.specs.Frac.{value}
@@ -9,16 +9,12 @@ use Rattle.dcx_shape.specs.declared.shape.Sides.TheVariants.{Scalar, Vector, Mat
 use Rattle.dcx_shape.specs.Shape.{sides_of}
 use Rattle.dcx_shape.specs.Sides.{entries_of}
 use Rattle.dcx_atom.specs.declared.array.Array.{Array}
-use Rattle.dcx_atom.specs.declared.graph.Graph.{Graph}
-use Rattle.dcx_atom.specs.declared.graph.AuxKind.TheVariants.{Free}
 use Rattle.dcx_atom.specs.Arrays.{list_below, number_at, numbers_of, array_sides, sides_list, sides_at}
-use Rattle.dcx_atom.specs.Bounding.{unknown_form}
 use Rattle.dcx_atom.specs.Formed.{sum_in_order}
-use Rattle.dcx_atom.specs.Graph.{placed_row, form_term, rows_below, IsGraphOf}
 use Rattle.dcx_atom.specs.Value.{IsValueOf}
 use Rattle.dcx_atom.specs.Steps.{rows_before}
 use Rattle.dcx_atom.proofs.Lists.{rat_at-list_below, one_forms}
-use Rattle.dcx_fold.specs.Running.{only_vector, greatest_so_far, running_rows, rows_until, running_meaning}
+use Rattle.dcx_fold.specs.Running.{only_vector, greatest_so_far, rows_until, running_meaning}
 use Rattle.dcx_fold.proofs.RunningSteps.{before_is}
 
 -- what holds of as many entries as the vector has
@@ -76,30 +72,17 @@ running_value_is args x v xs some e f shape h = record {
         ∙ ap (λ y. greatest_so_far y j) (ap number_at f ∙ sym (first_numbers args x some e))
 
 -- the size of the only shape
-pub first_size : (args : List Shape) (x : Shape) (size : ℕ) → IsSome (only_vector (sides_list args)) → x ≡ get_or args 0 x → size ≡ entries_of (sides_of x) → size ≡ entries_of (sides_at (sides_list args) 0)
+pub first_size : (args : List Shape) (x : Shape) (size : ℕ) → IsSome (only_vector (sides_list args)) → x ≡ get_or args 0 x → size ≡ entries_of (sides_of x)
+    → size ≡ entries_of (sides_at (sides_list args) 0)
 first_size [] x size some e n = cc
 first_size (y ∷ ys) x size some e n = n ∙ ap (λ z. entries_of (sides_of z)) e
 
--- the graph
-pub running_graph_is : (args : List Sides) (size : ℕ) (g : Graph) → size ≡ entries_of (sides_at args 0) → g.aux ≡ replicate size Free → map placed_row g.rows ≡ rows_below size running_rows →
-    map (map form_term) g.results ≡ list_below size unknown_form → IfSome (only_vector args) (λ s. IsGraphOf running_meaning args (entries_of s) g)
-running_graph_is args size g n kinds rows results = at_vector args (λ m. IsGraphOf running_meaning args m g) (record {
-  kinds = kinds ∙ ap (λ m. replicate m Free) n;
-  rows = rows ∙ ap (λ m. rows_below m running_rows) n;
-  results = results ∙ ap (λ m. list_below m unknown_form) n;
-})
-
 -- as many weights as rows
-pub weights_counted : (args : List Sides) (size : ℕ) (ws : List Frac) → IsSome (only_vector args) → size ≡ entries_of (sides_at args 0) → IfSome (only_vector args) (λ s. length ws ≡ rows_before running_meaning args (entries_of s)) →
+pub weights_counted : (args : List Sides) (size : ℕ) (ws : List Frac) → IsSome (only_vector args) → size ≡ entries_of (sides_at args 0)
+    → IfSome (only_vector args) (λ s. length ws ≡ rows_before running_meaning args (entries_of s)) →
     length ws ≡ rows_until size
 weights_counted args size ws some n h =
     of_vector args (λ m. length ws ≡ rows_before running_meaning args m) some h ∙ before_is args (entries_of (sides_at args 0)) ∙ ap rows_until (sym n)
-
--- what holds at the only vector
-pub ok_at_vector : {A E : Type 0} (args : List Sides) (size : ℕ) (P : List Sides → ℕ → A → Type 0) (r : Result A E) → IsSome (only_vector args) → size ≡ entries_of (sides_at args 0) →
-    IfOk r (P (Vector size ∷ []) size) → IfOk r (λ g. IfSome (only_vector args) (λ s. P args (entries_of s) g))
-ok_at_vector args size P (Ok g) some n h = at_vector args (λ m. P args m g) (subst (λ xs. P xs (entries_of (sides_at args 0)) g) (sym (args_are args some)) (subst (λ m. P (Vector m ∷ []) m g) n h))
-ok_at_vector args size P (Err e) some n h = tt
 
 pub err_at_vector : {A E : Type 0} (args : List Sides) (size : ℕ) (P : List Sides → ℕ → E → Type 0) (r : Result A E) → IsSome (only_vector args) → size ≡ entries_of (sides_at args 0) →
     IfErr r (P (Vector size ∷ []) size) → IfErr r (λ e. IfSome (only_vector args) (λ s. P args (entries_of s) e))

@@ -1,9 +1,9 @@
 -- The running maximum, and the steps by which its slopes come from weights, as the code has them.
-use Rattle.std.proofs.Common.{◌≡◌, ℕ, zero, suc, ◌+◌, ◌-◌, ◌*◌, ◌<◌, ◌≤◌, arith, Bool, true, false, if◌then◌else◌, List, [], ◌∷◌, ◌++◌, map, length, take, drop, get_or, length-take-le, length-drop, refl, sym, ap, ap₂, ◌∙◌, subst, None, Result, Ok, Err, IfOk, pos}
+use Rattle.std.proofs.Common.{◌≡◌, ℕ, zero, suc, ◌+◌, ◌-◌, ◌*◌, ◌<◌, ◌≤◌, arith, Bool, true, false, if◌then◌else◌, List, [], ◌∷◌, ◌++◌, map, length, take, drop, get_or, length-take-le, length-drop, refl, sym, ap, ap₂, ◌∙◌, subst, None, Result, Ok, Err, IfOk}
 use Rattle.std.specs.Prelude.{nat_lt}
 use Rattle.std.proofs.lemmas.Bool.{lt-ltb, ltb-true}
 use Rattle.std.proofs.lemmas.List.{length-map}
-use Rattle.dcx_math.specs.Rational.{ℚ, whole, rat_max, rat_eq}
+use Rattle.dcx_math.specs.Rational.{ℚ, rat_max, rat_eq}
 use Rattle.dcx_math.specs.Sums.{rat_sum, rat_at}
 use Rattle.dcx_math.proofs.Bounds.{rat_max_self}
 use Rattle.dcx_frac.specs.declared.fraction.Frac.{Frac}
@@ -17,7 +17,7 @@ use Rattle.dcx_atom.specs.Arrays.{list_below, number_at, sides_at}
 use Rattle.dcx_atom.specs.Formed.{number, sum_in_order}
 use Rattle.dcx_atom.specs.Meaning.{Coefficients, Weights}
 use Rattle.dcx_atom.specs.Steps.{Step, test, form, is_weight, condition_stop, step_stop, first_stop, weights_stop, entry_stop, rows_before, weights_of, slope_at, AreSlopesOf}
-use Rattle.dcx_atom.specs.Bounding.{HaveNoStop, argument_term, unknown_term, bound_row}
+use Rattle.dcx_atom.specs.Bounding.{HaveNoStop}
 use Rattle.dcx_atom.specs.Graph.{PlacedRow, rows_below}
 use Rattle.dcx_atom.specs.Rows.{Row}
 use Rattle.dcx_atom.specs.Farthest.{extreme, extreme_from}
@@ -144,8 +144,3 @@ pub rows_of_next : (j : ℕ) (rows : List PlacedRow) → rows ≡ rows_below j r
 rows_of_next j rows e =
     let own = λ (k : ℕ). map (λ (row : Row). record { entry = k; row = row }) (running_rows k) in
     ap (λ (xs : List PlacedRow). xs ++ own j) e ∙ sym (joined_below-next j own)
-
--- an entry that isn't the first has two
-pub later_rows : (j : ℕ) → 0 < j → running_rows j ≡ bound_row Convex j (argument_term 0 j (whole (pos 1))) ∷ bound_row Convex j (unknown_term (j - 1) (whole (pos 1))) ∷ []
-later_rows zero h = absurd (omega arith)
-later_rows (suc i) h = let e : suc i - 1 ≡ i = omega arith in rw e refl

@@ -9,10 +9,17 @@ use Rattle.dcx_fold.specs.declared.folding.Fold.{Fold}
 use Rattle.dcx_fold.specs.declared.folding.Fold.TheVariants.{Max, Min, Norm1, NormInf}
 use Rattle.dcx_fold.specs.Folds.{fold_meaning}
 use Rattle.dcx_fold.specs.FoldLaws.{fold_formation, fold_sign_law, fold_monotonicity, fold_curvature, fold_soundness, fold_tightness, fold_subgradient, fold_recession}
+use Rattle.dcx_fold.specs.FoldDualLaws.{fold_duality}
 use Rattle.dcx_fold.specs.Largest.{largest_meaning}
 use Rattle.dcx_fold.specs.LargestLaws.{largest_formation, largest_sign_law, largest_monotonicity, largest_curvature, largest_soundness, largest_tightness, largest_subgradient, largest_recession}
+use Rattle.dcx_fold.specs.LargestDualLaws.{largest_duality}
 use Rattle.dcx_fold.specs.Running.{running_meaning}
 use Rattle.dcx_fold.specs.RunningLaws.{running_formation, running_sign_law, running_monotonicity, running_curvature, running_soundness, running_tightness, running_subgradient, running_recession}
+use Rattle.dcx_fold.specs.RunningDualLaws.{running_duality}
+use Rattle.dcx_fold.specs.OwnLaws.{fold_own, largest_own, running_own}
+use Rattle.dcx_fold.specs.FractionLaws.{fold_fraction_summands, fold_fraction_coefficients, fold_fraction_slopes}
+use Rattle.dcx_fold.specs.FractionLaws.{largest_fraction_summands, largest_fraction_coefficients, largest_fraction_slopes}
+use Rattle.dcx_fold.specs.FractionLaws.{running_fraction_summands, running_fraction_coefficients, running_fraction_slopes}
 
 fold_lawful : (fold : Fold) (axis : Axis) → IsLawful (fold_meaning fold axis)
 fold_lawful fold axis = record {
@@ -24,6 +31,11 @@ fold_lawful fold axis = record {
   tightness = fold_tightness fold axis;
   subgradient = fold_subgradient fold axis;
   recession = fold_recession fold axis;
+  own_unknowns = fold_own fold axis;
+  duality = fold_duality fold axis;
+  fraction_summands = fold_fraction_summands fold axis;
+  fraction_coefficients = fold_fraction_coefficients fold axis;
+  fraction_slopes = fold_fraction_slopes fold axis;
 }
 
 abbrev pub max_of_meaning : Axis → Meaning
@@ -60,6 +72,11 @@ largest_lawful bend k = record {
   tightness = largest_tightness bend k;
   subgradient = largest_subgradient bend k;
   recession = largest_recession bend k;
+  own_unknowns = largest_own bend k;
+  duality = largest_duality bend k;
+  fraction_summands = largest_fraction_summands bend k;
+  fraction_coefficients = largest_fraction_coefficients bend k;
+  fraction_slopes = largest_fraction_slopes bend k;
 }
 
 abbrev pub sum_largest_meaning : ℕ → Meaning
@@ -87,4 +104,9 @@ cum_max_lawful = record {
   tightness = running_tightness;
   subgradient = running_subgradient;
   recession = running_recession;
+  own_unknowns = running_own;
+  duality = running_duality;
+  fraction_summands = running_fraction_summands;
+  fraction_coefficients = running_fraction_coefficients;
+  fraction_slopes = running_fraction_slopes;
 }

@@ -26,14 +26,54 @@ use Rattle.dcx_atom.specs.Laws.{SumsUp, KeepsSign, KeepsTrend, IsBent, IsSoundGr
 use Rattle.dcx_atom.specs.Bounding.{argument_term, bound_row, outward, unknown_form, free_kinds}
 use Rattle.dcx_atom.specs.Farthest.{extreme, beyond_trans, extreme_each, extreme_within, extreme_among}
 use Rattle.dcx_atom.proofs.Sublinear.{curvature_of, recession_of}
-use Rattle.dcx_atom.proofs.Duality.{no_entries, no_filling, AreRowSlopes, AreBalanced, subgradient_of}
+use Rattle.dcx_atom.specs.Duality.{no_entries, no_filling, AreRowSlopes, AreBalanced}
+use Rattle.dcx_atom.proofs.Duality.{subgradient_of}
 use Rattle.dcx_atom.proofs.LinearSums.{follows_rising, All-list_below}
-use Rattle.dcx_atom.proofs.BoundRows.{length-list_below, All-at, beyond_of_row, row_of_beyond, times_one, alone_is, taken, nothing_taken, level, kept, weighted-taken, RowsHold-joined, RowsHold-joined_back, weighted-joined, form-list_below, rat_sum-list_below}
+use Rattle.dcx_atom.proofs.BoundRows.{
+  length-list_below,
+  All-at,
+  beyond_of_row,
+  row_of_beyond,
+  times_one,
+  alone_is,
+  taken,
+  nothing_taken,
+  level,
+  kept,
+  weighted-taken,
+  RowsHold-joined,
+  RowsHold-joined_back,
+  weighted-joined,
+  form-list_below,
+  rat_sum-list_below,
+}
 use Rattle.dcx_fold.specs.declared.folding.Fold.{Fold}
 use Rattle.dcx_fold.specs.declared.folding.Fold.TheVariants.{Max, Min, Norm1, NormInf}
 use Rattle.dcx_fold.specs.Groups.{groups, member, group_of, member_of}
 use Rattle.dcx_fold.specs.GroupLaws.{IsFold, is_fold, first_is, groups_are, some_members, sum_by_groups, is_member, sum-product, all_members}
-use Rattle.dcx_fold.specs.Folds.{fold_bend, fold_kind, fold_trend, fold_sign, part, fold_of, fold_summands, parts, factors, member_rows, unknown_of, unknowns, rows_of_member, group_rows, unknowns_form, group_form, fold_filling, member_weights, group_conditions, member_slope, fold_meaning}
+use Rattle.dcx_fold.specs.Folds.{
+  fold_bend,
+  fold_kind,
+  fold_trend,
+  fold_sign,
+  part,
+  fold_of,
+  fold_summands,
+  parts,
+  factors,
+  member_rows,
+  unknown_of,
+  unknowns,
+  rows_of_member,
+  group_rows,
+  unknowns_form,
+  group_form,
+  fold_filling,
+  member_weights,
+  group_conditions,
+  member_slope,
+  fold_meaning,
+}
 
 -- ---- one member
 minus : (x : ℚ) → whole (negsuc 0) *ℚ x ≡ neg_ℚ x
@@ -235,7 +275,7 @@ slope_of_member NormInf w u e a = magnitude_slope (w 0) (w 1) (a 0 e)
 rows_counted : (p : Fold) (u e : ℕ) → length (rows_of_member p u e) ≡ member_rows p
 rows_counted p u e = length-map (factors p) (λ q. bound_row (fold_bend p) u (argument_term 0 e q))
 
-row_slopes : (p : Fold) (axis : Axis) → AreRowSlopes (fold_meaning p axis)
+pub row_slopes : (p : Fold) (axis : Axis) → AreRowSlopes (fold_meaning p axis)
 row_slopes p axis [] sides is w a = cc
 row_slopes p axis (s ∷ []) sides is w a =
     let n = folded_count axis s in
@@ -252,7 +292,7 @@ row_slopes p axis (q ∷ r ∷ rs) sides is w a = cc
 
 -- ---- what weights balance
 -- what the rows of a group take away
-taken_of_group : (p : Fold) (axis : Axis) (s : Sides) (k : ℕ) (w : ℕ → ℚ) (t : Filling) →
+pub taken_of_group : (p : Fold) (axis : Axis) (s : Sides) (k : ℕ) (w : ℕ → ℚ) (t : Filling) →
     weighted (group_rows p axis s k) w no_entries t ≡
     rat_sum_below (folded_count axis s) (λ i. taken (fold_bend p) (rat_sum (list_below (member_rows p) (member_weights p w i))) (t (unknown_of p (folded_count axis s) k i)))
 taken_of_group p axis s k w t =
@@ -275,7 +315,7 @@ all_taken bend zero f t = nothing_taken bend t
 all_taken bend (suc n) f t = ap (λ y. y +ℚ taken bend (f n) t) (all_taken bend n f t) ∙ both_taken bend (rat_sum_below n f) (f n) t
 
 -- the weights of all members are those of the group
-all_weights : (p : Fold) (n : ℕ) (w : ℕ → ℚ) → rat_sum_below n (λ i. rat_sum (list_below (member_rows p) (member_weights p w i))) ≡ rat_sum (list_below (n * member_rows p) w)
+pub all_weights : (p : Fold) (n : ℕ) (w : ℕ → ℚ) → rat_sum_below n (λ i. rat_sum (list_below (member_rows p) (member_weights p w i))) ≡ rat_sum (list_below (n * member_rows p) w)
 all_weights p n w =
     rat_sum_below-same n _ _ (λ i b. rat_sum-list_below (member_rows p) (member_weights p w i))
     ∙ sym (sum-product n (member_rows p) w) ∙ sym (rat_sum-list_below (n * member_rows p) w)
@@ -297,10 +337,11 @@ balanced_sum n k c w t met nonneg =
     (rat_sum_below-nonnegative n _ (λ i b. each_kept c _ (t (k * n + i)) (All-at IsMet n _ met i b) (nonneg i b)))))
 
 -- unknown i of group k is among all
-among_members : (k i n size : ℕ) → k < size → i < n → k * n + i < size * n
+pub among_members : (k i n size : ℕ) → k < size → i < n → k * n + i < size * n
 among_members k i n size h b = grind arith
 
-nonneg_members : (axis : Axis) (args : List Sides) (to : Sides) (t : Filling) → IsFold axis args to → KindsHold (replicate (entries_of (sides_at args 0)) Nonneg) t → (k i : ℕ) → k < entries_of to → i < folded_count axis (sides_at args 0) →
+nonneg_members : (axis : Axis) (args : List Sides) (to : Sides) (t : Filling) → IsFold axis args to → KindsHold (replicate (entries_of (sides_at args 0)) Nonneg) t → (k i : ℕ)
+    → k < entries_of to → i < folded_count axis (sides_at args 0) →
     IsNonnegative (t (k * folded_count axis (sides_at args 0) + i))
 nonneg_members axis args to t f kinds k i h b =
     let s = sides_at args 0 in
@@ -312,7 +353,8 @@ nonneg_members axis args to t f kinds k i h b =
 balanced_group : (p : Fold) (axis : Axis) (args : List Sides) (to : Sides) (c : ℚ) (w : ℕ → ℚ) (t : Filling) → IsFold axis args to →
     KindsHold (replicate (unknowns p axis (sides_at args 0)) (fold_kind p)) t → (k : ℕ) → k < entries_of to → All IsMet (group_conditions p (folded_count axis (sides_at args 0)) c w) →
     IsNonnegative (c *ℚ form_at (group_form p (folded_count axis (sides_at args 0)) k) t +ℚ
-    rat_sum_below (folded_count axis (sides_at args 0)) (λ i. taken (fold_bend p) (rat_sum (list_below (member_rows p) (member_weights p w i))) (t (unknown_of p (folded_count axis (sides_at args 0)) k i))))
+    rat_sum_below (folded_count axis (sides_at args 0))
+    (λ i. taken (fold_bend p) (rat_sum (list_below (member_rows p) (member_weights p w i))) (t (unknown_of p (folded_count axis (sides_at args 0)) k i))))
 balanced_group Max axis args to c w t f kinds k h met =
     let n = folded_count axis (sides_at args 0) in
     subst (λ y. IsNonnegative (c *ℚ form_at (unknown_form k) t +ℚ y)) (sym (all_taken Convex n _ (t k)))

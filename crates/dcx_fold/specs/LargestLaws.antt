@@ -1,5 +1,38 @@
 -- The laws of the sum of the k largest entries, and of the k smallest.
-use Rattle.std.proofs.Common.{◌≡◌, ℕ, zero, suc, ◌-◌, ◌<◌, ◌≤◌, ◌&&◌, if◌then◌else◌, arith, Bool, true, false, List, [], ◌∷◌, ◌++◌, map, length, take, All, Some, None, replicate, refl, sym, ap, ap₂, ◌∙◌, subst, pos, negsuc}
+use Rattle.std.proofs.Common.{
+  ◌≡◌,
+  ℕ,
+  zero,
+  suc,
+  ◌-◌,
+  ◌<◌,
+  ◌≤◌,
+  ◌&&◌,
+  if◌then◌else◌,
+  arith,
+  Bool,
+  true,
+  false,
+  List,
+  [],
+  ◌∷◌,
+  ◌++◌,
+  map,
+  length,
+  take,
+  All,
+  Some,
+  None,
+  replicate,
+  refl,
+  sym,
+  ap,
+  ap₂,
+  ◌∙◌,
+  subst,
+  pos,
+  negsuc,
+}
 use Rattle.std.specs.Prelude.{nat_le, slice_index_or}
 use Rattle.std.proofs.lemmas.Bool.{leb-true}
 use Rattle.std.proofs.lemmas.List.{get_or-replicate}
@@ -23,7 +56,8 @@ use Rattle.dcx_atom.specs.Meaning.{IsMet}
 use Rattle.dcx_atom.specs.Laws.{SumsUp, KeepsSign, KeepsTrend, IsBent, IsSoundGraph, IsTightGraph, HasSubgradients, Recedes}
 use Rattle.dcx_atom.specs.Bounding.{outward}
 use Rattle.dcx_atom.proofs.Sublinear.{curvature_of, recession_of}
-use Rattle.dcx_atom.proofs.Duality.{no_entries, no_filling, AreRowSlopes, AreBalanced, subgradient_of}
+use Rattle.dcx_atom.specs.Duality.{no_entries, no_filling, AreRowSlopes, AreBalanced}
+use Rattle.dcx_atom.proofs.Duality.{subgradient_of}
 use Rattle.dcx_atom.proofs.LinearSums.{follows_rising, All-list_below}
 use Rattle.dcx_atom.proofs.BoundRows.{taken, length-list_below, map-list_below, All-at, RowsHold-list_below, RowsHold-list_below_back, weighted-list_below, form-list_below, rat_sum-list_below}
 use Rattle.dcx_fold.specs.Sorted.{above, All-falling, falling-falls, length-falling, falling-summed, above-nonneg, above-monotone, first-≤, first-is}
@@ -161,7 +195,8 @@ concave_within : (x q u : ℚ) → whole (pos 1) *ℚ q +ℚ (whole (negsuc 0) *
 concave_within x q u h = linear (x ∷ q ∷ u ∷ []) h (search reads depth 30) tt
 
 -- where the row of an entry holds, its unknown is at least what stands above the level
-row_within : (bend : Bend) (i : ℕ) (a : Entries) (t : Filling) → row_at (level_row bend i) a t ≤ℚ whole (pos 0) → IsNonnegative (t (suc i)) → above (outward bend (t 0)) (outward bend (a 0 i)) ≤ℚ t (suc i)
+row_within : (bend : Bend) (i : ℕ) (a : Entries) (t : Filling) → row_at (level_row bend i) a t ≤ℚ whole (pos 0) → IsNonnegative (t (suc i))
+    → above (outward bend (t 0)) (outward bend (a 0 i)) ≤ℚ t (suc i)
 row_within Convex i a t h n = rat_max-≤ℚ (convex_within (a 0 i) (t 0) (t (suc i)) h) n
 row_within Concave i a t h n = rat_max-≤ℚ (concave_within (a 0 i) (t 0) (t (suc i)) h) n
 
@@ -178,7 +213,8 @@ form_is bend k n t =
     (form-list_below n (λ i. record { aux = suc i; coefficient = outward bend (whole (pos 1)) }) t ∙ rat_sum_below-*ℚ n (outward bend (whole (pos 1))) (λ i. t (suc i)))
     ∙ by bend
   where
-    by : (bend : Bend) → whole (pos k) *ℚ t 0 +ℚ outward bend (whole (pos 1)) *ℚ rat_sum_below n (λ i. t (suc i)) ≡ outward bend (whole (pos k) *ℚ outward bend (t 0) +ℚ rat_sum_below n (λ i. t (suc i)))
+    by : (bend : Bend) → whole (pos k) *ℚ t 0 +ℚ outward bend (whole (pos 1)) *ℚ rat_sum_below n (λ i. t (suc i))
+        ≡ outward bend (whole (pos k) *ℚ outward bend (t 0) +ℚ rat_sum_below n (λ i. t (suc i)))
     by Convex = convex_form (whole (pos k)) (t 0) (rat_sum_below n (λ i. t (suc i)))
     by Concave = concave_form (whole (pos k)) (t 0) (rat_sum_below n (λ i. t (suc i)))
 

@@ -19,7 +19,8 @@ use Rattle.dcx_atom.specs.Meaning.{IsMet}
 use Rattle.dcx_atom.specs.Laws.{SumsUp, KeepsSign, KeepsTrend, IsBent, IsSoundGraph, IsTightGraph, HasSubgradients, Recedes}
 use Rattle.dcx_atom.specs.Bounding.{argument_term, unknown_term, unknown_form, free_kinds}
 use Rattle.dcx_atom.proofs.Sublinear.{curvature_of, recession_of}
-use Rattle.dcx_atom.proofs.Duality.{no_entries, no_filling, AreRowSlopes, AreBalanced, subgradient_of}
+use Rattle.dcx_atom.specs.Duality.{no_entries, no_filling, AreRowSlopes, AreBalanced}
+use Rattle.dcx_atom.proofs.Duality.{subgradient_of}
 use Rattle.dcx_atom.proofs.LinearSums.{follows_rising}
 use Rattle.dcx_atom.proofs.BoundRows.{beyond_of_row, row_of_beyond, times_one, alone_is, below_or_last}
 use Rattle.dcx_fold.specs.FoldLaws.{each_beyond, all_beyond, extreme_goes, extreme_signed}
@@ -149,7 +150,8 @@ first_left : (c w v t : ℚ) → w +ℚ whole (pos 0) ≡ c +ℚ v →
     whole (pos 0) +ℚ (c *ℚ (whole (pos 1) *ℚ t +ℚ whole (pos 0)) +ℚ (w *ℚ (whole (pos 1) *ℚ whole (pos 0) +ℚ (whole (negsuc 0) *ℚ t +ℚ whole (pos 0))) +ℚ whole (pos 0))) ≡ neg_ℚ (v *ℚ t)
 first_left c w v t e = spread c w t ∙ ap (λ x. c *ℚ t +ℚ neg_ℚ (x *ℚ t)) (sym (+ℚ_idr w) ∙ e) ∙ drop c v t
   where
-    spread : (c w t : ℚ) → whole (pos 0) +ℚ (c *ℚ (whole (pos 1) *ℚ t +ℚ whole (pos 0)) +ℚ (w *ℚ (whole (pos 1) *ℚ whole (pos 0) +ℚ (whole (negsuc 0) *ℚ t +ℚ whole (pos 0))) +ℚ whole (pos 0))) ≡ c *ℚ t +ℚ neg_ℚ (w *ℚ t)
+    spread : (c w t : ℚ) → whole (pos 0) +ℚ (c *ℚ (whole (pos 1) *ℚ t +ℚ whole (pos 0))
+        +ℚ (w *ℚ (whole (pos 1) *ℚ whole (pos 0) +ℚ (whole (negsuc 0) *ℚ t +ℚ whole (pos 0))) +ℚ whole (pos 0))) ≡ c *ℚ t +ℚ neg_ℚ (w *ℚ t)
     spread c w t = ring (c ∷ w ∷ t ∷ []) (search reads depth 30) tt
 
     drop : (c v t : ℚ) → c *ℚ t +ℚ neg_ℚ ((c +ℚ v) *ℚ t) ≡ neg_ℚ (v *ℚ t)
@@ -186,7 +188,8 @@ balanced [] sides is c w accepted t kinds = cc
 balanced (Scalar ∷ []) sides is c w accepted t kinds = cc
 balanced (Vector n ∷ []) sides is c w accepted t kinds =
     let e : Vector n ≡ sides = cc in
-    let met : (j : ℕ) → j < n → rat_sum (own_weights j (w j)) ≡ c j +ℚ rat_sum (next_weights n w j) = λ j b. All-head IsMet (running_condition n (c j) w j) [] (accepted.conditions j (subst (λ s. j < entries_of s) e b)) in
+    let met : (j : ℕ) → j < n → rat_sum (own_weights j (w j)) ≡ c j +ℚ rat_sum (next_weights n w j) =
+    λ j b. All-head IsMet (running_condition n (c j) w j) [] (accepted.conditions j (subst (λ s. j < entries_of s) e b)) in
     subst (λ s. IsNonnegative (rat_sum_below (entries_of s) (λ j. c j *ℚ form_at (unknown_form j) t +ℚ weighted (running_rows j) (w j) no_entries t))) e
     (≤ℚ-from_≡ (sym (nothing_left n c w t met)))
 balanced (Matrix m n ∷ []) sides is c w accepted t kinds = cc

@@ -9,6 +9,9 @@ ghost use Rattle.dcx_atom.specs.Steps.{AreSlopesOf, IsSlopeStop};
 ghost use Rattle.dcx_atom.specs.Value.{IsValueOf, IsValueStop};
 ghost use Rattle.dcx_fold.specs.Largest.{chosen_sides, largest_meaning};
 ghost use Rattle.dcx_fold.specs.LargestLaws.{largest_formation, largest_sign_law, largest_monotonicity, largest_curvature, largest_soundness, largest_tightness, largest_subgradient, largest_recession};
+ghost use Rattle.dcx_fold.specs.LargestDualLaws.{largest_duality};
+ghost use Rattle.dcx_fold.specs.OwnLaws.{largest_own};
+ghost use Rattle.dcx_fold.specs.FractionLaws.{largest_fraction_summands, largest_fraction_coefficients, largest_fraction_slopes};
 
 use crate::largest::{
     check_chosen, chosen_sum, entry_rows, level_kinds, level_result, scalar, turned,
@@ -104,6 +107,16 @@ impl Atom for Largest {
 
     ghost recession = { λ x. largest_recession x.bend x.k };
 
+    ghost own_unknowns = { λ x. largest_own x.bend x.k };
+
+    ghost duality = { λ x. largest_duality x.bend x.k };
+
+    ghost fraction_summands = { λ x. largest_fraction_summands x.bend x.k };
+
+    ghost fraction_coefficients = { λ x. largest_fraction_coefficients x.bend x.k };
+
+    ghost fraction_slopes = { λ x. largest_fraction_slopes x.bend x.k };
+
     fn shape(&self, args: &[Shape]) -> Option<Shape> {
         match args {
             [from] => {
@@ -189,6 +202,16 @@ impl Atom for SumLargest {
 
     ghost recession = { λ x. largest_recession Bend.Convex x.k };
 
+    ghost own_unknowns = { λ x. largest_own Bend.Convex x.k };
+
+    ghost duality = { λ x. largest_duality Bend.Convex x.k };
+
+    ghost fraction_summands = { λ x. largest_fraction_summands Bend.Convex x.k };
+
+    ghost fraction_coefficients = { λ x. largest_fraction_coefficients Bend.Convex x.k };
+
+    ghost fraction_slopes = { λ x. largest_fraction_slopes Bend.Convex x.k };
+
     fn shape(&self, args: &[Shape]) -> Option<Shape> {
         self.largest().shape(args)
     }
@@ -261,6 +284,16 @@ impl Atom for SumSmallest {
     ghost subgradient = { λ x. largest_subgradient Bend.Concave x.k };
 
     ghost recession = { λ x. largest_recession Bend.Concave x.k };
+
+    ghost own_unknowns = { λ x. largest_own Bend.Concave x.k };
+
+    ghost duality = { λ x. largest_duality Bend.Concave x.k };
+
+    ghost fraction_summands = { λ x. largest_fraction_summands Bend.Concave x.k };
+
+    ghost fraction_coefficients = { λ x. largest_fraction_coefficients Bend.Concave x.k };
+
+    ghost fraction_slopes = { λ x. largest_fraction_slopes Bend.Concave x.k };
 
     fn shape(&self, args: &[Shape]) -> Option<Shape> {
         self.largest().shape(args)

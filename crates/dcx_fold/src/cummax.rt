@@ -2,6 +2,9 @@
 ghost use Rattle.std.specs.Prelude.{◌≡◌};
 ghost use Rattle.dcx_fold.specs.Running.{running_meaning};
 ghost use Rattle.dcx_fold.specs.RunningLaws.{running_formation, running_sign_law, running_monotonicity, running_curvature, running_soundness, running_tightness, running_subgradient, running_recession};
+ghost use Rattle.dcx_fold.specs.RunningDualLaws.{running_duality};
+ghost use Rattle.dcx_fold.specs.OwnLaws.{running_own};
+ghost use Rattle.dcx_fold.specs.FractionLaws.{running_fraction_summands, running_fraction_coefficients, running_fraction_slopes};
 
 use crate::running::{entry_rows, running_greatest, running_slopes};
 use dcx_atom::{
@@ -34,6 +37,16 @@ impl Atom for CumMax {
     ghost subgradient = { λ _. running_subgradient };
 
     ghost recession = { λ _. running_recession };
+
+    ghost own_unknowns = { λ _. running_own };
+
+    ghost duality = { λ _. running_duality };
+
+    ghost fraction_summands = { λ _. running_fraction_summands };
+
+    ghost fraction_coefficients = { λ _. running_fraction_coefficients };
+
+    ghost fraction_slopes = { λ _. running_fraction_slopes };
 
     fn shape(&self, args: &[Shape]) -> Option<Shape> {
         match args {

@@ -3,6 +3,9 @@ ghost use Rattle.std.specs.Prelude.{◌≡◌};
 ghost use Rattle.dcx_fold.specs.declared.folding.Fold.{Fold};
 ghost use Rattle.dcx_fold.specs.Folds.{fold_meaning};
 ghost use Rattle.dcx_fold.specs.FoldLaws.{fold_formation, fold_sign_law, fold_monotonicity, fold_curvature, fold_soundness, fold_tightness, fold_subgradient, fold_recession};
+ghost use Rattle.dcx_fold.specs.FoldDualLaws.{fold_duality};
+ghost use Rattle.dcx_fold.specs.OwnLaws.{fold_own};
+ghost use Rattle.dcx_fold.specs.FractionLaws.{fold_fraction_summands, fold_fraction_coefficients, fold_fraction_slopes};
 
 use crate::folding::{Fold, Folding};
 use dcx_atom::{Array, Atom, Axis, Bend, Graph, Sign, SlopeStop, Trend, ValueStop};
@@ -47,6 +50,16 @@ impl Atom for MaxOf {
     ghost subgradient = { λ x. fold_subgradient Fold.Max x.axis };
 
     ghost recession = { λ x. fold_recession Fold.Max x.axis };
+
+    ghost own_unknowns = { λ x. fold_own Fold.Max x.axis };
+
+    ghost duality = { λ x. fold_duality Fold.Max x.axis };
+
+    ghost fraction_summands = { λ x. fold_fraction_summands Fold.Max x.axis };
+
+    ghost fraction_coefficients = { λ x. fold_fraction_coefficients Fold.Max x.axis };
+
+    ghost fraction_slopes = { λ x. fold_fraction_slopes Fold.Max x.axis };
 
     fn shape(&self, args: &[Shape]) -> Option<Shape> {
         self.folding().shape(args)
@@ -120,6 +133,16 @@ impl Atom for MinOf {
     ghost subgradient = { λ x. fold_subgradient Fold.Min x.axis };
 
     ghost recession = { λ x. fold_recession Fold.Min x.axis };
+
+    ghost own_unknowns = { λ x. fold_own Fold.Min x.axis };
+
+    ghost duality = { λ x. fold_duality Fold.Min x.axis };
+
+    ghost fraction_summands = { λ x. fold_fraction_summands Fold.Min x.axis };
+
+    ghost fraction_coefficients = { λ x. fold_fraction_coefficients Fold.Min x.axis };
+
+    ghost fraction_slopes = { λ x. fold_fraction_slopes Fold.Min x.axis };
 
     fn shape(&self, args: &[Shape]) -> Option<Shape> {
         self.folding().shape(args)

@@ -51,7 +51,8 @@ fn push_member_row(
     place: u32,
     coefficient: Frac,
 ) -> Result<(), AllocError>
-    ensures { OnOk result (map placed_row rows.new.items ≡ map placed_row rows.old.items ++ record { entry = entry; row = bound_row (fold_bend fold) unknown (argument_term 0 place (value coefficient)) } ∷ []) }
+    ensures { OnOk result (map placed_row rows.new.items
+        ≡ map placed_row rows.old.items ++ record { entry = entry; row = bound_row (fold_bend fold) unknown (argument_term 0 place (value coefficient)) } ∷ []) }
 {
     rows.push(member_row(alloc, fold, entry, unknown, place, coefficient)?)?;
     Ok(())
@@ -99,7 +100,8 @@ fn push_group_rows(
     entry: u32,
 ) -> Result<(), AllocError>
     requires { entry < groups folding.axis (sides_of from) }
-    ensures { OnOk result (map placed_row rows.new.items ≡ map placed_row rows.old.items ++ map (λ row. record { entry = entry; row = row }) (group_rows folding.fold folding.axis (sides_of from) entry)) }
+    ensures { OnOk result (map placed_row rows.new.items
+        ≡ map placed_row rows.old.items ++ map (λ row. record { entry = entry; row = row }) (group_rows folding.fold folding.axis (sides_of from) entry)) }
 {
     let stride = folding.axis.stride(from, entry);
     let count = folding.axis.folded_count(from);

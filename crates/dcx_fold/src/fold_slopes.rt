@@ -142,7 +142,8 @@ fn slopes_by_group(
     requires coefficients { length coefficients.now ≡ size }
     requires weights { length weights.now ≡ size * (folded_count folding.axis (sides_of from) * member_rows folding.fold) }
     ensures ok { IfOk result (λ v. HaveNoStop (fold_meaning folding.fold folding.axis) (sides_of from ∷ []) size coefficients.now weights.now) }
-    ensures slopes { IfOk result (λ v. map value v.items ≡ joined_below size (λ k. list_below (folded_count folding.axis (sides_of from)) (λ i. exact (member_slope folding.fold (member_weights folding.fold (weights_of (fold_meaning folding.fold folding.axis) (sides_of from ∷ []) weights.now k) i))))) }
+    ensures slopes { IfOk result (λ v. map value v.items ≡ joined_below size (λ k. list_below (folded_count folding.axis (sides_of from))
+        (λ i. exact (member_slope folding.fold (member_weights folding.fold (weights_of (fold_meaning folding.fold folding.axis) (sides_of from ∷ []) weights.now k) i))))) }
     ensures stop { IfErr result (IsSlopeStop (fold_meaning folding.fold folding.axis) (sides_of from ∷ []) size coefficients.now weights.now) }
 {
     let members = folding.axis.folded_count(from);
@@ -188,7 +189,8 @@ fn spot(axis: Axis, from: Shape, e: u32) -> usize
 /// The slopes in the order of the argument's entries, from those by groups.
 fn by_entry(alloc: Global, axis: Axis, from: Shape, slopes: &[Frac]) -> Result<Fracs, AllocError>
     requires { length slopes.now ≡ groups axis (sides_of from) * folded_count axis (sides_of from) }
-    ensures { IfOk result (λ g. map value g ≡ list_below (entries_of (sides_of from)) (λ e. number_at slopes.now (group_of axis (sides_of from) e * folded_count axis (sides_of from) + member_of axis (sides_of from) e))) }
+    ensures { IfOk result (λ g. map value g ≡ list_below (entries_of (sides_of from)) (λ e. number_at slopes.now
+        (group_of axis (sides_of from) e * folded_count axis (sides_of from) + member_of axis (sides_of from) e))) }
 {
     let mut ordered = Vec::new(alloc);
     for e in 0..from.size() {

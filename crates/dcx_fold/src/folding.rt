@@ -5,6 +5,9 @@ ghost use Rattle.dcx_atom.specs.Arrays.{sides_list};
 ghost use Rattle.dcx_fold.specs.Groups.{fold_sides};
 ghost use Rattle.dcx_fold.specs.Folds.{fold_bend, fold_kind, fold_trend, fold_sign, fold_meaning};
 ghost use Rattle.dcx_fold.specs.FoldLaws.{fold_formation, fold_sign_law, fold_monotonicity, fold_curvature, fold_soundness, fold_tightness, fold_subgradient, fold_recession};
+ghost use Rattle.dcx_fold.specs.FoldDualLaws.{fold_duality};
+ghost use Rattle.dcx_fold.specs.OwnLaws.{fold_own};
+ghost use Rattle.dcx_fold.specs.FractionLaws.{fold_fraction_summands, fold_fraction_coefficients, fold_fraction_slopes};
 
 use crate::fold_graphs::fold_graph;
 use crate::fold_slopes::fold_slopes;
@@ -109,6 +112,16 @@ impl Atom for Folding {
     ghost subgradient = { λ x. fold_subgradient x.fold x.axis };
 
     ghost recession = { λ x. fold_recession x.fold x.axis };
+
+    ghost own_unknowns = { λ x. fold_own x.fold x.axis };
+
+    ghost duality = { λ x. fold_duality x.fold x.axis };
+
+    ghost fraction_summands = { λ x. fold_fraction_summands x.fold x.axis };
+
+    ghost fraction_coefficients = { λ x. fold_fraction_coefficients x.fold x.axis };
+
+    ghost fraction_slopes = { λ x. fold_fraction_slopes x.fold x.axis };
 
     fn shape(&self, args: &[Shape]) -> Option<Shape> {
         match args {

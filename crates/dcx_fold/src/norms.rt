@@ -3,6 +3,9 @@ ghost use Rattle.std.specs.Prelude.{◌≡◌};
 ghost use Rattle.dcx_fold.specs.declared.folding.Fold.{Fold};
 ghost use Rattle.dcx_fold.specs.Folds.{fold_meaning};
 ghost use Rattle.dcx_fold.specs.FoldLaws.{fold_formation, fold_sign_law, fold_monotonicity, fold_curvature, fold_soundness, fold_tightness, fold_subgradient, fold_recession};
+ghost use Rattle.dcx_fold.specs.FoldDualLaws.{fold_duality};
+ghost use Rattle.dcx_fold.specs.OwnLaws.{fold_own};
+ghost use Rattle.dcx_fold.specs.FractionLaws.{fold_fraction_summands, fold_fraction_coefficients, fold_fraction_slopes};
 
 use crate::folding::{Fold, Folding};
 use dcx_atom::{Array, Atom, Axis, Bend, Graph, Sign, SlopeStop, Trend, ValueStop};
@@ -47,6 +50,16 @@ impl Atom for Norm1 {
     ghost subgradient = { λ x. fold_subgradient Fold.Norm1 x.axis };
 
     ghost recession = { λ x. fold_recession Fold.Norm1 x.axis };
+
+    ghost own_unknowns = { λ x. fold_own Fold.Norm1 x.axis };
+
+    ghost duality = { λ x. fold_duality Fold.Norm1 x.axis };
+
+    ghost fraction_summands = { λ x. fold_fraction_summands Fold.Norm1 x.axis };
+
+    ghost fraction_coefficients = { λ x. fold_fraction_coefficients Fold.Norm1 x.axis };
+
+    ghost fraction_slopes = { λ x. fold_fraction_slopes Fold.Norm1 x.axis };
 
     fn shape(&self, args: &[Shape]) -> Option<Shape> {
         self.folding().shape(args)
@@ -120,6 +133,16 @@ impl Atom for NormInf {
     ghost subgradient = { λ x. fold_subgradient Fold.NormInf x.axis };
 
     ghost recession = { λ x. fold_recession Fold.NormInf x.axis };
+
+    ghost own_unknowns = { λ x. fold_own Fold.NormInf x.axis };
+
+    ghost duality = { λ x. fold_duality Fold.NormInf x.axis };
+
+    ghost fraction_summands = { λ x. fold_fraction_summands Fold.NormInf x.axis };
+
+    ghost fraction_coefficients = { λ x. fold_fraction_coefficients Fold.NormInf x.axis };
+
+    ghost fraction_slopes = { λ x. fold_fraction_slopes Fold.NormInf x.axis };
 
     fn shape(&self, args: &[Shape]) -> Option<Shape> {
         self.folding().shape(args)

@@ -41,7 +41,8 @@ fn push_row(
     entry: u32,
     operand: Operand,
 ) -> Result<(), AllocError>
-    ensures { OnOk result (map placed_row rows.new.items ≡ map placed_row rows.old.items ++ record { entry = entry; row = bound_row Convex entry (record { operand = operand; coefficient = whole (pos 1) }) } ∷ []) }
+    ensures { OnOk result (map placed_row rows.new.items
+        ≡ map placed_row rows.old.items ++ record { entry = entry; row = bound_row Convex entry (record { operand = operand; coefficient = whole (pos 1) }) } ∷ []) }
 {
     let term = GraphTerm {
         operand,

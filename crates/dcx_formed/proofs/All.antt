@@ -28,13 +28,15 @@ use Rattle.dcx_formed.proofs.Nodes.{number_stands, reduced_stands}
 module _ {C : Type 0} (value_at : C → Parameters → ℚ) (of_number : Frac → C) (number_of : C → Option Frac) (Sums : C → C → Result C Passes → Type 0) (Changes : Change → C → Result C Passes → Type 0)
     (Reads : ℕ → List ℕ → ℕ → Pairs → C → Type 0) (laws : AreCoefs value_at of_number number_of Sums Changes) (rules : Rules) (p : Problem) (setting : Pairs) (table : Table C)
     (formed : AreFormed of_number number_of Sums Changes Reads rules p setting (length p.tree) table) (params : Parameters) (s : Setting)
-    (told : (i : ℕ) → i < length p.tree → is_reduced rules p i ≡ false → (x : Point) (j : ℕ) → problem_value p s x i j ≡ source value_at of_number number_of Sums Changes Reads laws rules p setting table formed i j)
+    (told : (i : ℕ) → i < length p.tree → is_reduced rules p i ≡ false → (x : Point) (j : ℕ)
+    → problem_value p s x i j ≡ source value_at of_number number_of Sums Changes Reads laws rules p setting table formed i j)
     (read : (i : ℕ) (n : Node) (q : Parameter) → IsNode p.tree i n → n.call ≡ calls.Parameter q → is_reduced rules p i ≡ true → (j : ℕ) (c : C) →
     Reads (number_of_name (names_in p).parameters q.name) q.name j setting c → value_at c params ≡ s (number_of_name (names_in p).parameters q.name) j)
     (ok : IsTrue (accepted_by rules (convex_problem p)))
     (steady : (i : ℕ) → ((k : ℕ) (n : Node) → k < i → IsNode p.tree k n → Stands rules p s (forms_at value_at of_number params table) k n (is_reduced rules p k)) →
-    (u w : Unknowns) (a : ℕ) → a < i → a < length p.tree → ¬ IsTrue (is_constant rules (judgement_at rules (nodes_of p) a)) → IsTrue (judgement_at rules (nodes_of p) a).fixed → IsTrue (is_affine (judgement_at rules (nodes_of p) a)) →
-    forms_at value_at of_number params table u a ≡ forms_at value_at of_number params table w a) where
+    (u w : Unknowns) (a : ℕ) → a < i → a < length p.tree → ¬ IsTrue (is_constant rules (judgement_at rules (nodes_of p) a)) → IsTrue (judgement_at rules (nodes_of p) a).fixed
+    → IsTrue (is_affine (judgement_at rules (nodes_of p) a))
+    → forms_at value_at of_number params table u a ≡ forms_at value_at of_number params table w a) where
   stand_within : (d i : ℕ) → i < d → (n : Node) → IsNode p.tree i n → Stands rules p s (forms_at value_at of_number params table) i n (is_reduced rules p i)
   stand_within zero i b n at = absurd (omega arith)
   stand_within (suc d) i b n at = by (is_reduced rules p i) refl (λ k m l there. stand_within d k (omega arith) m there)

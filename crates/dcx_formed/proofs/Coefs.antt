@@ -15,7 +15,8 @@ use Rattle.dcx_linear.proofs.NumberForms.{sum_number, change_number}
 use Rattle.dcx_linear.specs.FormsAt.{frac_value}
 
 -- the laws of coefficients, and that sums and changes of numbers are numbers
-pub record AreCoefs {C : Type 0} (value_at : C → Parameters → ℚ) (of_number : Frac → C) (number_of : C → Option Frac) (Sums : C → C → Result C Passes → Type 0) (Changes : Change → C → Result C Passes → Type 0) : Type 0 where
+pub record AreCoefs {C : Type 0} (value_at : C → Parameters → ℚ) (of_number : Frac → C) (number_of : C → Option Frac) (Sums : C → C → Result C Passes → Type 0)
+    (Changes : Change → C → Result C Passes → Type 0) : Type 0 where
   pub number_value : (x : Frac) (p : Parameters) → value_at (of_number x) p ≡ value x
   pub number_told : (x : Frac) → number_of (of_number x) ≡ Some x
   pub told_value : (c : C) (x : Frac) (p : Parameters) → number_of c ≡ Some x → value_at c p ≡ value x

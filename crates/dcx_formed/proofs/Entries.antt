@@ -16,7 +16,7 @@ use Rattle.dcx_linear.specs.Forms.{is_constant, sum_gives_linear, change_gives_l
 use Rattle.dcx_linear.specs.Multiples.{multiple_gives}
 use Rattle.dcx_linear.specs.Parts.{adds_part, adds_parts, sums_parts}
 use Rattle.dcx_unknowns.proofs.Lists.{Each, each_nil, each_cons, each_head, each_tail}
-use Rattle.dcx_unknowns.proofs.OwnTerms.{IsOwn, AreOwnTerms, AreOwnRows, IsOwnForm}
+use Rattle.dcx_atom.specs.OwnUnknowns.{IsOwn, AreOwnTerms, AreOwnRows, IsOwnForm}
 use Rattle.dcx_entries.specs.declared.entries.EntryForms.{EntryForms}
 use Rattle.dcx_entries.specs.declared.scaling.Scaling.{Scaling}
 use Rattle.dcx_entries.specs.declared.scaling.Scaling.TheVariants.{LeftNumber, RightNumber, LeftAffine, RightAffine, Divisor}
@@ -65,7 +65,8 @@ module _ {C : Type 0} (of_number : Frac → C) (number_of : C → Option Frac) (
     rows_keep : (lists : List (List (Change × Form C))) (gs : List (Form C)) → EachSum of_number number_of Sums Changes lists (Ok gs) → Each (Each OfPart) lists → Each F gs
     rows_keep lists gs s a k g at = sum_keeps (slice_index_or lists k []) g (s.1 k g at) (at_or (Each OfPart) lists k [] a (each_nil OfPart))
 
-    pub atom_keeps : (result : List (Change × Form C)) (lists : List (List (Change × Form C))) (e : EntryForms C) → AtomEntry of_number number_of Sums Changes result lists (Ok e) → Each OfPart result → Each (Each OfPart) lists → OfEntry F e
+    pub atom_keeps : (result : List (Change × Form C)) (lists : List (List (Change × Form C))) (e : EntryForms C) → AtomEntry of_number number_of Sums Changes result lists (Ok e)
+        → Each OfPart result → Each (Each OfPart) lists → OfEntry F e
     atom_keeps result lists e s a b =
         let f = s.0 in
         let gs = s.2.0 in

@@ -9,7 +9,7 @@ use Rattle.dcx_shape.specs.declared.shape.Sides.TheVariants.{Scalar}
 use Rattle.dcx_shape.specs.Sides.{entries_of}
 use Rattle.dcx_arena.specs.Nodes.{AreNodes, sides_at, entries_in}
 use Rattle.dcx_call.specs.Calls.{shape_of}
-use Rattle.dcx_call.specs.Exact.{HaveFewEntries}
+use Rattle.dcx_atom.specs.Fractions.{HaveFewEntries}
 use Rattle.dcx_tree.specs.Nodes.{Node, arg_sides}
 
 module _ (nodes : List Node) (are : AreNodes shape_of nodes) where

@@ -18,7 +18,7 @@ use Rattle.dcx_convex.specs.Rules.{Rules, Judgement, judgement_by, judgement_at}
 use Rattle.dcx_convex.proofs.Told.{judgement_tells}
 use Rattle.dcx_call.specs.declared.call.Call.{Call}
 use Rattle.dcx_call.specs.declared.call.Call.TheVariants as calls
-use Rattle.dcx_call.specs.Atoms.{atom_meaning}
+use Rattle.dcx_call.specs.Atoms.{atom_meaning, atom_lawful}
 use Rattle.dcx_call.specs.Linears.{linear_meaning}
 use Rattle.dcx_call.specs.Calls.{shape_of}
 use Rattle.dcx_call.specs.Values.{given_by, entry_formed}
@@ -34,7 +34,6 @@ use Rattle.dcx_linear.specs.Multiples.{HasNumbers}
 use Rattle.dcx_linear.specs.Parameters.{Parameters}
 use Rattle.dcx_linear.proofs.Coefficients.{sum_keeps, change_keeps, multiple_keeps}
 use Rattle.dcx_unknowns.specs.Layout.{is_reduced, first_aux}
-use Rattle.dcx_unknowns.proofs.OwnGraphs.{atom_own}
 use Rattle.dcx_unknowns.proofs.NodeForms.{nodes_of, nodes_ordered, node_at}
 use Rattle.dcx_entries.specs.declared.entries.EntryForms.{EntryForms}
 use Rattle.dcx_entries.specs.Parts.{Arguments, unknown_form, form_of_unknown}
@@ -95,15 +94,17 @@ module _ {C : Type 0} (value_at : C → Parameters → ℚ) (of_number : Frac �
         args_have of_number (table_forms table) (λ a. (a < i) × IsTrue (judged a).unparametrized) Has (constant_has zero_frac) (λ a q e. earlier a q.0 q.1 e) n.args
         (all_both (λ a. a < i) (λ a. IsTrue (judged a).unparametrized) n.args (p.nodes.earlier i n at) (each_constant (λ g. g.unparametrized) judged n.args t)) k e
 
-    reduced_has : (call : Call) → IsTrue (judgement_by rules (head_of (names_in p) call (arg_sides p.tree n) n.sides) (map judged n.args)).unparametrized → shape_of call (arg_sides p.tree n) ≡ Some n.sides → (j : ℕ) → j < entries_of n.sides → (entry : EntryForms C) →
-        ReducedEntry of_number number_of Sums Changes Reads rules p setting (table_forms table) i n.args call (arg_sides p.tree n) j (Ok entry) → Has entry.form
+    reduced_has : (call : Call) → IsTrue (judgement_by rules (head_of (names_in p) call (arg_sides p.tree n) n.sides) (map judged n.args)).unparametrized
+        → shape_of call (arg_sides p.tree n) ≡ Some n.sides → (j : ℕ) → j < entries_of n.sides → (entry : EntryForms C)
+        → ReducedEntry of_number number_of Sums Changes Reads rules p setting (table_forms table) i n.args call (arg_sides p.tree n) j (Ok entry) → Has entry.form
     reduced_has (calls.Variable v) t shape j b entry h = subst (λ (z : EntryForms C). Has z.form) (sym (entry_is {E = ValueStop} entry _ h)) (unknown_or_zero_has _)
     reduced_has (calls.Parameter q) t shape j b entry h = absurd (false≢true t)
     reduced_has (calls.Constant c) t shape j b entry h =
-        let (x, made, is) = made_number value_at of_number number_of Sums Changes Reads laws rules p setting table formed (entry_formed (calls.Constant c) (given_by setting) (given_by []) (arg_sides p.tree n) (numbers_in number_of args) j) entry h in
+        let (x, made, is) = made_number value_at of_number number_of Sums Changes Reads laws rules p setting table formed
+        (entry_formed (calls.Constant c) (given_by setting) (given_by []) (arg_sides p.tree n) (numbers_in number_of args) j) entry h in
         subst Has (sym is) (constant_has x)
     reduced_has (calls.Atom m) t shape j b entry h =
-        let own = atom_own m (arg_sides p.tree n) n.sides shape in
+        let own = (atom_lawful m).own_unknowns (arg_sides p.tree n) n.sides shape in
         let first = first_aux rules p i in
         let many = length ((atom_meaning m).kinds (arg_sides p.tree n)) in
         let few : (k : ℕ) → k < many → first + k < first + many = λ k l. omega arith in
@@ -111,7 +112,8 @@ module _ {C : Type 0} (value_at : C → Parameters → ℚ) (of_number : Frac �
         (result_has of_number number_of Sums Changes Has (first + many) (kept (first + many)) first many few ((atom_meaning m).result (arg_sides p.tree n) j) (own.results j b))
         (rows_have of_number number_of Sums Changes Has (first + many) (kept (first + many)) first many few args (args_settled t) ((atom_meaning m).rows (arg_sides p.tree n) j) (own.rows j b))).form
     reduced_has (calls.Linear l) t shape j b entry h =
-        (linear_keeps of_number number_of Sums Changes Has 0 (kept 0) _ entry h (terms_have of_number number_of Sums Changes Has 0 (kept 0) args (args_settled t) ((linear_meaning l).terms (arg_sides p.tree n) j))).form
+        (linear_keeps of_number number_of Sums Changes Has 0 (kept 0) _ entry h
+        (terms_have of_number number_of Sums Changes Has 0 (kept 0) args (args_settled t) ((linear_meaning l).terms (arg_sides p.tree n) j))).form
     reduced_has (calls.Pairing q) t shape j b entry h =
         (pair_sum_keeps of_number number_of Sums Changes Has 0 (kept 0) args (args_settled t) (scaling_of of_number number_of Sums Changes Reads rules p setting q (table_forms table) n.args)
         (pairs_at q (sides_at (arg_sides p.tree n) 0) (sides_at (arg_sides p.tree n) 1) j) entry

@@ -1,4 +1,4 @@
--- The main statements hold.
+-- Formed nodes meet the equations, where parameters are numbers and where they are affine: the laws' proofs.
 use Rattle.std.proofs.Common.{◌≡◌, IsTrue, [], map, Some, refl, ap, ◌∙◌, subst}
 use Rattle.std.proofs.lemmas.Bool.{and_parts}
 use Rattle.dcx_frac.specs.declared.fraction.Frac.{Frac}
@@ -60,7 +60,8 @@ module _ (p : Problem) (setting : Pairs) (table : Table ParamForm) (ok : IsDpp p
       (λ i b number x j.
       let g = judgement_at Parametrized (nodes_of p) i in
       let t = and_parts g.fixed g.unparametrized (not_reduced (is_constant Parametrized g) number) in
-      ap (λ (f : Numbers). f j) (value_settled Parametrized (nodes_of p) s (setting_of p setting) x i t.1 ∙ constants_are_fixed Parametrized (nodes_of p) (setting_of p setting) x (point_of p []) i t.0))
+      ap (λ (f : Numbers). f j) (value_settled Parametrized (nodes_of p) s (setting_of p setting) x i t.1
+      ∙ constants_are_fixed Parametrized (nodes_of p) (setting_of p setting) x (point_of p []) i t.0))
       (λ i n q at is reduced j c h. form_entry_value (number_of_name (names_in p).parameters q.name) q.name j setting c s h tt)
       ok.1
       (λ i earlier u w a b c none fixed affine. steady p s (forms_at form_value form_of_number s table) i earlier u w a b c fixed affine)

@@ -1,7 +1,5 @@
--- The lemmas by which the laws are proved.
+-- The lemmas by which formed nodes meet the equations of the reduced program, call by call.
 pub mod Lists
-pub mod Representable
-pub mod Coefficients
 pub mod Few
 pub mod Reached
 pub mod Settled

@@ -7,24 +7,6 @@ use Rattle.dcx_atom.specs.Arrays.{list_below, joined_below}
 use Rattle.dcx_atom.proofs.BoundRows.{list_below-first}
 use Rattle.dcx_unknowns.proofs.Places.{joined_next}
 
-module _ {A : Type 0} (P : A → Type 0) where
-  pub all_append : (xs ys : List A) → AllByRecursion P xs → AllByRecursion P ys → AllByRecursion P (xs ++ ys)
-  all_append [] ys h k = k
-  all_append (x ∷ xs) ys h k = (h.0, all_append xs ys h.1 k)
-
-  pub all_below : (n : ℕ) (f : ℕ → A) → ((i : ℕ) → i < n → P (f i)) → AllByRecursion P (list_below n f)
-  all_below zero f h = tt
-  all_below (suc n) f h = all_append (list_below n f) (f n ∷ []) (all_below n f (λ i b. h i (omega arith))) (h n (omega arith), tt)
-
-  pub all_joined : (n : ℕ) (f : ℕ → List A) → ((i : ℕ) → i < n → AllByRecursion P (f i)) → AllByRecursion P (joined_below n f)
-  all_joined zero f h = tt
-  all_joined (suc n) f h = all_append (joined_below n f) (f n) (all_joined n f (λ i b. h i (omega arith))) (h n (omega arith))
-
-  pub all_map : {B : Type 0} (f : B → A) (ys : List B) → AllByRecursion (λ y. P (f y)) ys → AllByRecursion P (map f ys)
-  all_map f [] h = tt
-  all_map f (y ∷ ys) h = (h.0, all_map f ys h.1)
-
--- ---- lists by places
 module _ {A : Type 0} where
   pub joined_same : (n : ℕ) (f g : ℕ → List A) → ((i : ℕ) → i < n → f i ≡ g i) → joined_below n f ≡ joined_below n g
   joined_same zero f g h = refl
@@ -52,7 +34,8 @@ list_of h [] d = refl
 list_of h (x ∷ xs) d = list_below-first (length xs) (λ k. h (slice_index_or (x ∷ xs) k d)) ∙ ap (λ ys. h x ∷ ys) (list_of h xs d)
 
 -- two lists that are the same place by place
-pub maps_same : {A B D : Type 0} (h : A → D) (r : B → D) (xs : List A) (ys : List B) → length xs ≡ length ys → ((k : ℕ) (x : A) (y : B) → slice_get xs k ≡ Some x → slice_get ys k ≡ Some y → h x ≡ r y) → map h xs ≡ map r ys
+pub maps_same : {A B D : Type 0} (h : A → D) (r : B → D) (xs : List A) (ys : List B) → length xs ≡ length ys
+    → ((k : ℕ) (x : A) (y : B) → slice_get xs k ≡ Some x → slice_get ys k ≡ Some y → h x ≡ r y) → map h xs ≡ map r ys
 maps_same h r [] [] e same = refl
 maps_same h r [] (y ∷ ys) e same = absurd (omega (arith, e))
 maps_same h r (x ∷ xs) [] e same = absurd (omega (arith, e))

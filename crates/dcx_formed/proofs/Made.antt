@@ -33,7 +33,8 @@ module _ {C : Type 0} (of_number : Frac → C) (number_of : C → Option Frac) (
     pub sums : sums_parts of_number number_of Sums Changes result (Ok entry.form)
     pub rows_sum : EachSum of_number number_of Sums Changes rows (Ok entry.rows)
 
-  pub atom_made : (result : List (Change × Form C)) (rows : List (List (Change × Form C))) (entry : EntryForms C) → AtomEntry of_number number_of Sums Changes result rows (Ok entry) → IsGraphSum result rows entry
+  pub atom_made : (result : List (Change × Form C)) (rows : List (List (Change × Form C))) (entry : EntryForms C) → AtomEntry of_number number_of Sums Changes result rows (Ok entry)
+      → IsGraphSum result rows entry
   atom_made result rows entry h =
       let made : EntryForms C = record { form = h.0; rows = h.2.0 } in
       let e = entry_is {E = Passes} entry made h.2.2 in
@@ -56,8 +57,12 @@ module _ {C : Type 0} (of_number : Frac → C) (number_of : C → Option Frac) (
       by true d h = cc
       by false d h = (d, h)
 
-  pub pair_made : (scaling : Scaling) (args : Arguments C) (pairs : List Pair) (j : ℕ) (entry : EntryForms C) → PairEntry of_number number_of Sums Changes scaling args pairs j (Ok entry) → IsPairSum scaling args pairs entry
+  pub pair_made : (scaling : Scaling) (args : Arguments C) (pairs : List Pair) (j : ℕ) (entry : EntryForms C) → PairEntry of_number number_of Sums Changes scaling args pairs j (Ok entry)
+      → IsPairSum scaling args pairs entry
   pair_made scaling args pairs j entry h =
       let s = (pair_summed scaling args pairs j entry h).1 in
       let e = entry_is {E = Passes} entry (alone s.0) s.2 in
-      record { sums = subst (λ (z : EntryForms C). adds_each (adds_pair number_of Sums Changes scaling args) pairs (zero_form of_number) (Ok z.form)) (sym e) s.1; rows = ap (λ (z : EntryForms C). z.rows) e }
+      record {
+        sums = subst (λ (z : EntryForms C). adds_each (adds_pair number_of Sums Changes scaling args) pairs (zero_form of_number) (Ok z.form)) (sym e) s.1;
+        rows = ap (λ (z : EntryForms C). z.rows) e;
+      }

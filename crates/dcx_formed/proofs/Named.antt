@@ -32,7 +32,8 @@ module _ (p : Problem) where
   where_named i n at x y h = ∥∥₁_elim p.declared (≡ℚ_prop x y) (λ d. h (named n.call (d.listed i n at)))
 
   -- what follows for two numbers where a variable is declared at the position of its name
-  pub where_declared : (i : ℕ) (n : Node) (v : Variable) → IsNode p.tree i n → n.call ≡ calls.Variable v → (x y : ℚ) → (IsVariable p.variables (number_in (names_in p).variables v.name) v → x ≡ y) → x ≡ y
+  pub where_declared : (i : ℕ) (n : Node) (v : Variable) → IsNode p.tree i n → n.call ≡ calls.Variable v → (x y : ℚ) → (IsVariable p.variables (number_in (names_in p).variables v.name) v → x ≡ y)
+      → x ≡ y
   where_declared i n v at is x y h = ∥∥₁_elim p.declared (≡ℚ_prop x y) (λ d.
       let (k, there) = contains_at p.variables v (subst (IsListed p.variables p.parameters) is (d.listed i n at)) in
       h (subst (λ j. IsVariable p.variables j v) (sym (number_is p d k v there)) there))

@@ -49,7 +49,8 @@ module _ {C : Type 0} (of_number : Frac → C) (number_of : C → Option Frac) (
 
   pub forms_are_narrow : FormsAreNarrow of_number number_of Sums Changes Reads
   forms_are_narrow rules p setting table formed =
-      table_keeps of_number number_of Sums Changes Reads rules p setting (IsNarrow (length (unknown_kinds rules p))) (width_kept (length (unknown_kinds rules p))) (λ q j c listed b r. omega arith) table formed
+      table_keeps of_number number_of Sums Changes Reads rules p setting (IsNarrow (length (unknown_kinds rules p))) (width_kept (length (unknown_kinds rules p)))
+      (λ q j c listed b r. omega arith) table formed
 
 -- ---- parameters
 module _ (p : Problem) where
@@ -74,7 +75,10 @@ module _ (p : Problem) where
   known_kept : (count : ℕ) → IsKept form_of_number number_of_form sum_gives_form change_gives_form (IsKnown p) count
   known_kept count = record {
     numbers = known_number;
-    unknowns = λ n b. (All-nil (IsKnownTerm p), All-cons (λ (t : FormTerm ParamForm). IsKnownNumber p t.coefficient) _ [] (All-nil (IsKnownTerm p)) (All-nil (λ (t : FormTerm ParamForm). IsKnownNumber p t.coefficient)));
+    unknowns = λ n b. (
+      All-nil (IsKnownTerm p),
+      All-cons (λ (t : FormTerm ParamForm). IsKnownNumber p t.coefficient) _ [] (All-nil (IsKnownTerm p)) (All-nil (λ (t : FormTerm ParamForm). IsKnownNumber p t.coefficient)),
+    );
     sums = sum_keeps_known;
     changes = change_keeps_known;
     multiples = λ g f h s a b. multiple_keeps number_of_form (IsKnownNumber p) change_gives_form change_known g.constant f h s a.0;
@@ -108,10 +112,12 @@ module _ (p : Problem) where
       entry =
           ∥∥₁_elim p.declared (hlevel props)
           (λ d. let (k, at, is) = there d in
-          let size = get_or_from_slice_get (map (λ (r : Parameter). entries_of (sides_of r.shape)) p.parameters) k (entries_of (sides_of q.shape)) 0 (slice_get-map (λ (r : Parameter). entries_of (sides_of r.shape)) p.parameters k ∙ ap (option_map (λ (r : Parameter). entries_of (sides_of r.shape))) at) in
+          let size = get_or_from_slice_get (map (λ (r : Parameter). entries_of (sides_of r.shape)) p.parameters) k (entries_of (sides_of q.shape)) 0
+          (slice_get-map (λ (r : Parameter). entries_of (sides_of r.shape)) p.parameters k ∙ ap (option_map (λ (r : Parameter). entries_of (sides_of r.shape))) at) in
           subst (λ n. j < n) (sym (ap (λ m. slice_index_or (map (λ (r : Parameter). entries_of (sides_of r.shape)) p.parameters) m 0) is ∙ size)) b)
 
 pub forms_are_known : FormsAreKnown
 forms_are_known rules p setting table formed =
-    table_keeps form_of_number number_of_form sum_gives_form change_gives_form (λ position name entry s c. IsEntryForm position name entry c) rules p setting (IsKnown p) (known_kept p (length (unknown_kinds rules p)))
+    table_keeps form_of_number number_of_form sum_gives_form change_gives_form (λ position name entry s c. IsEntryForm position name entry c) rules p setting (IsKnown p)
+    (known_kept p (length (unknown_kinds rules p)))
     (λ q j c listed b h. entry_known p q j c listed b h) table formed

@@ -1,5 +1,6 @@
 -- What is kept by all operations, and is so of numbers, unknowns and parameters, is so of each formed node.
-use Rattle.std.proofs.Common.{◌≡◌, ◌⊎◌, ℕ, zero, suc, ◌+◌, ◌<◌, ◌≤◌, arith, get_or, Bool, true, false, List, [], length, map, Option, Some, None, option_map, Result, Ok, Err, slice_get, slice_index_or, refl, sym, ap, ◌∙◌, subst, inl, inr}
+use Rattle.std.proofs.Common.{◌≡◌, ◌⊎◌, ℕ, zero, suc, ◌+◌, ◌<◌, ◌≤◌, arith, get_or, Bool, true, false, List, [], length, map, Option, Some, None}
+use Rattle.std.proofs.Common.{option_map, Result, Ok, Err, slice_get, slice_index_or, refl, sym, ap, ◌∙◌, subst, inl, inr}
 use Rattle.std.specs.List.{Contains, list_any}
 use Rattle.std.proofs.Props.{props}
 use Rattle.std.proofs.Math.Logic.{∥∥₁_elim}
@@ -20,7 +21,7 @@ use Rattle.dcx_call.specs.declared.attribute.Parameter.{Parameter}
 use Rattle.dcx_call.specs.declared.attribute.Variable.{Variable}
 use Rattle.dcx_call.specs.declared.call.Call.{Call}
 use Rattle.dcx_call.specs.declared.call.Call.TheVariants as calls
-use Rattle.dcx_call.specs.Atoms.{atom_meaning}
+use Rattle.dcx_call.specs.Atoms.{atom_meaning, atom_lawful}
 use Rattle.dcx_call.specs.Linears.{linear_meaning}
 use Rattle.dcx_call.specs.Calls.{shape_of}
 use Rattle.dcx_call.specs.Values.{given_by, entry_formed}
@@ -38,7 +39,6 @@ use Rattle.dcx_unknowns.specs.Unknowns.{first_unknown, unknown_from}
 use Rattle.dcx_unknowns.specs.Layout.{is_reduced, first_aux, aux_at, call_aux, aux_if, unknown_kinds}
 use Rattle.dcx_unknowns.proofs.Domains.{number_is}
 use Rattle.dcx_unknowns.proofs.Lists.{Each, each_nil, each_map}
-use Rattle.dcx_unknowns.proofs.OwnGraphs.{atom_own}
 use Rattle.dcx_unknowns.proofs.NodeForms.{node_at}
 use Rattle.dcx_entries.specs.declared.entries.EntryForms.{EntryForms}
 use Rattle.dcx_entries.specs.declared.scaling.Scaling.{Scaling}
@@ -72,7 +72,8 @@ module _ {C : Type 0} (of_number : Frac → C) (number_of : C → Option Frac) (
   form_has : (e : EntryForms C) (f : Form C) → alone f ≡ e → F f → OfEntry F e
   form_has e f d h = subst (λ x. OfEntry F x) d (record { form = h; rows = λ k g at. absurd (none-some g at) })
 
-  module _ (forms : List (List (Form C))) (i : ℕ) (n : Node) (at : IsNode p.tree i n) (b : i < length p.tree) (has : (k e : ℕ) → F (args_among of_number forms n.args k e)) (j : ℕ) (lt : j < entries_of n.sides) (e : EntryForms C) where
+  module _ (forms : List (List (Form C))) (i : ℕ) (n : Node) (at : IsNode p.tree i n) (b : i < length p.tree) (has : (k e : ℕ) → F (args_among of_number forms n.args k e)) (j : ℕ)
+      (lt : j < entries_of n.sides) (e : EntryForms C) where
     variable_keeps : (v : Variable) → (AreDeclared p.tree p.variables p.parameters → Contains p.variables v) → sides_of v.shape ≡ n.sides → (m : ℕ) →
         unknown_from (first_unknown p.variables (number_of_name (names_in p).variables v.name)) v j ≡ Some m → m < length (unknown_kinds rules p)
     variable_keeps v listed own m is =
@@ -81,7 +82,8 @@ module _ {C : Type 0} (of_number : Frac → C) (number_of : C → Option Frac) (
         variable_within rules p k v there j (subst (λ s. j < entries_of s) (sym own) lt) m
         (ap (λ h. unknown_from (first_unknown p.variables h) v j) (sym (number_is p d k v there)) ∙ is))
 
-    pair_keeps : (scaling : Scaling) (args : Arguments C) (h : (k x : ℕ) → F (args k x)) (xs : List Pair) (zero_there : Bool) → PairEntryBy of_number number_of Sums Changes zero_there scaling args xs j (Ok e) → OfEntry F e
+    pair_keeps : (scaling : Scaling) (args : Arguments C) (h : (k x : ℕ) → F (args k x)) (xs : List Pair) (zero_there : Bool)
+        → PairEntryBy of_number number_of Sums Changes zero_there scaling args xs j (Ok e) → OfEntry F e
     pair_keeps scaling args h xs true s = absurd cc
     pair_keeps scaling args h xs false s = pair_sum_keeps of_number number_of Sums Changes F (length (unknown_kinds rules p)) kept args h scaling xs e s
 
@@ -101,10 +103,12 @@ module _ {C : Type 0} (of_number : Frac → C) (number_of : C → Option Frac) (
         form_has e (is_constant c) d (reads q j c listed (subst (λ r. j < entries_of r) (sym (own_is (sides_of q.shape) (arg_sides p.tree n) n.sides shape)) lt) s.1)
     reduced_keeps (calls.Constant x) shape listed few s = number_keeps e (number_formed (calls.Constant x)) s
     reduced_keeps (calls.Atom m) shape listed few s =
-        let own = atom_own m (arg_sides p.tree n) n.sides shape in
+        let own = (atom_lawful m).own_unknowns (arg_sides p.tree n) n.sides shape in
         atom_keeps of_number number_of Sums Changes F (length (unknown_kinds rules p)) kept _ _ e s
-        (result_has of_number number_of Sums Changes F (length (unknown_kinds rules p)) kept (first_aux rules p i) (length ((atom_meaning m).kinds (arg_sides p.tree n))) few ((atom_meaning m).result (arg_sides p.tree n) j) (own.results j lt))
-        (rows_have of_number number_of Sums Changes F (length (unknown_kinds rules p)) kept (first_aux rules p i) (length ((atom_meaning m).kinds (arg_sides p.tree n))) few (args_among of_number forms n.args) has ((atom_meaning m).rows (arg_sides p.tree n) j) (own.rows j lt))
+        (result_has of_number number_of Sums Changes F (length (unknown_kinds rules p)) kept (first_aux rules p i) (length ((atom_meaning m).kinds (arg_sides p.tree n))) few
+        ((atom_meaning m).result (arg_sides p.tree n) j) (own.results j lt))
+        (rows_have of_number number_of Sums Changes F (length (unknown_kinds rules p)) kept (first_aux rules p i) (length ((atom_meaning m).kinds (arg_sides p.tree n))) few
+        (args_among of_number forms n.args) has ((atom_meaning m).rows (arg_sides p.tree n) j) (own.rows j lt))
     reduced_keeps (calls.Linear l) shape listed few s =
         linear_keeps of_number number_of Sums Changes F (length (unknown_kinds rules p)) kept _ e s
         (terms_have of_number number_of Sums Changes F (length (unknown_kinds rules p)) kept (args_among of_number forms n.args) has ((linear_meaning l).terms (arg_sides p.tree n) j))
@@ -130,7 +134,8 @@ module _ {C : Type 0} (of_number : Frac → C) (number_of : C → Option Frac) (
     entries_have : (d a : ℕ) → a < d → HasBelow d → Each F (slice_index_or (table_forms table) a [])
     entries_have d a l h = by (slice_get_cases table a).1
       where
-        by : ((x : List (EntryForms C)) × (a < length table) × (slice_get table a ≡ Some x) × (get_or table a x ≡ x)) ⊎ ((length table ≤ a) × (slice_get table a ≡ None)) → Each F (slice_index_or (table_forms table) a [])
+        by : ((x : List (EntryForms C)) × (a < length table) × (slice_get table a ≡ Some x) × (get_or table a x ≡ x)) ⊎ ((length table ≤ a) × (slice_get table a ≡ None))
+            → Each F (slice_index_or (table_forms table) a [])
         by (inl found) = subst (Each F) (sym (forms_there table a found.0 found.2)) (each_map F (λ (x : EntryForms C). x.form) found.0 (λ j e at. (h a j found.0 e l found.2 at).form))
         by (inr past) = subst (Each F) (sym (past_end (table_forms table) a [] (let q = past.0 in omega (arith, q, length-map table entry_forms)))) (each_nil F)
 
@@ -150,7 +155,8 @@ module _ {C : Type 0} (of_number : Frac → C) (number_of : C → Option Frac) (
         let within : i < length p.tree = let q = slice_get_within table i es there in omega (arith, q, formed.count) in
         let (n, at) = node_at p i within in
         let gives = formed.each i n es within at there in
-        node_keeps (table_forms table) i n at within (args_have d i n at l (below d)) j (let q = slice_get_within es j e found in omega (arith, q, gives.0)) e (is_reduced rules p i) refl (gives.1 j e found)
+        node_keeps (table_forms table) i n at within (args_have d i n at l (below d)) j (let q = slice_get_within es j e found in omega (arith, q, gives.0)) e (is_reduced rules p i) refl
+        (gives.1 j e found)
 
     pub table_keeps : OfTable F table
     table_keeps i j es e there at = below (suc i) i j es e (omega arith) there at

@@ -1,5 +1,6 @@
 -- One formed node meets its equation, where those before it meet theirs.
-use Rattle.std.proofs.Common.{◌≡◌, inl, inr, ℕ, suc, ◌<◌, arith, Bool, true, false, not, IsTrue, IsSome, if◌then◌else◌, List, [], ◌∷◌, length, map, All, Option, Some, None, Result, Ok, slice_index_or, refl, sym, ap, ap₂, ◌∙◌, subst, pos}
+use Rattle.std.proofs.Common.{◌≡◌, inl, inr, ℕ, suc, ◌<◌, arith, Bool, true, false, not, IsTrue, IsSome, if◌then◌else◌, List, [], ◌∷◌, length}
+use Rattle.std.proofs.Common.{map, All, Option, Some, None, Result, Ok, slice_index_or, refl, sym, ap, ap₂, ◌∙◌, subst, pos}
 use Rattle.std.specs.Prelude.{◌||◌}
 use Rattle.std.specs.List.{list_all}
 use Rattle.std.proofs.lemmas.Bool.{lt-ltb, and_from}
@@ -35,7 +36,7 @@ use Rattle.dcx_call.specs.declared.attribute.Variable.{Variable}
 use Rattle.dcx_call.specs.declared.attribute.Parameter.{Parameter}
 use Rattle.dcx_call.specs.declared.call.Call.{Call}
 use Rattle.dcx_call.specs.declared.call.Call.TheVariants as calls
-use Rattle.dcx_call.specs.Atoms.{atom_meaning}
+use Rattle.dcx_call.specs.Atoms.{atom_meaning, atom_lawful}
 use Rattle.dcx_call.specs.Linears.{linear_meaning}
 use Rattle.dcx_call.specs.Calls.{own_sides, sides_of_two, shape_of}
 use Rattle.dcx_call.specs.Values.{pairing_value}
@@ -70,17 +71,17 @@ use Rattle.dcx_formed.proofs.Settled.{fixed_alike}
 use Rattle.dcx_formed.proofs.Reached.{node_bent}
 use Rattle.dcx_formed.proofs.Steady.{bent_parts}
 use Rattle.dcx_formed.proofs.Coefs.{AreCoefs}
-use Rattle.dcx_formed.proofs.Coefficients.{results_fit}
 use Rattle.dcx_formed.proofs.Few.{few_args}
 use Rattle.dcx_formed.proofs.PartValues.{constant_is, zero_is, unknown_or_zero, parts_are, terms_are, result_is}
 use Rattle.dcx_formed.proofs.Named.{where_declared}
 use Rattle.dcx_formed.proofs.Tables.{form_in, entry_there, entry_past}
 use Rattle.dcx_formed.proofs.Stood.{args_match}
-use Rattle.dcx_formed.proofs.Numbers.{by_size, source, number_value, number_read}
+use Rattle.dcx_formed.proofs.Numbers.{source, number_value, number_read}
 use Rattle.dcx_formed.proofs.Made.{entry_is, linear_made, atom_made, pair_made}
 use Rattle.dcx_formed.proofs.HaveNumbers.{have_numbers}
 use Rattle.dcx_formed.proofs.Sides.{scaling_may}
 use Rattle.dcx_formed.proofs.Pairs.{IsRead, MayScale, products_are, quotients_are}
+use Rattle.dcx_tree.proofs.NodeValues.{first_alike}
 
 -- ---- lists and numbers
 first_below : (n : ℕ) (f : Numbers) (j : ℕ) → j < n → first_of n f j ≡ f j
@@ -99,7 +100,8 @@ module _ {C : Type 0} (number_of : C → Option Frac) where
   terms_told [] h = refl
   terms_told (t ∷ ts) h =
       and_from (is_told (number_of t.coefficient)) (list_all (λ t. is_told (number_of t.coefficient)) ts)
-      (some_told (number_of t.coefficient) (All-head (λ (t : FormTerm C). IsSome (number_of t.coefficient)) t ts h)) (terms_told ts (All-tail (λ (t : FormTerm C). IsSome (number_of t.coefficient)) t ts h))
+      (some_told (number_of t.coefficient) (All-head (λ (t : FormTerm C). IsSome (number_of t.coefficient)) t ts h))
+      (terms_told ts (All-tail (λ (t : FormTerm C). IsSome (number_of t.coefficient)) t ts h))
 
   -- forms that have numbers are told to have them
   forms_told : (none : Form C) (fs : List (Form C)) → ((j : ℕ) → HasNumbers number_of (slice_index_or fs j none)) → IsTrue (list_all (has_numbers number_of) fs)
@@ -132,7 +134,8 @@ taken_by rules Over sides to bend args t = t
 module _ {C : Type 0} (value_at : C → Parameters → ℚ) (of_number : Frac → C) (number_of : C → Option Frac) (Sums : C → C → Result C Passes → Type 0) (Changes : Change → C → Result C Passes → Type 0)
     (Reads : ℕ → List ℕ → ℕ → Pairs → C → Type 0) (laws : AreCoefs value_at of_number number_of Sums Changes) (rules : Rules) (p : Problem) (setting : Pairs) (table : Table C)
     (formed : AreFormed of_number number_of Sums Changes Reads rules p setting (length p.tree) table) (params : Parameters) (s : Setting)
-    (told : (i : ℕ) → i < length p.tree → is_reduced rules p i ≡ false → (x : Point) (j : ℕ) → problem_value p s x i j ≡ source value_at of_number number_of Sums Changes Reads laws rules p setting table formed i j)
+    (told : (i : ℕ) → i < length p.tree → is_reduced rules p i ≡ false → (x : Point) (j : ℕ)
+    → problem_value p s x i j ≡ source value_at of_number number_of Sums Changes Reads laws rules p setting table formed i j)
     (read : (i : ℕ) (n : Node) (q : Parameter) → IsNode p.tree i n → n.call ≡ calls.Parameter q → is_reduced rules p i ≡ true → (j : ℕ) (c : C) →
     Reads (number_of_name (names_in p).parameters q.name) q.name j setting c → value_at c params ≡ s (number_of_name (names_in p).parameters q.name) j)
     (ok : IsTrue (accepted_by rules (convex_problem p))) where
@@ -156,7 +159,8 @@ module _ {C : Type 0} (value_at : C → Parameters → ℚ) (of_number : Frac �
 
   -- ---- a node that is reduced, where what is affine and reaches no variable before it stands still
   module _ (i : ℕ) (n : Node) (at : IsNode p.tree i n) (reduced : is_reduced rules p i ≡ true)
-      (steady : (u w : Unknowns) (a : ℕ) → a < i → a < length p.tree → ¬ IsTrue (is_constant rules (judged a)) → IsTrue (judged a).fixed → IsTrue (is_affine (judged a)) → F u a ≡ F w a) (u : Unknowns) where
+      (steady : (u w : Unknowns) (a : ℕ) → a < i → a < length p.tree → ¬ IsTrue (is_constant rules (judged a)) → IsTrue (judged a).fixed → IsTrue (is_affine (judged a)) → F u a ≡ F w a)
+      (u : Unknowns) where
     within : i < length p.tree
     within = slice_get_within p.tree i n at
 
@@ -168,7 +172,8 @@ module _ {C : Type 0} (value_at : C → Parameters → ℚ) (of_number : Frac �
         number_read value_at of_number number_of Sums Changes Reads laws rules p setting table formed a m there (ap not t) u params e
 
     -- a side that stands still
-    side_still : (a : ℕ) → a < i → ¬ IsTrue (is_constant rules (judged a)) → IsTrue (judged a).fixed → IsTrue (is_affine (judged a)) → (e : ℕ) → value_at (form a e).constant params ≡ linear_value value_at (form a e) u params
+    side_still : (a : ℕ) → a < i → ¬ IsTrue (is_constant rules (judged a)) → IsTrue (judged a).fixed → IsTrue (is_affine (judged a)) → (e : ℕ)
+        → value_at (form a e).constant params ≡ linear_value value_at (form a e) u params
     side_still a l not_constant fixed affine e =
         let w = within in
         sym (still value_at (form a e) params) ∙ ap (λ (f : Numbers). f e) (steady (λ k. whole (pos 0)) u a l (omega (arith, l, w)) not_constant fixed affine)
@@ -181,14 +186,17 @@ module _ {C : Type 0} (value_at : C → Parameters → ℚ) (of_number : Frac �
 
     -- the sides of a pairing are what they are taken for
     abbrev MayPair : Pairing → List ℕ → Type 0
-    MayPair Times ids = MayScale value_at of_number number_of Sums Changes laws u params (args_among of_number forms ids) (scaling_of of_number number_of Sums Changes Reads rules p setting Times forms ids)
-    MayPair MatTimes ids = MayScale value_at of_number number_of Sums Changes laws u params (args_among of_number forms ids) (scaling_of of_number number_of Sums Changes Reads rules p setting MatTimes forms ids)
+    MayPair Times ids = MayScale value_at of_number number_of Sums Changes laws u params (args_among of_number forms ids)
+        (scaling_of of_number number_of Sums Changes Reads rules p setting Times forms ids)
+    MayPair MatTimes ids =
+        MayScale value_at of_number number_of Sums Changes laws u params (args_among of_number forms ids) (scaling_of of_number number_of Sums Changes Reads rules p setting MatTimes forms ids)
     MayPair Over ids = IsRead value_at of_number number_of Sums Changes laws u params (args_among of_number forms ids) 1
 
     product_may : (a b : ℕ) → a < i → b < i → IsTrue (scales rules (judged a) (judged b) || scales rules (judged b) (judged a)) → MayPair Times (a ∷ b ∷ [])
     product_may a b la lb t =
         scaling_may rules (judged a) (judged b) (side_of of_number number_of Sums Changes Reads rules p setting forms a) (side_of of_number number_of Sums Changes Reads rules p setting forms b)
-        (twice (is_constant rules (judged a))) (twice (is_constant rules (judged b))) (sym (fixed_alike rules (nodes_of p) a)) (sym (fixed_alike rules (nodes_of p) b)) (side_numbers a la) (side_numbers b lb) t
+        (twice (is_constant rules (judged a))) (twice (is_constant rules (judged b))) (sym (fixed_alike rules (nodes_of p) a)) (sym (fixed_alike rules (nodes_of p) b)) (side_numbers a la)
+        (side_numbers b lb) t
         (MayScale value_at of_number number_of Sums Changes laws u params (args_among of_number forms (a ∷ b ∷ [])))
         (side_read a la) (side_read b lb) (λ not_constant k. side_still a la not_constant k.fixed k.affine) (λ not_constant k. side_still b lb not_constant k.fixed k.affine)
 
@@ -215,8 +223,10 @@ module _ {C : Type 0} (value_at : C → Parameters → ℚ) (of_number : Frac �
         judgement_tells rules (nodes_of p) (nodes_ordered p) i (convex_node (names_in p) p.tree n) (convex_at p i n at)
         ∙ ap (λ (k : Call). judgement_by rules (head_of (names_in p) k (arg_sides p.tree n) n.sides) (map judged n.args)) is in
         elim (node_bent p rules ok i within) [
-          | inl convex ↦ taken_by rules q (arg_sides p.tree n) n.sides Convex (map judged n.args) (bent_parts rules c Convex (map judged n.args) (subst (λ (k : Judgement). IsTrue k.convex) g convex) some).0
-          | inr concave ↦ taken_by rules q (arg_sides p.tree n) n.sides Concave (map judged n.args) (bent_parts rules c Concave (map judged n.args) (subst (λ (k : Judgement). IsTrue k.concave) g concave) some).0
+          | inl convex ↦ taken_by rules q (arg_sides p.tree n) n.sides Convex (map judged n.args)
+              (bent_parts rules c Convex (map judged n.args) (subst (λ (k : Judgement). IsTrue k.convex) g convex) some).0
+          | inr concave ↦ taken_by rules q (arg_sides p.tree n) n.sides Concave (map judged n.args)
+              (bent_parts rules c Concave (map judged n.args) (subst (λ (k : Judgement). IsTrue k.concave) g concave) some).0
         ]
 
     -- ---- the entries of each call
@@ -229,13 +239,17 @@ module _ {C : Type 0} (value_at : C → Parameters → ℚ) (of_number : Frac �
     product_sum scaling may pairs j entry h =
         products_are value_at of_number number_of Sums Changes laws u params args scaling may pairs entry.form (pair_made of_number number_of Sums Changes scaling args pairs j entry h).sums
 
-    pair_sum : (q : Pairing) → MayPair q n.args → (j : ℕ) (entry : EntryForms C) → ReducedEntry of_number number_of Sums Changes Reads rules p setting forms i n.args (calls.Pairing q) (arg_sides p.tree n) j (Ok entry) →
-        linear_value value_at entry.form u params
-        ≡ pairing_value q (pairs_at q (sides_at (arg_sides p.tree n) 0) (sides_at (arg_sides p.tree n) 1) j) (λ e. linear_value value_at (args 0 e) u params) (λ e. linear_value value_at (args 1 e) u params)
+    pair_sum : (q : Pairing) → MayPair q n.args → (j : ℕ) (entry : EntryForms C)
+        → ReducedEntry of_number number_of Sums Changes Reads rules p setting forms i n.args (calls.Pairing q) (arg_sides p.tree n) j (Ok entry)
+        → linear_value value_at entry.form u params
+        ≡ pairing_value q (pairs_at q (sides_at (arg_sides p.tree n) 0) (sides_at (arg_sides p.tree n) 1) j) (λ e. linear_value value_at (args 0 e) u params)
+        (λ e. linear_value value_at (args 1 e) u params)
     pair_sum Times may j entry h =
-        product_sum (scaling_of of_number number_of Sums Changes Reads rules p setting Times forms n.args) may (pairs_at Times (sides_at (arg_sides p.tree n) 0) (sides_at (arg_sides p.tree n) 1) j) j entry h
+        product_sum (scaling_of of_number number_of Sums Changes Reads rules p setting Times forms n.args) may
+        (pairs_at Times (sides_at (arg_sides p.tree n) 0) (sides_at (arg_sides p.tree n) 1) j) j entry h
     pair_sum MatTimes may j entry h =
-        product_sum (scaling_of of_number number_of Sums Changes Reads rules p setting MatTimes forms n.args) may (pairs_at MatTimes (sides_at (arg_sides p.tree n) 0) (sides_at (arg_sides p.tree n) 1) j) j entry h
+        product_sum (scaling_of of_number number_of Sums Changes Reads rules p setting MatTimes forms n.args) may
+        (pairs_at MatTimes (sides_at (arg_sides p.tree n) 0) (sides_at (arg_sides p.tree n) 1) j) j entry h
     pair_sum Over may j entry h =
         let pairs = pairs_at Over (sides_at (arg_sides p.tree n) 0) (sides_at (arg_sides p.tree n) 1) j in
         quotients_are value_at of_number number_of Sums Changes laws u params args may pairs entry.form (pair_made of_number number_of Sums Changes Divisor args pairs j entry h).sums
@@ -246,7 +260,8 @@ module _ {C : Type 0} (value_at : C → Parameters → ℚ) (of_number : Frac �
         let k = number_of_name (names_in p).variables v.name in
         let first = first_unknown p.variables k in
         where_declared p i n v at is (number_at u (unknown_from first v j)) (point_at p.variables u k j) (λ there.
-        sym (first_below (entries_of (sides_in v)) (λ j. number_at u (unknown_from first v j)) j (subst (λ (r : Sides). j < entries_of r) (sym (own_is (sides_in v) (arg_sides p.tree n) n.sides shape)) b))
+        sym (first_below (entries_of (sides_in v)) (λ j. number_at u (unknown_from first v j)) j
+        (subst (λ (r : Sides). j < entries_of r) (sym (own_is (sides_in v) (arg_sides p.tree n) n.sides shape)) b))
         ∙ sym (ap (λ o. array_from u first o j) there))
 
     call_value : (call : Call) → n.call ≡ call → shape_of call (arg_sides p.tree n) ≡ Some n.sides → (j : ℕ) → j < entries_of n.sides → (entry : EntryForms C) →
@@ -266,15 +281,18 @@ module _ {C : Type 0} (value_at : C → Parameters → ℚ) (of_number : Frac �
         let result = (atom_meaning m).result (arg_sides p.tree n) j in
         let made = atom_made of_number number_of Sums Changes (map (aux_part of_number (first_aux rules p i)) result) _ entry h in
         parts_are value_at of_number number_of Sums Changes laws u params (map (aux_part of_number (first_aux rules p i)) result) entry.form made.sums
-        ∙ result_is value_at of_number number_of Sums Changes laws u params (first_aux rules p i) result (results_fit m (arg_sides p.tree n) n.sides j shape (few_args p.tree p.nodes n))
+        ∙ result_is value_at of_number number_of Sums Changes laws u params (first_aux rules p i) result ((atom_lawful m).fraction_coefficients.results (arg_sides p.tree n) n.sides j shape (few_args p.tree p.nodes n))
     call_value (calls.Linear l) is shape j b entry h =
         let terms = (linear_meaning l).terms (arg_sides p.tree n) j in
-        parts_are value_at of_number number_of Sums Changes laws u params (map (term_part args) terms) entry.form (linear_made of_number number_of Sums Changes (map (term_part args) terms) entry h).sums
-        ∙ terms_are value_at of_number number_of Sums Changes laws u params args terms (recursion_from_All FitsIn terms (coefficients_fit l (arg_sides p.tree n) n.sides j shape b (few_args p.tree p.nodes n)))
+        parts_are value_at of_number number_of Sums Changes laws u params (map (term_part args) terms) entry.form
+        (linear_made of_number number_of Sums Changes (map (term_part args) terms) entry h).sums
+        ∙ terms_are value_at of_number number_of Sums Changes laws u params args terms
+        (recursion_from_All FitsIn terms (coefficients_fit l (arg_sides p.tree n) n.sides j shape b (few_args p.tree p.nodes n)))
         ∙ ap (λ (a : Entries). terms_at terms a) (args_match value_at of_number number_of Sums Changes laws table params u n.args)
     call_value (calls.Pairing q) is shape j b entry h =
         pair_sum q (pair_may q n.args (arena.sides_at p.tree) n.sides shape (p.nodes.earlier i n at) (pair_taken q is)) j entry h
-        ∙ ap (λ (a : Entries). pairing_value q (pairs_at q (sides_at (arg_sides p.tree n) 0) (sides_at (arg_sides p.tree n) 1) j) (a 0) (a 1)) (args_match value_at of_number number_of Sums Changes laws table params u n.args)
+        ∙ ap (λ (a : Entries). pairing_value q (pairs_at q (sides_at (arg_sides p.tree n) 0) (sides_at (arg_sides p.tree n) 1) j) (a 0) (a 1))
+        (args_match value_at of_number number_of Sums Changes laws table params u n.args)
 
     entry_stands : (j : ℕ) → j < entries_of n.sides → F u i j ≡ entry_by rules p s F i n u j
     entry_stands j b =
@@ -285,6 +303,6 @@ module _ {C : Type 0} (value_at : C → Parameters → ℚ) (of_number : Frac �
 
     pub reduced_stands : (j : ℕ) → F u i j ≡ first_of (entries_of n.sides) (entry_by rules p s F i n u) j
     reduced_stands j =
-        by_size (entries_of n.sides) (entry_by rules p s F i n u) (F u i j) j (entry_stands j)
+        first_alike (entries_of n.sides) (entry_by rules p s F i n u) (F u i j) j (entry_stands j)
         (λ past. ap (λ (f : Form C). linear_value value_at f u params) (entry_past of_number number_of Sums Changes Reads rules p setting table formed i n at j past)
         ∙ zero_is value_at of_number number_of Sums Changes laws u params)

@@ -1,5 +1,6 @@
 -- Nodes that are numbers by the rules: their forms are numbers, which are their values.
-use Rattle.std.proofs.Common.{◌≡◌, ℕ, zero, suc, ◌<◌, ◌≤◌, arith, Bool, true, false, not, IsTrue, if◌then◌else◌, List, [], ◌∷◌, length, map, All, Option, unwrap_or, Result, Ok, Err, refl, sym, ap, ◌∙◌, subst, pos}
+use Rattle.std.proofs.Common.{◌≡◌, ℕ, zero, suc, ◌<◌, ◌≤◌, arith, Bool, true, false, not, IsTrue, List, [], ◌∷◌}
+use Rattle.std.proofs.Common.{length, map, All, Option, unwrap_or, Result, Ok, Err, refl, sym, ap, ◌∙◌, subst, pos}
 use Rattle.std.specs.Prelude.{nat_lt}
 use Rattle.std.specs.List.{list_all}
 use Rattle.std.proofs.Math.Path.{fun_ext}
@@ -19,7 +20,7 @@ use Rattle.dcx_atom.proofs.FormedSums.{value-zero_frac}
 use Rattle.dcx_point.specs.Pairs.{Pairs}
 use Rattle.dcx_arena.specs.Nodes.{IsNode}
 use Rattle.dcx_convex.specs.Nodes as convex
-use Rattle.dcx_convex.specs.Nodes.{Numbers, first_of, arguments}
+use Rattle.dcx_convex.specs.Nodes.{Numbers, arguments}
 use Rattle.dcx_convex.proofs.SideInduction.{both_constant}
 use Rattle.dcx_convex.specs.Rules.{Rules, Plain, Parametrized, Judgement, is_constant, judgement_by, judgement_at}
 use Rattle.dcx_convex.specs.Calls as convex_calls
@@ -33,7 +34,7 @@ use Rattle.dcx_call.specs.Values.{given_by, call_value, entry_formed}
 use Rattle.dcx_tree.specs.declared.problem.Problem.{Problem}
 use Rattle.dcx_tree.specs.Nodes.{Node, pairing_call, head_of, arg_sides, convex_node, source_value}
 use Rattle.dcx_tree.specs.Meaning.{names_in}
-use Rattle.dcx_tree.proofs.NodeValues.{node_told}
+use Rattle.dcx_tree.proofs.NodeValues.{node_told, first_alike}
 use Rattle.dcx_tree.proofs.AllReached.{convex_at}
 use Rattle.dcx_linear.specs.declared.change.Change.{Change}
 use Rattle.dcx_linear.specs.declared.form.Form.{Form}
@@ -55,7 +56,7 @@ use Rattle.dcx_formed.proofs.PartValues.{number_is}
 use Rattle.dcx_formed.proofs.Tables.{form_in, args_are, entry_there, entry_past}
 
 -- ---- a constant call has constant arguments
-args_constant : (rules : Rules) (c : convex_calls.Call) (args : List Judgement) → IsTrue (is_constant rules (judgement_by rules (convex.Apply c) args)) → IsTrue (list_all (is_constant rules) args)
+pub args_constant : (rules : Rules) (c : convex_calls.Call) (args : List Judgement) → IsTrue (is_constant rules (judgement_by rules (convex.Apply c) args)) → IsTrue (list_all (is_constant rules) args)
 args_constant Plain c args t = t
 args_constant Parametrized c args t = both_constant args t
 
@@ -69,14 +70,6 @@ pub all_both : (P Q : ℕ → Type 0) (ids : List ℕ) → All P ids → All Q i
 all_both P Q [] h k = All-nil (λ a. P a × Q a)
 all_both P Q (a ∷ ids) h k = All-cons (λ a. P a × Q a) a ids (All-head P a ids h, All-head Q a ids k) (all_both P Q ids (All-tail P a ids h) (All-tail Q a ids k))
 
--- below a size and past it
-pub by_size : (n : ℕ) (f : Numbers) (x : ℚ) (j : ℕ) → (j < n → x ≡ f j) → (n ≤ j → x ≡ whole (pos 0)) → x ≡ first_of n f j
-by_size n f x j below past = by (nat_lt j n) refl
-  where
-    by : (b : Bool) → nat_lt j n ≡ b → x ≡ (if b then f j else whole (pos 0))
-    by true e = below (ltb-true j n e)
-    by false e = past (ltb-false j n e)
-
 module _ {C : Type 0} (value_at : C → Parameters → ℚ) (of_number : Frac → C) (number_of : C → Option Frac) (Sums : C → C → Result C Passes → Type 0) (Changes : Change → C → Result C Passes → Type 0)
     (Reads : ℕ → List ℕ → ℕ → Pairs → C → Type 0) (laws : AreCoefs value_at of_number number_of Sums Changes) (rules : Rules) (p : Problem) (setting : Pairs) (table : Table C)
     (formed : AreFormed of_number number_of Sums Changes Reads rules p setting (length p.tree) table) where
@@ -84,9 +77,6 @@ module _ {C : Type 0} (value_at : C → Parameters → ℚ) (of_number : Frac �
   pub record IsNumber (f : Form C) : Type 0 where
     pub number : Frac
     pub is : f ≡ constant_form (of_number number)
-
-  pub zero_number : IsNumber (zero_form of_number)
-  zero_number = record { number = zero_frac; is = refl }
 
   pub number_is_in : (f : Form C) (h : IsNumber f) → number_in number_of f ≡ h.number
   number_is_in f h = ap (number_in number_of) h.is ∙ ap (λ o. unwrap_or o zero_frac) (laws.number_told h.number)
@@ -156,7 +146,8 @@ module _ {C : Type 0} (value_at : C → Parameters → ℚ) (of_number : Frac �
     same_value (calls.Atom m) t j =
         ap (λ (a : Entries). (atom_meaning m).value (arg_sides p.tree n) a j) (constant_args (args_constant rules (atom_call (atom_meaning m) (arg_sides p.tree n) n.sides) (map judged n.args) t))
     same_value (calls.Linear l) t j =
-        ap (λ (a : Entries). (linear_meaning l).value (arg_sides p.tree n) a j) (constant_args (args_constant rules (linear_call (linear_meaning l) (arg_sides p.tree n) n.sides) (map judged n.args) t))
+        ap (λ (a : Entries). (linear_meaning l).value (arg_sides p.tree n) a j)
+        (constant_args (args_constant rules (linear_call (linear_meaning l) (arg_sides p.tree n) n.sides) (map judged n.args) t))
     same_value (calls.Pairing q) t j =
         ap (λ (a : Entries). call_value (calls.Pairing q) (given_by setting) (given_by []) (arg_sides p.tree n) a j)
         (constant_args (args_constant rules (pairing_call q (arg_sides p.tree n) n.sides) (map judged n.args) t))
@@ -164,7 +155,8 @@ module _ {C : Type 0} (value_at : C → Parameters → ℚ) (of_number : Frac �
     value_below : (j : ℕ) → j < entries_of n.sides → number_of_form (form i j) ≡ call_value n.call (given_by setting) (given_by []) (arg_sides p.tree n) (arguments (map source n.args)) j
     value_below j b =
         let (x, made, is) = number_made i n at number j b in
-        let told = subst (λ (g : Judgement). IsTrue (is_constant rules g)) (judgement_tells rules (nodes_of p) (nodes_ordered p) i (convex_node (names_in p) p.tree n) (convex_at p i n at)) (not_reduced (is_constant rules (judged i)) number) in
+        let told = subst (λ (g : Judgement). IsTrue (is_constant rules g)) (judgement_tells rules (nodes_of p) (nodes_ordered p) i (convex_node (names_in p) p.tree n) (convex_at p i n at))
+        (not_reduced (is_constant rules (judged i)) number) in
         ap value (number_is_in (form i j) (record { number = x; is = is }))
         ∙ forms_exactly n.call setting [] (arg_sides p.tree n) n.sides formed_args (p.nodes.shaped i n at) (few_args p.tree p.nodes n)
         (λ k e. value_representable (number_in number_of (args_among of_number (table_forms table) n.args k e))) j b x made
@@ -175,7 +167,8 @@ module _ {C : Type 0} (value_at : C → Parameters → ℚ) (of_number : Frac �
 
     node_value : (j : ℕ) → number_of_form (form i j) ≡ source i j
     node_value j = where_named p i n at (number_of_form (form i j)) (source i j) (λ named.
-        by_size (entries_of n.sides) (call_value n.call (given_by setting) (given_by []) (arg_sides p.tree n) (arguments (map source n.args))) (number_of_form (form i j)) j (value_below j) (value_past j)
+        first_alike (entries_of n.sides) (call_value n.call (given_by setting) (given_by []) (arg_sides p.tree n) (arguments (map source n.args))) (number_of_form (form i j)) j (value_below j)
+        (value_past j)
         ∙ sym (node_told p.tree p.nodes setting [] (names_in p) i n at named j))
 
   values_within : (d i : ℕ) → i < d → i < length p.tree → is_reduced rules p i ≡ false → (j : ℕ) → number_of_form (form i j) ≡ source i j
@@ -194,7 +187,8 @@ module _ {C : Type 0} (value_at : C → Parameters → ℚ) (of_number : Frac �
       ∙ values_within (suc i) i (omega arith) (slice_get_within p.tree i n at) number j
 
   -- and so is the number in it
-  pub number_read : (i : ℕ) (n : Node) → IsNode p.tree i n → is_reduced rules p i ≡ false → (u : Unknowns) (params : Parameters) (j : ℕ) → number_of_form (form i j) ≡ linear_value value_at (form i j) u params
+  pub number_read : (i : ℕ) (n : Node) → IsNode p.tree i n → is_reduced rules p i ≡ false → (u : Unknowns) (params : Parameters) (j : ℕ)
+      → number_of_form (form i j) ≡ linear_value value_at (form i j) u params
   number_read i n at number u params j =
       let h = number_forms i n at number j in
       ap value (number_is_in (form i j) h) ∙ sym (ap (λ (f : Form C). linear_value value_at f u params) h.is ∙ number_is value_at of_number number_of Sums Changes laws u params h.number)

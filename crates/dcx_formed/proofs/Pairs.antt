@@ -24,7 +24,8 @@ use Rattle.dcx_formed.proofs.Coefs.{AreCoefs}
 use Rattle.dcx_formed.proofs.PartValues.{zero_is, sum_is, change_is}
 
 -- where each addition adds a number, all add their sum
-sums_each : {T S : Type 0} (Add : T → S → Result S Passes → Type 0) (w : S → ℚ) (v : T → ℚ) → ((x : T) (f g : S) → Add x f (Ok g) → w g ≡ w f +ℚ v x) → (xs : List T) (f h : S) → adds_each Add xs f (Ok h) → w h ≡ w f +ℚ rat_sum_by v xs
+sums_each : {T S : Type 0} (Add : T → S → Result S Passes → Type 0) (w : S → ℚ) (v : T → ℚ) → ((x : T) (f g : S) → Add x f (Ok g) → w g ≡ w f +ℚ v x) → (xs : List T) (f h : S)
+    → adds_each Add xs f (Ok h) → w h ≡ w f +ℚ rat_sum_by v xs
 sums_each Add w v step [] f h s = let d : h ≡ f = cc in ap w d ∙ sym (+ℚ_idr (w f))
 sums_each Add w v step (x ∷ xs) f h s =
     sums_each Add w v step xs s.0 h s.2 ∙ ap (λ y. y +ℚ rat_sum_by v xs) (step x f s.0 s.1) ∙ +ℚ_assoc (w f) (v x) (rat_sum_by v xs)
@@ -84,11 +85,13 @@ module _ {C : Type 0} (value_at : C → Parameters → ℚ) (of_number : Frac �
   pub products_are : (scaling : Scaling) → MayScale scaling → (pairs : List Pair) (f : Form C) → adds_each (adds_pair number_of Sums Changes scaling args) pairs (zero_form of_number) (Ok f) →
       linear_value value_at f u params ≡ pairing_value Times pairs (numbers 0) (numbers 1)
   products_are scaling may pairs f h =
-      sums_each (adds_pair number_of Sums Changes scaling args) (λ g. linear_value value_at g u params) (λ x. numbers 0 x.left *ℚ numbers 1 x.right) (product_step scaling may) pairs (zero_form of_number) f h
+      sums_each (adds_pair number_of Sums Changes scaling args) (λ g. linear_value value_at g u params) (λ x. numbers 0 x.left *ℚ numbers 1 x.right) (product_step scaling may) pairs
+      (zero_form of_number) f h
       ∙ ap (λ y. y +ℚ pairing_value Times pairs (numbers 0) (numbers 1)) (zero_is value_at of_number number_of Sums Changes laws u params) ∙ +ℚ_idl (pairing_value Times pairs (numbers 0) (numbers 1))
 
   pub quotients_are : IsRead 1 → (pairs : List Pair) (f : Form C) → adds_each (adds_pair number_of Sums Changes Divisor args) pairs (zero_form of_number) (Ok f) →
       linear_value value_at f u params ≡ pairing_value Over pairs (numbers 0) (numbers 1)
   quotients_are read pairs f h =
-      sums_each (adds_pair number_of Sums Changes Divisor args) (λ g. linear_value value_at g u params) (λ x. numbers 0 x.left /ℚ numbers 1 x.right) (quotient_step read) pairs (zero_form of_number) f h
+      sums_each (adds_pair number_of Sums Changes Divisor args) (λ g. linear_value value_at g u params) (λ x. numbers 0 x.left /ℚ numbers 1 x.right) (quotient_step read) pairs
+      (zero_form of_number) f h
       ∙ ap (λ y. y +ℚ pairing_value Over pairs (numbers 0) (numbers 1)) (zero_is value_at of_number number_of Sums Changes laws u params) ∙ +ℚ_idl (pairing_value Over pairs (numbers 0) (numbers 1))

@@ -12,7 +12,7 @@ use Rattle.dcx_atom.specs.Rows.{RowTerm, FormTerm, operand_at, row_at, form_at}
 use Rattle.dcx_atom.specs.declared.graph.Operand.{Operand}
 use Rattle.dcx_atom.specs.declared.graph.Operand.TheVariants.{Argument, Aux}
 use Rattle.dcx_atom.proofs.FormedSums.{value-zero_frac}
-use Rattle.dcx_call.proofs.Products.{value-frac_at}
+use Rattle.dcx_atom.proofs.Fractions.{value-frac_at, one_fits}
 use Rattle.dcx_linear.specs.declared.change.Change.{Change}
 use Rattle.dcx_linear.specs.declared.form.Form.{Form}
 use Rattle.dcx_linear.specs.Parameters.{Parameters}
@@ -25,8 +25,7 @@ use Rattle.dcx_linear.proofs.PartSums.{parts_sum_value}
 use Rattle.dcx_unknowns.specs.Unknowns.{number_at}
 use Rattle.dcx_entries.specs.Parts.{Arguments, zero_form, unknown_form, form_of_unknown, term_part, aux_part, operand_form, row_part}
 use Rattle.dcx_call.proofs.Coefficients.{FitsIn}
-use Rattle.dcx_formed.proofs.Representable.{one_fits}
-use Rattle.dcx_formed.proofs.Coefficients.{FitsRow, FitsFormTerm}
+use Rattle.dcx_atom.specs.Fractions.{FitsRow, FitsFormTerm}
 use Rattle.dcx_formed.proofs.Coefs.{AreCoefs}
 
 module _ {C : Type 0} (value_at : C → Parameters → ℚ) (of_number : Frac → C) (number_of : C → Option Frac) (Sums : C → C → Result C Passes → Type 0) (Changes : Change → C → Result C Passes → Type 0)
@@ -81,6 +80,7 @@ module _ {C : Type 0} (value_at : C → Parameters → ℚ) (of_number : Frac �
   operand_is args first (Argument k e) = refl
   operand_is args first (Aux k) = unknown_is (first + k)
 
-  pub row_is : (args : Arguments C) (first : ℕ) (ts : List RowTerm) → FitsRow ts → parts_value value_at (map (row_part of_number args first) ts) u params ≡ row_at ts (λ k e. form_number (args k e)) (λ k. u (first + k))
+  pub row_is : (args : Arguments C) (first : ℕ) (ts : List RowTerm) → FitsRow ts
+      → parts_value value_at (map (row_part of_number args first) ts) u params ≡ row_at ts (λ k e. form_number (args k e)) (λ k. u (first + k))
   row_is args first [] h = refl
   row_is args first (t ∷ ts) h = ap₂ ◌+ℚ◌ (ap₂ ◌*ℚ◌ (value-frac_at t.coefficient h.0) (operand_is args first t.operand)) (row_is args first ts h.1)

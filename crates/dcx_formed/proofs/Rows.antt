@@ -21,7 +21,7 @@ use Rattle.dcx_convex.specs.Rules.{Rules}
 use Rattle.dcx_convex.specs.Reductions.{Unknowns}
 use Rattle.dcx_call.specs.declared.call.Call.{Call}
 use Rattle.dcx_call.specs.declared.call.Call.TheVariants as calls
-use Rattle.dcx_call.specs.Atoms.{atom_meaning}
+use Rattle.dcx_call.specs.Atoms.{atom_meaning, atom_lawful}
 use Rattle.dcx_call.specs.Linears.{linear_meaning}
 use Rattle.dcx_call.specs.Values.{given_by, entry_formed}
 use Rattle.dcx_tree.specs.declared.problem.Problem.{Problem}
@@ -43,7 +43,7 @@ use Rattle.dcx_entries.specs.Kept.{entry_rows, node_rows, graph_rows}
 use Rattle.dcx_formed.specs.Forms.{forms_at}
 use Rattle.dcx_formed.proofs.Lists.{joined_same, joined_none, flat_below, map-joined, map-map, list_of, maps_same, all_at}
 use Rattle.dcx_formed.proofs.Coefs.{AreCoefs}
-use Rattle.dcx_formed.proofs.Coefficients.{FitsRow, rows_fit}
+use Rattle.dcx_atom.specs.Fractions.{FitsRow}
 use Rattle.dcx_formed.proofs.PartValues.{parts_are, row_is}
 use Rattle.dcx_formed.proofs.Tables.{entries_counted, entry_there}
 use Rattle.dcx_formed.proofs.Stood.{args_match}
@@ -72,7 +72,8 @@ module _ {C : Type 0} (value_at : C → Parameters → ℚ) (of_number : Frac �
       map-list_below (length e.rows) (λ k. record { node = record { 0 = i }; entry = j; row = k; form = slice_index_or e.rows k (zero_form of_number) }) placed_of
       ∙ list_of row_of e.rows (zero_form of_number)
 
-  no_number_rows : (r : Result Frac ValueStop) (e : EntryForms C) → (let t : Result (EntryForms C) ValueStop = Ok e in t ≡ number_entry of_number number_of Sums Changes Reads rules p setting r) → e.rows ≡ []
+  no_number_rows : (r : Result Frac ValueStop) (e : EntryForms C) → (let t : Result (EntryForms C) ValueStop = Ok e in t ≡ number_entry of_number number_of Sums Changes Reads rules p setting r)
+      → e.rows ≡ []
   no_number_rows (Ok x) e h = ap (λ (z : EntryForms C). z.rows) (entry_is {E = ValueStop} e _ h)
   no_number_rows (Err stop) e h = absurd (cc)
 
@@ -88,8 +89,9 @@ module _ {C : Type 0} (value_at : C → Parameters → ℚ) (of_number : Frac �
         ∙ row_is value_at of_number number_of Sums Changes laws u params args (first_aux rules p i) row fits
         ∙ ap (λ (a : Entries). row_at row a (filling_of rules p i u)) (args_match value_at of_number number_of Sums Changes laws table params u n.args)
 
-    graph_rows_are : (rows : List Row) → AllByRecursion FitsRow rows → (fs : List (Form C)) → EachSum of_number number_of Sums Changes (map (λ row. map (row_part of_number args (first_aux rules p i)) row) rows) (Ok fs) →
-        map row_of fs ≡ map (λ row u. row_at row (arguments (map (F u) n.args)) (filling_of rules p i u)) rows
+    graph_rows_are : (rows : List Row) → AllByRecursion FitsRow rows → (fs : List (Form C))
+        → EachSum of_number number_of Sums Changes (map (λ row. map (row_part of_number args (first_aux rules p i)) row) rows) (Ok fs)
+        → map row_of fs ≡ map (λ row u. row_at row (arguments (map (F u) n.args)) (filling_of rules p i u)) rows
     graph_rows_are rows fits fs h =
         let part = λ (row : Row). map (row_part of_number args (first_aux rules p i)) row in
         maps_same row_of (λ row u. row_at row (arguments (map (F u) n.args)) (filling_of rules p i u)) fs rows (h.0 ∙ length-map rows part) (λ k f row there here.
@@ -119,7 +121,7 @@ module _ {C : Type 0} (value_at : C → Parameters → ℚ) (of_number : Frac �
     reduced_rows (calls.Atom m) j e h =
         let result = map (aux_part of_number (first_aux rules p i)) ((atom_meaning m).result (arg_sides p.tree n) j) in
         let rows = (atom_meaning m).rows (arg_sides p.tree n) j in
-        graph_rows_are rows (rows_fit m (arg_sides p.tree n) j) e.rows
+        graph_rows_are rows ((atom_lawful m).fraction_coefficients.rows (arg_sides p.tree n) j) e.rows
         (atom_made of_number number_of Sums Changes result (map (λ row. map (row_part of_number args (first_aux rules p i)) row) rows) e h).rows_sum
     reduced_rows (calls.Linear l) j e h = no_rows e (linear_made of_number number_of Sums Changes (map (term_part args) ((linear_meaning l).terms (arg_sides p.tree n) j)) e h).rows
     reduced_rows (calls.Pairing q) j e h =
@@ -135,7 +137,8 @@ module _ {C : Type 0} (value_at : C → Parameters → ℚ) (of_number : Frac �
     call_numbers (calls.Atom m) =
         let place = λ (j : ℕ) (row : Row). (let r : PlacedRow = record { entry = j; row = row } in r) in
         map-joined (row_number rules p s F i n) (entries_of n.sides) (λ j. map (place j) ((atom_meaning m).rows (arg_sides p.tree n) j))
-        ∙ joined_same (entries_of n.sides) (λ j. map (row_number rules p s F i n) (map (place j) ((atom_meaning m).rows (arg_sides p.tree n) j))) (λ j. map number_of_row ((atom_meaning m).rows (arg_sides p.tree n) j))
+        ∙ joined_same (entries_of n.sides) (λ j. map (row_number rules p s F i n) (map (place j) ((atom_meaning m).rows (arg_sides p.tree n) j)))
+        (λ j. map number_of_row ((atom_meaning m).rows (arg_sides p.tree n) j))
         (λ j b. map-map (place j) (row_number rules p s F i n) ((atom_meaning m).rows (arg_sides p.tree n) j))
     call_numbers (calls.Linear l) = sym (joined_none (entries_of n.sides) (λ j. []) (λ j b. refl))
     call_numbers (calls.Pairing q) = sym (joined_none (entries_of n.sides) (λ j. []) (λ j b. refl))
@@ -145,7 +148,8 @@ module _ {C : Type 0} (value_at : C → Parameters → ℚ) (of_number : Frac �
     rows_when true j = call_rows_at n.call j
     rows_when false j = []
 
-    entry_by_rules : (b : Bool) (j : ℕ) (e : EntryForms C) → NodeEntryBy of_number number_of Sums Changes Reads rules p setting b (table_forms table) i n j (Ok e) → map row_of e.rows ≡ map number_of_row (rows_when b j)
+    entry_by_rules : (b : Bool) (j : ℕ) (e : EntryForms C) → NodeEntryBy of_number number_of Sums Changes Reads rules p setting b (table_forms table) i n j (Ok e)
+        → map row_of e.rows ≡ map number_of_row (rows_when b j)
     entry_by_rules true j e h = reduced_rows n.call j e h
     entry_by_rules false j e h = no_rows e (no_number_rows (entry_formed n.call (given_by setting) (given_by []) (arg_sides p.tree n) (numbers_in number_of args) j) e h)
 
@@ -164,7 +168,8 @@ module _ {C : Type 0} (value_at : C → Parameters → ℚ) (of_number : Frac �
     node_numbers =
         let es = slice_index_or table i [] in
         map-joined placed_of (length es) (λ j. entry_rows of_number i j (slice_index_or es j none))
-        ∙ ap (λ m. joined_below m (λ j. map placed_of (entry_rows of_number i j (slice_index_or es j none)))) (entries_counted of_number number_of Sums Changes Reads rules p setting table formed i n at)
+        ∙ ap (λ m. joined_below m (λ j. map placed_of (entry_rows of_number i j (slice_index_or es j none))))
+        (entries_counted of_number number_of Sums Changes Reads rules p setting table formed i n at)
         ∙ joined_same (entries_of n.sides) (λ j. map placed_of (entry_rows of_number i j (slice_index_or es j none))) (λ j. map number_of_row (rows_when (is_reduced rules p i) j)) entry_at
         ∙ node_by_rules (is_reduced rules p i)
         ∙ sym (ap (λ o. numbers_if rules p s F i o (rows_if p.tree (is_reduced rules p i) o)) at)

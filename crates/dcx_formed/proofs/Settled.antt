@@ -7,7 +7,8 @@ use Rattle.std.proofs.lemmas.Bool.{and_parts, false≢true}
 use Rattle.dcx_math.specs.Rational.{whole}
 use Rattle.dcx_math.proofs.Orders.{≤ℚ_refl, ≤ℚ_antisym}
 use Rattle.dcx_shape.specs.declared.shape.Sides.{Sides}
-use Rattle.dcx_convex.specs.Nodes.{Attribute, Free, Nonneg, Nonpos, Symmetric, Diag, Head, Variable, Parameter, Constant, Apply, Node, Numbers, Point, Setting, told, told_within, zeros, first_of, arguments, value_by, value_at, Keeps, VariableKeeps, ParameterKeeps, AreLawful}
+use Rattle.dcx_convex.specs.Nodes.{Attribute, Free, Nonneg, Nonpos, Symmetric, Diag, Head, Variable, Parameter, Constant, Apply, Node, Numbers, Point, Setting, told}
+use Rattle.dcx_convex.specs.Nodes.{told_within, zeros, first_of, arguments, value_by, value_at, Keeps, VariableKeeps, ParameterKeeps, AreLawful}
 use Rattle.dcx_convex.specs.Rules.{Rules, Plain, Judgement, no_argument, judgement_by, judgement_at}
 use Rattle.dcx_convex.specs.Pairs.{is_zero}
 use Rattle.dcx_convex.proofs.Arguments.{args_same}
@@ -28,8 +29,9 @@ settled_within : (rules : Rules) (nodes : List Node) (s t : Setting) (x : Point)
 settled_within rules nodes s t x zero i = λ b. refl
 settled_within rules nodes s t x (suc n) i = by (slice_get nodes i) (settled_within rules nodes s t x n)
   where
-    by : (o : Option Node) → ((i : ℕ) → IsTrue (told_within no_argument (judgement_by rules) nodes n i).unparametrized → told_within zeros (value_by s x) nodes n i ≡ told_within zeros (value_by t x) nodes n i) →
-        IsTrue (told no_argument (judgement_by rules) (told_within no_argument (judgement_by rules) nodes n) o).unparametrized →
+    by : (o : Option Node) → ((i : ℕ) → IsTrue (told_within no_argument (judgement_by rules) nodes n i).unparametrized
+        → told_within zeros (value_by s x) nodes n i ≡ told_within zeros (value_by t x) nodes n i)
+        → IsTrue (told no_argument (judgement_by rules) (told_within no_argument (judgement_by rules) nodes n) o).unparametrized →
         told zeros (value_by s x) (told_within zeros (value_by s x) nodes n) o ≡ told zeros (value_by t x) (told_within zeros (value_by t x) nodes n) o
     by None ih b = refl
     by (Some node) ih b =
@@ -57,7 +59,8 @@ fixed_within rules nodes zero i = refl
 fixed_within rules nodes (suc n) i = by (slice_get nodes i) (fixed_within rules nodes n)
   where
     by : (o : Option Node) → ((i : ℕ) → (told_within no_argument (judgement_by rules) nodes n i).fixed ≡ (told_within no_argument (judgement_by Plain) nodes n i).fixed) →
-        (told no_argument (judgement_by rules) (told_within no_argument (judgement_by rules) nodes n) o).fixed ≡ (told no_argument (judgement_by Plain) (told_within no_argument (judgement_by Plain) nodes n) o).fixed
+        (told no_argument (judgement_by rules) (told_within no_argument (judgement_by rules) nodes n) o).fixed
+        ≡ (told no_argument (judgement_by Plain) (told_within no_argument (judgement_by Plain) nodes n) o).fixed
     by None ih = refl
     by (Some node) ih = head_alike (told_within no_argument (judgement_by rules) nodes n) (told_within no_argument (judgement_by Plain) nodes n) ih rules node.head node.args
 

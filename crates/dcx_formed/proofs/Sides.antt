@@ -62,7 +62,8 @@ module _ (rules : Rules) (g h : Judgement) (l r : Side)
     pub scaling_may : P (product_scaling l r)
     scaling_may = by l.number r.number refl refl
       where
-        by : (a b : Bool) → l.number ≡ a → r.number ≡ b → P (if a then LeftNumber else (if b then RightNumber else (if l.fixed && r.numbers then LeftAffine else (if r.fixed && l.numbers then RightAffine else LeftNumber))))
+        by : (a b : Bool) → l.number ≡ a → r.number ≡ b
+            → P (if a then LeftNumber else (if b then RightNumber else (if l.fixed && r.numbers then LeftAffine else (if r.fixed && l.numbers then RightAffine else LeftNumber))))
         by true b e f = left_number (sym l_number ∙ e)
         by false true e f = right_number (sym r_number ∙ f)
         by false false e f = affine_sides e f (l.fixed && r.numbers) (r.fixed && l.numbers) refl refl (one_affine e f)

@@ -55,13 +55,15 @@ use Rattle.dcx_formed.proofs.Settled.{settled_zero}
 suited : (t : Trend) (g : Judgement) → IsTrue (suits Convex t g) → IsTrue (suits Concave t g) → IsTrue (is_affine g) ⊎ (IsTrue t.rising × IsTrue t.falling)
 suited t g h k = by (or_cases (is_affine g) ((g.convex && t.rising) || (g.concave && t.falling)) h) (or_cases (is_affine g) ((g.concave && t.rising) || (g.convex && t.falling)) k)
   where
-    both : IsTrue (g.convex && t.rising) ⊎ IsTrue (g.concave && t.falling) → IsTrue (g.concave && t.rising) ⊎ IsTrue (g.convex && t.falling) → IsTrue (is_affine g) ⊎ (IsTrue t.rising × IsTrue t.falling)
+    both : IsTrue (g.convex && t.rising) ⊎ IsTrue (g.concave && t.falling) → IsTrue (g.concave && t.rising) ⊎ IsTrue (g.convex && t.falling)
+        → IsTrue (is_affine g) ⊎ (IsTrue t.rising × IsTrue t.falling)
     both (inl a) (inl b) = inl (and_from g.convex g.concave (and_parts g.convex t.rising a).0 (and_parts g.concave t.rising b).0)
     both (inl a) (inr b) = inr ((and_parts g.convex t.rising a).1, (and_parts g.convex t.falling b).1)
     both (inr a) (inl b) = inr ((and_parts g.concave t.rising b).1, (and_parts g.concave t.falling a).1)
     both (inr a) (inr b) = inl (and_from g.convex g.concave (and_parts g.convex t.falling b).0 (and_parts g.concave t.falling a).0)
 
-    by : IsTrue (is_affine g) ⊎ IsTrue ((g.convex && t.rising) || (g.concave && t.falling)) → IsTrue (is_affine g) ⊎ IsTrue ((g.concave && t.rising) || (g.convex && t.falling)) → IsTrue (is_affine g) ⊎ (IsTrue t.rising × IsTrue t.falling)
+    by : IsTrue (is_affine g) ⊎ IsTrue ((g.convex && t.rising) || (g.concave && t.falling)) → IsTrue (is_affine g) ⊎ IsTrue ((g.concave && t.rising) || (g.convex && t.falling))
+        → IsTrue (is_affine g) ⊎ (IsTrue t.rising × IsTrue t.falling)
     by (inl a) k = inl a
     by (inr a) (inl b) = inl b
     by (inr a) (inr b) = both (or_cases (g.convex && t.rising) (g.concave && t.falling) a) (or_cases (g.concave && t.rising) (g.convex && t.falling) b)
@@ -181,7 +183,8 @@ module _ (judged : ℕ → Judgement) (F G : ℕ → Numbers) (P : ℕ → Type 
     quotient_same qs bent h k =
         let ub = (and_parts (judged b).fixed (judged b).unparametrized bent).1 in
         let t = quotient_trend (map (λ g. g.sign) sides) in
-        elim (suited (t 0) (judged a) (and_parts (suits Convex (t 0) (judged a)) (all_suit Convex (λ i. t (suc i)) (judged b ∷ [])) h).0 (and_parts (suits Concave (t 0) (judged a)) (all_suit Concave (λ i. t (suc i)) (judged b ∷ [])) k).0) [
+        elim (suited (t 0) (judged a) (and_parts (suits Convex (t 0) (judged a)) (all_suit Convex (λ i. t (suc i)) (judged b ∷ [])) h).0
+        (and_parts (suits Concave (t 0) (judged a)) (all_suit Concave (λ i. t (suc i)) (judged b ∷ [])) k).0) [
           | inl affine ↦ ap₂ (pairing_value Over qs) (same a pa fa affine) (number b pb fb ub)
           | inr z ↦
               let w = nothing b pb fb ub (and_from (judged b).sign.nonneg (judged b).sign.nonpos z.0 z.1) in
@@ -253,8 +256,9 @@ module _ (p : Problem) (s : Setting) (forms : Forms) (m : ℕ) (stand : (i : ℕ
     nothing : (a : ℕ) → a < i → IsTrue (judged a).fixed → IsTrue (judged a).unparametrized → IsTrue (is_zero (judged a).sign) → (forms u a ≡ zeros) × (forms w a ≡ zeros)
     nothing a l fixed settled z = (number_zero u a (omega arith) (omega arith) fixed settled z, number_zero w a (omega arith) (omega arith) fixed settled z)
 
-    entry_same : (call : Call) → shape_of call (arg_sides p.tree n) ≡ Some n.sides → IsTrue (told call).fixed → IsTrue (told call).convex → IsTrue (told call).concave → ¬ IsTrue (is_constant Parametrized (told call)) →
-        (j : ℕ) → call_entry (names_in p) s (point_at p.variables u) call (arg_sides p.tree n) (arguments (map (forms u) n.args)) (filling_of Parametrized p i u) j
+    entry_same : (call : Call) → shape_of call (arg_sides p.tree n) ≡ Some n.sides → IsTrue (told call).fixed → IsTrue (told call).convex → IsTrue (told call).concave
+        → ¬ IsTrue (is_constant Parametrized (told call))
+        → (j : ℕ) → call_entry (names_in p) s (point_at p.variables u) call (arg_sides p.tree n) (arguments (map (forms u) n.args)) (filling_of Parametrized p i u) j
         ≡ call_entry (names_in p) s (point_at p.variables w) call (arg_sides p.tree n) (arguments (map (forms w) n.args)) (filling_of Parametrized p i w) j
     entry_same (calls.Variable v) is fixed x y not_const j = absurd (false≢true fixed)
     entry_same (calls.Parameter q) is fixed x y not_const j = refl
@@ -279,8 +283,9 @@ module _ (p : Problem) (s : Setting) (forms : Forms) (m : ℕ) (stand : (i : ℕ
         pairing_constant : (q : Pairing) → IsTrue (list_all (is_constant Parametrized) (map judged n.args)) → IsTrue (is_constant Parametrized (told (calls.Pairing q)))
         pairing_constant q all = call_constant Parametrized (pairing_call q (arg_sides p.tree n) n.sides) (map judged n.args) all
 
-        pairing_same : (q : Pairing) → sides_of_two q (arg_sides p.tree n) ≡ Some n.sides → IsTrue (told (calls.Pairing q)).fixed → IsTrue (told (calls.Pairing q)).convex → IsTrue (told (calls.Pairing q)).concave →
-            ¬ IsTrue (list_all (is_constant Parametrized) (map judged n.args)) → (j : ℕ) →
+        pairing_same : (q : Pairing) → sides_of_two q (arg_sides p.tree n) ≡ Some n.sides → IsTrue (told (calls.Pairing q)).fixed → IsTrue (told (calls.Pairing q)).convex
+            → IsTrue (told (calls.Pairing q)).concave
+            → ¬ IsTrue (list_all (is_constant Parametrized) (map judged n.args)) → (j : ℕ) →
             call_entry (names_in p) s (point_at p.variables u) (calls.Pairing q) (arg_sides p.tree n) (arguments (map (forms u) n.args)) (filling_of Parametrized p i u) j
             ≡ call_entry (names_in p) s (point_at p.variables w) (calls.Pairing q) (arg_sides p.tree n) (arguments (map (forms w) n.args)) (filling_of Parametrized p i w) j
         pairing_same q is fixed x y some j =
@@ -305,7 +310,8 @@ module _ (p : Problem) (s : Setting) (forms : Forms) (m : ℕ) (stand : (i : ℕ
           fun_ext (λ j.
           stands u j
           ∙ ap (λ (f : Numbers). first_of (entries_of n.sides) f j)
-          (fun_ext (λ k. entry_same i n at b c u w earlier n.call (p.nodes.shaped i n at) fixed_told (subst (λ (k : Judgement). IsTrue k.convex) g both.0) (subst (λ (k : Judgement). IsTrue k.concave) g both.1)
+          (fun_ext (λ k. entry_same i n at b c u w earlier n.call (p.nodes.shaped i n at) fixed_told (subst (λ (k : Judgement). IsTrue k.convex) g both.0)
+          (subst (λ (k : Judgement). IsTrue k.concave) g both.1)
           (not_constant p Parametrized i n at e) k))
           ∙ sym (stands w j))
 

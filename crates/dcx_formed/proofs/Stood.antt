@@ -20,7 +20,8 @@ use Rattle.dcx_formed.proofs.Tables.{args_are}
 module _ {C : Type 0} (value_at : C → Parameters → ℚ) (of_number : Frac → C) (number_of : C → Option Frac) (Sums : C → C → Result C Passes → Type 0) (Changes : Change → C → Result C Passes → Type 0)
     (laws : AreCoefs value_at of_number number_of Sums Changes) (table : Table C) (params : Parameters) where
   -- they are what stands for the arguments in the equations
-  pub args_match : (u : Unknowns) (ids : List ℕ) → (λ (k e : ℕ). linear_value value_at (args_among of_number (table_forms table) ids k e) u params) ≡ arguments (map (forms_at value_at of_number params table u) ids)
+  pub args_match : (u : Unknowns) (ids : List ℕ) → (λ (k e : ℕ). linear_value value_at (args_among of_number (table_forms table) ids k e) u params)
+      ≡ arguments (map (forms_at value_at of_number params table u) ids)
   args_match u ids = fun_ext (λ k. fun_ext (λ e.
       args_are of_number (table_forms table) (λ a. Unit {0}) (λ (f : Form C). linear_value value_at f u params) (zero_is value_at of_number number_of Sums Changes laws u params)
       (forms_at value_at of_number params table u) (λ a q e. refl) ids (λ _ _ _. tt) k e))

@@ -30,14 +30,15 @@ form_in of_number forms i j = slice_index_or (slice_index_or forms i []) j (zero
 -- ---- arguments
 module _ {C : Type 0} (of_number : Frac → C) (forms : List (List (Form C))) (Q : ℕ → Type 0) where
   -- a fact of the forms of the arguments, and of 0
-  pub args_have : (P : Form C → Type 0) → P (zero_form of_number) → ((a : ℕ) → Q a → (e : ℕ) → P (form_in of_number forms a e)) → (ids : List ℕ) → All Q ids → (k e : ℕ) → P (args_among of_number forms ids k e)
+  pub args_have : (P : Form C → Type 0) → P (zero_form of_number) → ((a : ℕ) → Q a → (e : ℕ) → P (form_in of_number forms a e)) → (ids : List ℕ) → All Q ids → (k e : ℕ)
+      → P (args_among of_number forms ids k e)
   args_have P none each [] all k e = none
   args_have P none each (a ∷ ids) all zero e = each a (All-head Q a ids all) e
   args_have P none each (a ∷ ids) all (suc k) e = args_have P none each ids (All-tail Q a ids all) k e
 
   -- the numbers of the arguments, where 0 is 0
-  pub args_are : (h : Form C → ℚ) → h (zero_form of_number) ≡ zeros 0 → (F : ℕ → Numbers) → ((a : ℕ) → Q a → (e : ℕ) → h (form_in of_number forms a e) ≡ F a e) → (ids : List ℕ) → All Q ids → (k e : ℕ) →
-      h (args_among of_number forms ids k e) ≡ arguments (map F ids) k e
+  pub args_are : (h : Form C → ℚ) → h (zero_form of_number) ≡ zeros 0 → (F : ℕ → Numbers) → ((a : ℕ) → Q a → (e : ℕ) → h (form_in of_number forms a e) ≡ F a e) → (ids : List ℕ) → All Q ids → (k e : ℕ)
+      → h (args_among of_number forms ids k e) ≡ arguments (map F ids) k e
   args_are h none F each [] all k e = none
   args_are h none F each (a ∷ ids) all zero e = each a (All-head Q a ids all) e
   args_are h none F each (a ∷ ids) all (suc k) e = args_are h none F each ids (All-tail Q a ids all) k e
@@ -86,7 +87,8 @@ module _ {C : Type 0} (of_number : Frac → C) (number_of : C → Option Frac) (
         here = e;
         gives = gives.1 j entry e;
         is = ap (λ (fs : List (Form C)). slice_index_or fs j (zero_form of_number)) forms_are
-            ∙ get_or_from_slice_get (entry_forms entries) j entry.form (zero_form of_number) (slice_get-map (λ (z : EntryForms C). z.form) entries j ∙ ap (option_map (λ (z : EntryForms C). z.form)) e);
+            ∙ get_or_from_slice_get (entry_forms entries) j entry.form (zero_form of_number)
+            (slice_get-map (λ (z : EntryForms C). z.form) entries j ∙ ap (option_map (λ (z : EntryForms C). z.form)) e);
       }
 
   -- and 0 past the end

@@ -41,10 +41,12 @@ module _ (rules : Rules) (p : Problem) where
       omega (arith, count_is, part, l)
 
   -- the unknown that stands for an entry of a variable
-  pub variable_within : (k : ℕ) (v : Variable) → IsVariable p.variables k v → (e : ℕ) → e < entries_of (sides_in v) → (n : ℕ) → unknown_from (first_unknown p.variables k) v e ≡ Some n → n < length (unknown_kinds rules p)
+  pub variable_within : (k : ℕ) (v : Variable) → IsVariable p.variables k v → (e : ℕ) → e < entries_of (sides_in v) → (n : ℕ) → unknown_from (first_unknown p.variables k) v e ≡ Some n
+      → n < length (unknown_kinds rules p)
   variable_within k v at e b n is = by (source_of (demanded v) (sides_in v) e) refl is
     where
-      by : (o : Option ℕ) → source_of (demanded v) (sides_in v) e ≡ o → option_map (λ j. first_unknown p.variables k + own_before (demanded v) (sides_in v) j) o ≡ Some n → n < length (unknown_kinds rules p)
+      by : (o : Option ℕ) → source_of (demanded v) (sides_in v) e ≡ o → option_map (λ j. first_unknown p.variables k + own_before (demanded v) (sides_in v) j) o ≡ Some n
+          → n < length (unknown_kinds rules p)
       by None s h = absurd (none-some n h)
       by (Some j) s h =
           let here : IsSquare v = subst IsSquare (get_or_from_slice_get p.variables k v v at) (p.squares k v (slice_get_within p.variables k v at)) in

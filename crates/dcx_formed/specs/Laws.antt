@@ -1,4 +1,4 @@
--- The main statements, as the clauses of the laws say them.
+-- The laws of formed nodes: they meet the equations, and speak of unknowns and parameters that there are alone.
 use Rattle.dcx_frac.specs.declared.fraction.Frac.{Frac}
 use Rattle.dcx_point.specs.Pairs.{Pairs}
 use Rattle.dcx_convex.specs.Nodes.{Setting}
@@ -29,7 +29,8 @@ ParamFormsMeetEquations = (p : Problem) (setting : Pairs) (table : Table ParamFo
     (s : Setting) → MeetEquations form_value form_of_number s Parametrized p s table
 
 -- formed nodes speak of the unknowns of the layout alone
-abbrev pub FormsAreNarrow : {C : Type 0} → (Frac → C) → (C → Option Frac) → (C → C → Result C Passes → Type 0) → (Change → C → Result C Passes → Type 0) → (ℕ → List ℕ → ℕ → Pairs → C → Type 0) → Type 0
+abbrev pub FormsAreNarrow : {C : Type 0} → (Frac → C) → (C → Option Frac) → (C → C → Result C Passes → Type 0) → (Change → C → Result C Passes → Type 0) → (ℕ → List ℕ → ℕ → Pairs → C → Type 0)
+    → Type 0
 FormsAreNarrow of_number number_of Sums Changes Reads =
     (rules : Rules) (p : Problem) (setting : Pairs) (table : Table _) → AreFormed of_number number_of Sums Changes Reads rules p setting (length p.tree) table →
     OfTable (IsNarrow (length (unknown_kinds rules p))) table

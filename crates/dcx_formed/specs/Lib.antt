@@ -1,4 +1,4 @@
--- What the laws of this crate cite.
+-- What the laws cite: the forms of formed nodes, and of which unknowns and parameters they speak.
 pub mod Forms
 pub mod Within
 pub mod Laws

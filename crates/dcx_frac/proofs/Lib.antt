@@ -1,4 +1,4 @@
--- The lemmas.
+-- The lemmas by which the operations on fractions are exact, in lowest terms, and have one answer.
 pub mod Bits
 pub mod Signs
 pub mod Parts
@@ -11,3 +11,4 @@ pub mod Orders
 pub mod Results
 pub mod Texts
 pub mod Representable
+pub mod Integers

@@ -1,12 +1,27 @@
 -- Fractions compare as their cross products do.
-use Rattle.std.proofs.Common.{◌≡◌, ◌↔◌, ℤ, ◌*ℤ◌, sym, ◌∙◌, Ordering, Less, Equal, Greater}
+use Rattle.std.proofs.Common.{◌≡◌, ◌↔◌, ℤ, pos, ◌*ℤ◌, ◌<ℤ◌, sym, ap, ◌∙◌, Ordering, Less, Equal, Greater}
+use Rattle.std.specs.Ordering.{MatchOrdering}
 use Rattle.std.specs.Ordering.{int_cmp}
 use Rattle.std.proofs.lemmas.Cmp.{int_ranked}
-use Rattle.std.specs.Cmp.{int_cmp_is}
+use Rattle.std.specs.Cmp.{int_cmp_is, int_ranks}
+use Rattle.dcx_math.specs.Integers.{*ℤ_comm}
 use Rattle.dcx_math.specs.Rational.{◌<ℚ◌}
+use Rattle.dcx_math.proofs.IntegerLaws.{*ℤ-<ℤ}
 use Rattle.dcx_math.proofs.Ratios.{ratio-<ℚ-ratio, ratio-≡-ratio}
 use Rattle.dcx_frac.specs.declared.fraction.Frac.{Frac}
 use Rattle.dcx_frac.specs.Frac.{num_of, den_of, value}
+
+-- over one denominator the numerators decide
+pub same_denominator : (a b d : ℤ) → pos 0 <ℤ d → int_cmp a b ≡ int_cmp (a *ℤ d) (b *ℤ d)
+same_denominator a b d p = int_cmp_is (a *ℤ d) (b *ℤ d) (int_cmp a b) (scaled (int_cmp a b) (int_ranks a b))
+  where
+    less : (x y : ℤ) → x <ℤ y → (x *ℤ d) <ℤ (y *ℤ d)
+    less x y h = rw (*ℤ_comm x d, *ℤ_comm y d) (*ℤ-<ℤ d x y p h)
+
+    scaled : (r : Ordering) → MatchOrdering r (a <ℤ b) (a ≡ b) (b <ℤ a) → MatchOrdering r ((a *ℤ d) <ℤ (b *ℤ d)) (a *ℤ d ≡ b *ℤ d) ((b *ℤ d) <ℤ (a *ℤ d))
+    scaled Less h = less a b h
+    scaled Equal h = ap (λ z. z *ℤ d) h
+    scaled Greater h = less b a h
 
 -- r is how f and g compare by cross products
 module _ (f g : Frac) (r : Ordering) (is : r ≡ int_cmp (num_of f *ℤ den_of g) (num_of g *ℤ den_of f)) where

@@ -1,11 +1,15 @@
 -- A fraction is one number in lowest terms: its parts, and what a function that makes one by its parts shows.
-use Rattle.std.proofs.Common.{◌≡◌, ℕ, ◌<◌, ◌^◌, ◌↔◌, ℤ, pos, ◌*ℤ◌, ◌<ℤ◌, unsigned_abs, Bool, refl, sym, ap₂, ◌∙◌, subst, Option, Some, None, IsSome, IfSome}
+use Rattle.std.proofs.Common.{◌≡◌, ℕ, ◌<◌, ◌^◌, ◌↔◌, ℤ, pos, ◌*ℤ◌, ◌<ℤ◌, unsigned_abs, Bool, true, false, ◌&&◌, refl, sym, ap, ap₂, ◌∙◌, subst, Option, Some, None, IsSome, IfSome}
+use Rattle.std.specs.Ordering.{int_eq}
+use Rattle.std.proofs.lemmas.Bool.{and_parts}
+use Rattle.std.proofs.lemmas.Bool.Decides.{Decides-int_eq}
 use mathlib.Core.HLevel.{is_prop→PathP}
 use native.Mathlib.Bridge.{le_prop}
 use native.Mathlib.Nat.{ℕ_set}
 use lib.Dec.{T_prop}
 use lib.Signed.{lt_z}
-use Rattle.dcx_math.specs.Rational.{ℚ}
+use Rattle.dcx_math.specs.Rational.{ℚ, rat_eq}
+use Rattle.dcx_math.proofs.Ratios.{IsTrue-rat_eq}
 use Rattle.dcx_math.specs.LowestTerms.{IsInLowestTerms}
 use Rattle.dcx_math.specs.Divisors.{IsCoprime}
 use Rattle.dcx_math.proofs.LowestTerms.{lowest_terms_unique}
@@ -68,3 +72,24 @@ module _ (x : ℚ) (s : Bool) (n d : ℕ) (low : IsInLowestTerms x (signed s n) 
   pub has_value : (r : Option Frac) → IfSome r (λ f. f.num ≡ signed s n) → IfSome r (λ f. f.den ≡ pos d) → IfSome r (λ f. value f ≡ x)
   has_value None en ed = tt
   has_value (Some f) en ed = parts_value f en ed
+
+agree : (a b : Bool) → (a ≡ true → b ≡ true) → (b ≡ true → a ≡ true) → a ≡ b
+agree true b f g = sym (f refl)
+agree false true f g = g refl
+agree false false f g = refl
+
+-- fractions are equal exactly where their parts are
+pub same_parts : (f g : Frac) → (int_eq (num_of f) (num_of g) && int_eq (den_of f) (den_of g)) ≡ rat_eq (value f) (value g)
+same_parts f g = agree (int_eq (num_of f) (num_of g) && int_eq (den_of f) (den_of g)) (rat_eq (value f) (value g)) there back
+  where
+    there : (int_eq (num_of f) (num_of g) && int_eq (den_of f) (den_of g)) ≡ true → rat_eq (value f) (value g) ≡ true
+    there h =
+        let parts = and_parts (int_eq (num_of f) (num_of g)) (int_eq (den_of f) (den_of g)) h in
+        (IsTrue-rat_eq (value f) (value g)).1 (ap value (frac_from_parts f g ((Decides-int_eq (num_of f) (num_of g)).0 parts.0) ((Decides-int_eq (den_of f) (den_of g)).0 parts.1)))
+
+    back : rat_eq (value f) (value g) ≡ true → (int_eq (num_of f) (num_of g) && int_eq (den_of f) (den_of g)) ≡ true
+    back h =
+        let e = value_injective f g ((IsTrue-rat_eq (value f) (value g)).0 h) in
+        let n = (Decides-int_eq (num_of f) (num_of g)).1 (ap num_of e) in
+        let d = (Decides-int_eq (den_of f) (den_of g)).1 (ap den_of e) in
+        rw (n, d) refl

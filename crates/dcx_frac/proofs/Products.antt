@@ -89,11 +89,13 @@ cross n d a b g hn hd = rw (← hn, ← hd) (simp ring)
 module _ (x y : Frac) where
   -- the size of the numerator
   abbrev pub upper : ℕ
-  upper = upper_size (unsigned_abs (num_of x)) (unsigned_abs (den_of x)) (unsigned_abs (num_of y)) (unsigned_abs (den_of y)) x.lowest y.lowest (abs-positive (den_of x) x.positive) (abs-positive (den_of y) y.positive)
+  upper = upper_size (unsigned_abs (num_of x)) (unsigned_abs (den_of x)) (unsigned_abs (num_of y)) (unsigned_abs (den_of y)) x.lowest y.lowest
+      (abs-positive (den_of x) x.positive) (abs-positive (den_of y) y.positive)
 
   -- the size of the denominator
   abbrev pub lower : ℕ
-  lower = lower_size (unsigned_abs (num_of x)) (unsigned_abs (den_of x)) (unsigned_abs (num_of y)) (unsigned_abs (den_of y)) x.lowest y.lowest (abs-positive (den_of x) x.positive) (abs-positive (den_of y) y.positive)
+  lower = lower_size (unsigned_abs (num_of x)) (unsigned_abs (den_of x)) (unsigned_abs (num_of y)) (unsigned_abs (den_of y)) x.lowest y.lowest
+      (abs-positive (den_of x) x.positive) (abs-positive (den_of y) y.positive)
 
   -- whether the product is negative
   abbrev pub sign : Bool
@@ -108,11 +110,13 @@ module _ (x y : Frac) where
 
   -- the parts are coprime
   pub parts_coprime : IsCoprime upper lower
-  parts_coprime = sizes_coprime (unsigned_abs (num_of x)) (unsigned_abs (den_of x)) (unsigned_abs (num_of y)) (unsigned_abs (den_of y)) x.lowest y.lowest (abs-positive (den_of x) x.positive) (abs-positive (den_of y) y.positive)
+  parts_coprime = sizes_coprime (unsigned_abs (num_of x)) (unsigned_abs (den_of x)) (unsigned_abs (num_of y)) (unsigned_abs (den_of y)) x.lowest y.lowest
+      (abs-positive (den_of x) x.positive) (abs-positive (den_of y) y.positive)
 
   -- the denominator is positive
   pub lower_pos : 0 < lower
-  lower_pos = lower_size_pos (unsigned_abs (num_of x)) (unsigned_abs (den_of x)) (unsigned_abs (num_of y)) (unsigned_abs (den_of y)) x.lowest y.lowest (abs-positive (den_of x) x.positive) (abs-positive (den_of y) y.positive)
+  lower_pos = lower_size_pos (unsigned_abs (num_of x)) (unsigned_abs (den_of x)) (unsigned_abs (num_of y)) (unsigned_abs (den_of y)) x.lowest y.lowest
+      (abs-positive (den_of x) x.positive) (abs-positive (den_of y) y.positive)
 
   -- the product in lowest terms
   pub product_lowest : IsInLowestTerms (value x *ℚ value y) (signed sign upper) (pos lower)
@@ -128,12 +132,15 @@ module _ (x y : Frac) where
       let positive : pos 0 <ℤ pos lower = omega (arith, ints) in
       let n : signed sign upper *ℤ pos g ≡ num_of x *ℤ num_of y =
       ap (λ s. signed s upper *ℤ pos g) (ap₂ (λ s t. not (beq s t)) (lt_zero (num_of x)) (lt_zero (num_of y))) ∙ signed-times (not (beq sx sy)) upper g
-      ∙ ap (signed (not (beq sx sy))) (upper_whole a b c d x.lowest y.lowest (abs-positive (den_of x) x.positive) (abs-positive (den_of y) y.positive)) ∙ signed-mul sx sy a c ∙ ap₂ ◌*ℤ◌ (signed-abs (num_of x)) (signed-abs (num_of y)) in
+      ∙ ap (signed (not (beq sx sy))) (upper_whole a b c d x.lowest y.lowest (abs-positive (den_of x) x.positive) (abs-positive (den_of y) y.positive)) ∙ signed-mul sx sy a c
+      ∙ ap₂ ◌*ℤ◌ (signed-abs (num_of x)) (signed-abs (num_of y)) in
       let m : pos lower *ℤ pos g ≡ den_of x *ℤ den_of y =
-      ap pos (lower_whole a b c d x.lowest y.lowest (abs-positive (den_of x) x.positive) (abs-positive (den_of y) y.positive)) ∙ ap₂ ◌*ℤ◌ (pos-abs (den_of x) x.positive) (pos-abs (den_of y) y.positive) in
+      ap pos (lower_whole a b c d x.lowest y.lowest (abs-positive (den_of x) x.positive) (abs-positive (den_of y) y.positive))
+      ∙ ap₂ ◌*ℤ◌ (pos-abs (den_of x) x.positive) (pos-abs (den_of y) y.positive) in
       record {
         positive = positive;
         coprime = subst (λ k. IsCoprime k lower) (sym (unsigned_abs-signed sign upper)) parts_coprime;
         is = ratio-*ℚ-ratio (num_of x) (den_of x) (num_of y) (den_of y) x.positive y.positive
-            ∙ sym (≡-from_products (signed sign upper) (pos lower) (num_of x *ℤ num_of y) (den_of x *ℤ den_of y) positive _ (cross (signed sign upper) (pos lower) (num_of x *ℤ num_of y) (den_of x *ℤ den_of y) (pos g) n m));
+            ∙ sym (≡-from_products (signed sign upper) (pos lower) (num_of x *ℤ num_of y) (den_of x *ℤ den_of y) positive _
+            (cross (signed sign upper) (pos lower) (num_of x *ℤ num_of y) (den_of x *ℤ den_of y) (pos g) n m));
       }

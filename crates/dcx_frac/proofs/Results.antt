@@ -41,7 +41,8 @@ module _ {Fit : Type 0} (op : Op) (x y : Frac) (z : ℚ) (holds : Fit → IsRepr
   is_answer (Err p) (Err q) a b = ap Err (a.told ∙ sym b.told)
 
   -- what the code answers of the number that it found
-  pub found_is : (found : Option Frac) (r : Result Frac Passes) → r ≡ ok_or found (record { op = op; left = x; right = y }) → (IsSome found ↔ Fit) → IfSome found (λ f. value f ≡ z) → IsAnswer op x y z Fit r
+  pub found_is : (found : Option Frac) (r : Result Frac Passes) → r ≡ ok_or found (record { op = op; left = x; right = y }) → (IsSome found ↔ Fit)
+      → IfSome found (λ f. value f ≡ z) → IsAnswer op x y z Fit r
   found_is None r is e v = rw is (record { exact = tt; fits = e; told = refl })
   found_is (Some f) r is e v = rw is (record { exact = v; fits = e; told = tt })
 

@@ -175,11 +175,13 @@ module _ (x y : Frac) where
 
   -- the parts are coprime
   pub parts_coprime : IsCoprime (unsigned_abs top / out) bottom
-  parts_coprime = rw top_is at (sum_coprime (num_of x) (num_of y) (unsigned_abs (den_of x)) (unsigned_abs (den_of y)) x.lowest y.lowest (abs-positive (den_of x) x.positive) (abs-positive (den_of y) y.positive))
+  parts_coprime = rw top_is at (sum_coprime (num_of x) (num_of y) (unsigned_abs (den_of x)) (unsigned_abs (den_of y)) x.lowest y.lowest
+      (abs-positive (den_of x) x.positive) (abs-positive (den_of y) y.positive))
 
   -- the denominator is positive
   pub bottom_pos : 0 < bottom
-  bottom_pos = rw top_is at (lower_pos (num_of x) (num_of y) (unsigned_abs (den_of x)) (unsigned_abs (den_of y)) x.lowest y.lowest (abs-positive (den_of x) x.positive) (abs-positive (den_of y) y.positive))
+  bottom_pos = rw top_is at (lower_pos (num_of x) (num_of y) (unsigned_abs (den_of x)) (unsigned_abs (den_of y)) x.lowest y.lowest
+      (abs-positive (den_of x) x.positive) (abs-positive (den_of y) y.positive))
 
   -- the sum in lowest terms
   pub sum_lowest : IsInLowestTerms (value x +ℚ value y) (signed (lt_z top (pos 0)) (unsigned_abs top / out)) (pos bottom)
@@ -190,9 +192,11 @@ module _ (x y : Frac) where
       let c : n *ℤ (pos (unsigned_abs (den_of x)) *ℤ pos (unsigned_abs (den_of y))) ≡ (num_of x *ℤ pos (unsigned_abs (den_of y)) +ℤ num_of y *ℤ pos (unsigned_abs (den_of x))) *ℤ pos bottom =
       rw top_is at (sum_cross (num_of x) (num_of y) (unsigned_abs (den_of x)) (unsigned_abs (den_of y)) x.lowest y.lowest (abs-positive (den_of x) x.positive) (abs-positive (den_of y) y.positive)) in
       let c' : n *ℤ (den_of x *ℤ den_of y) ≡ (num_of x *ℤ den_of y +ℤ num_of y *ℤ den_of x) *ℤ pos bottom =
-      replaced n (pos bottom) (num_of x) (num_of y) (den_of x) (den_of y) (pos (unsigned_abs (den_of x))) (pos (unsigned_abs (den_of y))) (sym (pos-abs (den_of x) x.positive)) (sym (pos-abs (den_of y) y.positive)) c in
+      replaced n (pos bottom) (num_of x) (num_of y) (den_of x) (den_of y) (pos (unsigned_abs (den_of x))) (pos (unsigned_abs (den_of y))) (sym (pos-abs (den_of x) x.positive))
+      (sym (pos-abs (den_of y) y.positive)) c in
       record {
         positive = positive;
         coprime = subst (λ m. IsCoprime m bottom) (sym (unsigned_abs-signed (lt_z top (pos 0)) (unsigned_abs top / out))) parts_coprime;
-        is = ratio-+ℚ-ratio (num_of x) (den_of x) (num_of y) (den_of y) x.positive y.positive ∙ sym (≡-from_products n (pos bottom) (num_of x *ℤ den_of y +ℤ num_of y *ℤ den_of x) (den_of x *ℤ den_of y) positive _ c');
+        is = ratio-+ℚ-ratio (num_of x) (den_of x) (num_of y) (den_of y) x.positive y.positive
+            ∙ sym (≡-from_products n (pos bottom) (num_of x *ℤ den_of y +ℤ num_of y *ℤ den_of x) (den_of x *ℤ den_of y) positive _ c');
       }

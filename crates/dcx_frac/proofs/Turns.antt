@@ -84,7 +84,7 @@ neg_size (pos (suc n)) = refl
 neg_size (negsuc n) = refl
 
 -- the negative in lowest terms
-neg_lowest : (y : Frac) → IsInLowestTerms (neg_ℚ (value y)) (neg_ℤ (num_of y)) (den_of y)
+pub neg_lowest : (y : Frac) → IsInLowestTerms (neg_ℚ (value y)) (neg_ℤ (num_of y)) (den_of y)
 neg_lowest y = record {
   positive = y.positive;
   coprime = subst (λ m. IsCoprime m (unsigned_abs (den_of y))) (sym (neg_size (num_of y))) y.lowest;
@@ -94,7 +94,8 @@ neg_lowest y = record {
 -- f is the negative of y
 module _ (x y f : Frac) (is : value f ≡ neg_ℚ (value y)) where
   turned_parts : (num_of f ≡ neg_ℤ (num_of y)) × (den_of f ≡ den_of y)
-  turned_parts = lowest_terms_unique (value f) (num_of f) (den_of f) (neg_ℤ (num_of y)) (den_of y) (value_lowest f) (subst (λ u. IsInLowestTerms u (neg_ℤ (num_of y)) (den_of y)) (sym is) (neg_lowest y))
+  turned_parts = lowest_terms_unique (value f) (num_of f) (den_of f) (neg_ℤ (num_of y)) (den_of y) (value_lowest f)
+      (subst (λ u. IsInLowestTerms u (neg_ℤ (num_of y)) (den_of y)) (sym is) (neg_lowest y))
 
   left_same : left_term x f ≡ left_term x y
   left_same = ap (λ d. num_of x *ℤ divided (gcd (unsigned_abs (den_of x)) (unsigned_abs d)) d) turned_parts.1

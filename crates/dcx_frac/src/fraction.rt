@@ -106,6 +106,22 @@ fn plus(a: i128, b: i128) -> Option<i128>
     }
 }
 
+/// The product of two numbers, or `None` where it passes `LARGEST`.
+fn multiplied(a: i128, b: i128) -> Option<i128>
+    ensures { SomeIff result (Fits (a *ℤ b)) (a *ℤ b) }
+{
+    match a.checked_mul(b) {
+        None => None,
+        Some(product) => {
+            if product == i128::MIN {
+                None
+            } else {
+                Some(product)
+            }
+        }
+    }
+}
+
 /// The fraction with these parts, or `None` where one passes `LARGEST`.
 fn from_parts(is_negative: bool, num: u128, den: u128) -> Option<Frac>
     requires coprime { IsCoprime num den }
@@ -139,10 +155,24 @@ impl Frac {
         if den == 0 {
             return None;
         }
+        if den == 1 {
+            return Frac::integer(num);
+        }
         let n = num.unsigned_abs();
         let d = den.unsigned_abs();
         let g = gcd(n, d);
         from_parts((num < 0) != (den < 0), n / g, d / g)
+    }
+
+    /// The integer as a fraction, or `None` where it passes `LARGEST`.
+    fn integer(num: i128) -> Option<Frac>
+        ensures exists { IsSome result ↔ Fits num }
+        ensures value { IfSome result (λ f. value f ≡ whole num) }
+    {
+        if num == i128::MIN {
+            return None;
+        }
+        Some(Frac { num, den: 1 })
     }
 
     /// The number 0.
@@ -245,6 +275,16 @@ impl Frac {
     fn order(self, other: Frac) -> Ordering
         ensures { result ≡ int_cmp (self.num *ℤ other.den) (other.num *ℤ self.den) }
     {
+        if self.den == other.den {
+            return self.num.cmp(&other.num);
+        }
+        self.crossed(other)
+    }
+
+    /// The same, by repeated division.
+    fn crossed(self, other: Frac) -> Ordering
+        ensures { result ≡ int_cmp (self.num *ℤ other.den) (other.num *ℤ self.den) }
+    {
         let b = self.den.unsigned_abs();
         let d = other.den.unsigned_abs();
         let size = self.num.unsigned_abs();
@@ -273,7 +313,23 @@ impl Frac {
         if other.num == 0 {
             return Some(self);
         }
+        if self.den == 1 && other.den == 1 {
+            return self.whole_sum(other);
+        }
         self.formed_sum(other)
+    }
+
+    /// The sum of two integers, which has no denominators to look for.
+    fn whole_sum(self, other: Frac) -> Option<Frac>
+        requires left { self.den ≡ pos 1 }
+        requires right { other.den ≡ pos 1 }
+        ensures exists { IsSome result ↔ FormsSum self other }
+        ensures value { IfSome result (λ f. value f ≡ value self +ℚ value other) }
+    {
+        match plus(self.num, other.num) {
+            Some(num) => Some(Frac { num, den: 1 }),
+            None => None,
+        }
     }
 
     /// The sum, over the least common denominator and then in lowest terms.
@@ -293,8 +349,32 @@ impl Frac {
         from_parts(sum < 0, size / k, den)
     }
 
-    /// The product, or `None` where a part passes `LARGEST` after the common divisors across are taken out.
+    /// The product, or `None` where a part passes `LARGEST`.
     fn product(self, other: Frac) -> Option<Frac>
+        ensures exists { IsSome result ↔ ProductFits self other }
+        ensures value { IfSome result (λ f. value f ≡ value self *ℚ value other) }
+    {
+        if self.den == 1 && other.den == 1 {
+            return self.whole_product(other);
+        }
+        self.formed_product(other)
+    }
+
+    /// The product of two integers, which has no denominators to look for.
+    fn whole_product(self, other: Frac) -> Option<Frac>
+        requires left { self.den ≡ pos 1 }
+        requires right { other.den ≡ pos 1 }
+        ensures exists { IsSome result ↔ ProductFits self other }
+        ensures value { IfSome result (λ f. value f ≡ value self *ℚ value other) }
+    {
+        match multiplied(self.num, other.num) {
+            Some(num) => Some(Frac { num, den: 1 }),
+            None => None,
+        }
+    }
+
+    /// The product, or `None` where a part passes `LARGEST` after the common divisors across are taken out.
+    fn formed_product(self, other: Frac) -> Option<Frac>
         ensures exists { IsSome result ↔ ProductFits self other }
         ensures value { IfSome result (λ f. value f ≡ value self *ℚ value other) }
     {

@@ -16,7 +16,8 @@ use Rattle.dcx_elab.specs.Meaning.{meaning, IsWork, Elaborates}
 use Rattle.dcx_refusal.specs.declared.refusal.Refusal.{Refusal}
 use Rattle.dcx_refusal.specs.declared.refusal.RefusalSource.TheVariants.{Script as OfScript}
 use Rattle.dcx_front.specs.declared.fault.FrontFault.TheVariants.{Refused, Memory}
-use Rattle.dcx_front.specs.Accepts.{Ending, refused, without_memory, read_ending, elab_ending, IsRefusedBy, WantsMemory, Given, EndsAs, Judges, GivesOfScript, stands_for, faulty, Gives, spells, unread}
+use Rattle.dcx_front.specs.Accepts.{Ending, refused, without_memory, read_ending, elab_ending, IsRefusedBy, WantsMemory}
+use Rattle.dcx_front.specs.Accepts.{Given, EndsAs, Judges, GivesOfScript, stands_for, faulty, Gives, spells, unread}
 use Rattle.dcx_front.specs.OneAnswer.{AreOneAnswer, HasOneAnswer}
 use Rattle.dcx_front.proofs.OneCheck.{one_refusal, beside_memory, one_judged}
 use Rattle.dcx_read.proofs.OneReading.{one_fault, script_apart, one_script}
@@ -135,7 +136,8 @@ module _ (script other : Script) (view : script_view script ≡ script_view othe
   one_work_given : (w v : Work) → Elaborates (Ok w) script → Judges w given → Elaborates (Ok v) other → Judges v another → AreOneAnswer given another
   one_work_given w v h c k d = one_judged v given another (subst (λ (x : Work). Judges x given) (one_work script other view w v h k) c) d
 
-  work_or_fault : (w : Work) (f : ElabFault) → Elaborates (Ok w) script → Elaborates (Err f) other → (f ≡ elabs.Memory) ⊎ (f ≢ elabs.Memory) → EndsAs (elab_ending f) another → AreOneAnswer given another
+  work_or_fault : (w : Work) (f : ElabFault) → Elaborates (Ok w) script → Elaborates (Err f) other → (f ≡ elabs.Memory) ⊎ (f ≢ elabs.Memory)
+      → EndsAs (elab_ending f) another → AreOneAnswer given another
   work_or_fault w f h k (inl e) d = to_memory given another (elab_wants f another e d)
   work_or_fault w f h k (inr n) d = absurd (work_apart script other view w f n h k)
 
@@ -159,11 +161,13 @@ module _ (script other : Script) (view : script_view script ≡ script_view othe
 
 -- ---- bytes
 module _ (bytes : List ℕ) (given another : Given) where
-  script_or_fault : (script : Script) (f : ReadFault) → IsReading bytes (Ok script) → IsReading bytes (Err f) → (f ≡ reads.Memory) ⊎ (f ≢ reads.Memory) → EndsAs (read_ending f) another → AreOneAnswer given another
+  script_or_fault : (script : Script) (f : ReadFault) → IsReading bytes (Ok script) → IsReading bytes (Err f) → (f ≡ reads.Memory) ⊎ (f ≢ reads.Memory)
+      → EndsAs (read_ending f) another → AreOneAnswer given another
   script_or_fault script f h k (inl e) d = to_memory given another (read_wants f another e d)
   script_or_fault script f h k (inr n) d = absurd (script_apart bytes script f n h k)
 
-  fault_or_script : (f : ReadFault) (script : Script) → IsReading bytes (Err f) → IsReading bytes (Ok script) → (f ≡ reads.Memory) ⊎ (f ≢ reads.Memory) → EndsAs (read_ending f) given → AreOneAnswer given another
+  fault_or_script : (f : ReadFault) (script : Script) → IsReading bytes (Err f) → IsReading bytes (Ok script) → (f ≡ reads.Memory) ⊎ (f ≢ reads.Memory)
+      → EndsAs (read_ending f) given → AreOneAnswer given another
   fault_or_script f script h k (inl e) c = from_memory given another (read_wants f given e c)
   fault_or_script f script h k (inr n) c = absurd (script_apart bytes script f n k h)
 

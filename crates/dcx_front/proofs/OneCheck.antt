@@ -31,7 +31,8 @@ use Rattle.dcx_arena.proofs.OneGathering.{one_list}
 
 -- ---- refusals
 -- a number, a place and what is said beside them make one refusal
-pub one_refusal : (source : RefusalSource) (number : ℕ) (place : Place) (carried : Carried) (r t : Refusal) → IsRefusedAs source number place carried r → IsRefusedAs source number place carried t → r ≡ t
+pub one_refusal : (source : RefusalSource) (number : ℕ) (place : Place) (carried : Carried) (r t : Refusal) → IsRefusedAs source number place carried r
+    → IsRefusedAs source number place carried t → r ≡ t
 one_refusal source number place carried r t h k = λ i. record {
   source = (h.source_is ∙ sym k.source_is) i;
   number = (h.number_is ∙ sym k.number_is) i;

@@ -1,4 +1,4 @@
--- What the contracts of this crate cite.
+-- What contracts cite: what the bytes of a script give, and that they give one answer; what a check tells.
 pub mod Checks
 pub mod Accepts
 pub mod OneAnswer

@@ -5,7 +5,8 @@
 //!
 //! | what must hold | where |
 //! |---|---|
-//! | accepted is the problem that the bytes stand for, with its settings; the rules accept it, it is convex at every fitting setting, and the verdict is its own | `accept`, `Gives` of `specs/Accepts.antt` |
+//! | accepted is the problem that the bytes stand for, with its settings | `accept`, `Gives` of `specs/Accepts.antt` |
+//! | the rules accept it, it is convex at every fitting setting, and the verdict is its own | `accept`, `Gives` |
 //! | refused is the first fault of reading, or of carrying out, or the first site that breaks its rule, at its place in the script | `accept`, `Gives` |
 //! | the bytes give no other answer, want of memory aside | `accept`, `IsOnlyAnswer` of `specs/OneAnswer.antt`; `laws::one_answer` |
 //! | bytes are refused exactly where they are at fault, and accepted exactly where they are not | `accept`, `IsVerdictOn`; `laws::one_verdict` |

@@ -1,7 +1,6 @@
 -- Arguments as the code has them, and as they are seen.
-use Rattle.std.specs.Prelude.{◌≡◌, List, [], ◌∷◌, map, length}
-use Rattle.std.proofs.Common.{refl, sym, ap, ◌∙◌}
-use Rattle.std.proofs.lemmas.List.{length-map}
+use Rattle.std.specs.Prelude.{◌≡◌, List, [], ◌∷◌, map}
+use Rattle.std.proofs.Common.{refl, ap, ◌∙◌}
 use Rattle.dcx_script_values.specs.Kinds.{Reading, reading}
 use Rattle.dcx_script_values.specs.Meant.{meant}
 use Rattle.dcx_signature.specs.declared.matching.Argument.{Argument}
@@ -15,7 +14,3 @@ seen-read (a ∷ xs) = ap (λ (rs : List Reading). reading (meant a.value) ∷ r
 -- what all arguments are where expressions are wanted
 pub all-read : (xs : List Argument) (bound : Bound) → map argument_seen xs ≡ bound → map (λ a. reading (meant a.value)) xs ≡ map (λ b. reading b.1) bound
 all-read xs bound e = seen-read xs ∙ ap (λ (b : Bound). map (λ p. reading p.1) b) e
-
--- how many arguments there are
-pub all-counted : (xs : List Argument) (bound : Bound) → map argument_seen xs ≡ bound → length xs ≡ length bound
-all-counted xs bound e = sym (length-map xs argument_seen) ∙ ap length e

@@ -1,4 +1,4 @@
--- The lemmas.
+-- The lemmas on arguments, declarations, differences and ranges, and on the steps of a call.
 pub mod ArgumentsSeen
 pub mod Declares
 pub mod Differences

@@ -1,5 +1,5 @@
 -- What comes of the steps of a call: the operands that are read, and then the node that is made of them.
-use Rattle.std.specs.Prelude.{◌≡◌, ℕ, nat_eq, false, true, List, map, length, Option, Result, Ok, Err}
+use Rattle.std.specs.Prelude.{◌≡◌, ℕ, nat_eq, false, true, List, map, length, Option, Ok}
 use Rattle.std.proofs.Common.{refl, sym, ap, subst, ◌∙◌}
 use Rattle.dcx_shape.specs.declared.place.Place.{Place}
 use Rattle.dcx_call.specs.declared.linears.LinearCall.{LinearCall}
@@ -9,16 +9,12 @@ use Rattle.dcx_script_values.specs.Values.{Value, expression, State, Act, and_th
 use Rattle.dcx_script_values.specs.Nodes.{Operand, called}
 use Rattle.dcx_script_values.specs.Kinds.{Reading, reading}
 use Rattle.dcx_script_values.specs.Operands.{operands_read, as_expression}
-use Rattle.dcx_script_values.specs.View.{Fails, Gives}
+use Rattle.dcx_script_values.specs.View.{Fails}
 use Rattle.dcx_script_values.proofs.Acts.{Fails-then, Fails-same, then_is}
 use Rattle.dcx_signature.specs.declared.table.Function.{Function}
 use Rattle.dcx_signature.specs.Table.{row}
 use Rattle.dcx_signature.specs.Arguments.{Given, Bound, arguments}
 use Rattle.dcx_functions.specs.Calls.{stacked, perform, is_placed, function_called}
-
--- a fault that is passed on
-pub Gives-fault : {X Y : Type 0} (view : X → Y) (r : Result X ElabFault) (after : State) (given : Result (Y × State) ElabFault) (y e : ElabFault) → r ≡ Err y → y ≡ e → Fails e given → Gives view r after given
-Gives-fault view r after given y e is same h = subst (λ q. Gives view q after given) (sym is) (subst (λ z. Fails z given) (sym same) h)
 
 -- ---- operands and their node
 module _ (make : List Operand → Act ℕ) (place : Place) where
@@ -43,7 +39,8 @@ module _ (make : List Operand → Act ℕ) (place : Place) where
       made_is i t e = was_read ∙ then_is (make ys s) (λ j. done (expression j)) i t e
 
 -- a list of some values is read at once
-pub stacked_some : (place : Place) (call : LinearCall) (vs : List Value) (s : State) → nat_eq (length vs) 0 ≡ false → stacked place call vs s ≡ read_and_made (called place (calls.Linear call)) place (map reading vs) s
+pub stacked_some : (place : Place) (call : LinearCall) (vs : List Value) (s : State) → nat_eq (length vs) 0 ≡ false
+    → stacked place call vs s ≡ read_and_made (called place (calls.Linear call)) place (map reading vs) s
 stacked_some place call vs s some = rw some refl
 
 -- ---- a call that may stand where it is
@@ -55,7 +52,8 @@ module _ (target : Option (List ℕ)) (place : Place) (f : Function) (gs : List 
   stands = rw placed refl
 
   pub argument_fault : (e : ElabFault) → Fails e (arguments s.nodes place (row f) gs s) → Fails e (function_called target place f gs s)
-  argument_fault e h = Fails-same e (and_then (arguments s.nodes place (row f) gs s) performed) (function_called target place f gs s) stands (Fails-then e (arguments s.nodes place (row f) gs s) performed h)
+  argument_fault e h = Fails-same e (and_then (arguments s.nodes place (row f) gs s) performed) (function_called target place f gs s) stands
+      (Fails-then e (arguments s.nodes place (row f) gs s) performed h)
 
   pub bound_is : (bound : Bound) → arguments s.nodes place (row f) gs s ≡ Ok (bound, s) → function_called target place f gs s ≡ perform target f place bound s
   bound_is bound e = stands ∙ then_is (arguments s.nodes place (row f) gs s) performed bound s e

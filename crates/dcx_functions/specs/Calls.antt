@@ -32,7 +32,34 @@ use Rattle.dcx_script_state.specs.Declarations.{declare_variable, declare_parame
 use Rattle.dcx_signature.specs.declared.table.Function.{Function}
 use Rattle.dcx_signature.specs.declared.table.Function.TheVariants as functions
 use Rattle.dcx_signature.specs.Fits.{is_one, is_true, is_infinity, is_by_rows}
-use Rattle.dcx_signature.specs.Table.{x_word, matrix_word, a_word, b_word, v_word, e_word, n_word, k_word, list_word, axis_word, shape_word, order_word, value_word, nonneg_word, nonpos_word, symmetric_word, diag_word, boolean_word, integer_word, objective_word, constraints_word, first_word, second_word, step_word, shapely_words, row}
+use Rattle.dcx_signature.specs.Table.{
+  x_word,
+  matrix_word,
+  a_word,
+  b_word,
+  v_word,
+  e_word,
+  n_word,
+  k_word,
+  list_word,
+  axis_word,
+  shape_word,
+  order_word,
+  value_word,
+  nonneg_word,
+  nonpos_word,
+  symmetric_word,
+  diag_word,
+  boolean_word,
+  integer_word,
+  objective_word,
+  constraints_word,
+  first_word,
+  second_word,
+  step_word,
+  shapely_words,
+  row,
+}
 use Rattle.dcx_signature.specs.Arguments.{Bound, Given, given_for, value_for, arguments}
 use Rattle.dcx_signature.specs.Turns.{range_from}
 

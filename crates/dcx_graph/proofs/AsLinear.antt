@@ -9,7 +9,7 @@ use Rattle.dcx_frac.specs.declared.fraction.Passes.{Passes}
 use Rattle.dcx_frac.specs.Frac.{value}
 use Rattle.dcx_frac.specs.Fits.{IsRepresentable}
 use Rattle.dcx_frac.proofs.Parts.{value_representable}
-use Rattle.dcx_call.proofs.Products.{value-frac_at}
+use Rattle.dcx_atom.proofs.Fractions.{value-frac_at}
 use native.Mathlib.Nat.{eq-one_of_dvd-one}
 use Rattle.dcx_shape.specs.Shape.{sides_of}
 use Rattle.dcx_shape.specs.Sides.{entries_of}
@@ -86,7 +86,8 @@ minus_one_value = value-frac_at (whole (negsuc 0)) (subst IsRepresentable less_o
 module _ {C : Type 0} (of_number : Frac → C) (number_of : C → Option Frac) (Sums : C → C → Result C Passes → Type 0) (Changes : Change → C → Result C Passes → Type 0)
     (value_at : C → Parameters → ℚ) (params : Parameters)
     (sum_value : (f g h : Form C) (u : Unknowns) → sum_gives_linear number_of Sums f g (Ok h) → linear_value value_at h u params ≡ linear_value value_at f u params +ℚ linear_value value_at g u params)
-    (change_value : (change : Change) (f h : Form C) (u : Unknowns) → change_gives_linear number_of Changes change f (Ok h) → linear_value value_at h u params ≡ changed change (linear_value value_at f u params))
+    (change_value : (change : Change) (f h : Form C) (u : Unknowns) → change_gives_linear number_of Changes change f (Ok h)
+    → linear_value value_at h u params ≡ changed change (linear_value value_at f u params))
     (minus_one_is : value minus_one ≡ whole (negsuc 0)) (fs : List (List (Form C))) where
   abbrev forms : Forms
   forms u a e = linear_value value_at (form_at of_number fs a e) u params
@@ -105,7 +106,8 @@ module _ {C : Type 0} (of_number : Frac → C) (number_of : C → Option Frac) (
       maps_same (row_at value_at params) (entry_at forms) rs xs h.0
       (λ k r x at there. let own = h.1 k r at in let d : own.0 ≡ x = cc (own.1, there) in row_same x r (subst (λ y. EntryRow of_number number_of Sums Changes fs y (Ok r)) d own.2))
 
-  objective_same : (sense : Sense) (f h : Form C) (u : Unknowns) → Least number_of Changes sense f (Ok h) → linear_value value_at h u params ≡ minimized (sense_of sense) (linear_value value_at f u params)
+  objective_same : (sense : Sense) (f h : Form C) (u : Unknowns) → Least number_of Changes sense f (Ok h)
+      → linear_value value_at h u params ≡ minimized (sense_of sense) (linear_value value_at f u params)
   objective_same Minimize f h u s = let d : h ≡ f = cc in ap (λ y. linear_value value_at y u params) d
   objective_same Maximize f h u s = change_value (Scale minus_one) f h u s ∙ turned (linear_value value_at f u params) (value minus_one) minus_one_is
 
@@ -120,7 +122,8 @@ module _ {C : Type 0} (of_number : Frac → C) (number_of : C → Option Frac) (
     rows_are =
         ap (map (row_at value_at params)) is.rows_are
         ∙ map-append (row_at value_at params) is.constraints (map graph_row (graph_rows of_number table))
-        ∙ ap₂ ◌++◌ (rows_same (constraint_entries p) is.constraints (subst (λ gs. EntryRows of_number number_of Sums Changes gs (constraint_entries p) (Ok is.constraints)) own is.constraints_are) ∙ all_constraints forms 0 p.constraints)
+        ∙ ap₂ ◌++◌ (rows_same (constraint_entries p) is.constraints (subst (λ gs. EntryRows of_number number_of Sums Changes gs (constraint_entries p) (Ok is.constraints)) own is.constraints_are)
+        ∙ all_constraints forms 0 p.constraints)
         (graph_same (graph_rows of_number table) ∙ ap (map bound_row) (sym rows))
 
     assigned : (u : Unknowns) → AreOfKinds q.kinds u ↔ IsAssignment (reduced_with rules p s forms) u

@@ -71,7 +71,8 @@ module _ (p : Problem) (setting : Pairs) where
     term_listed : (t : ParamTerm) → IsKnownTerm p t → IsSome (entry_of setting t.name t.entry)
     term_listed t h =
         let (q, at, same) = mapped (λ (r : Parameter). r.name) p.parameters t.position t.name h.name in
-        let has = subst (λ (r : Parameter). HasArray setting r.name (sides_of r.shape)) (get_or_from_slice_get p.parameters t.position q q at) (arrays t.position q (slice_get_within p.parameters t.position q at)) in
+        let has = subst (λ (r : Parameter). HasArray setting r.name (sides_of r.shape)) (get_or_from_slice_get p.parameters t.position q q at)
+        (arrays t.position q (slice_get_within p.parameters t.position q at)) in
         let size = get_or_from_slice_get (map (λ (r : Parameter). entries_of (sides_of r.shape)) p.parameters) t.position (entries_of (sides_of q.shape)) 0
         (slice_get-map (λ (r : Parameter). entries_of (sides_of r.shape)) p.parameters t.position ∙ ap (option_map (λ (r : Parameter). entries_of (sides_of r.shape))) at) in
         let inside : t.entry < length has.array.entries = let full = has.array.full in let sides = ap entries_of has.shape in let below = h.entry in omega (arith, full, sides, below, size) in

@@ -32,8 +32,10 @@ pub numbers_program : (p : Problem) (setting : Pairs) (q : Program Frac) (params
 numbers_program p setting q params ok is =
     let table = is.nodes.table in
     program_of (λ f. f) (λ f. Some f) (λ a b r. r ≡ sum_of a b) (λ change a r. r ≡ changed_frac change a) frac_value params
-    (λ f k r u e. linear_sum_value frac_value (λ f. Some f) (λ d y z l. ap (λ w. frac_value w z) (told_number_lem d y l)) u params (λ a b r. r ≡ sum_of a b) (λ a b d l. sum_value_lem a b d params l) f k r e)
-    (λ change f r u e. linear_change_value frac_value (λ f. Some f) (λ d y z l. ap (λ w. frac_value w z) (told_number_lem d y l)) u params (λ change a r. r ≡ changed_frac change a) (λ change a d l. change_value_lem change a d params l) change f r e)
+    (λ f k r u e. linear_sum_value frac_value (λ f. Some f) (λ d y z l. ap (λ w. frac_value w z) (told_number_lem d y l)) u params (λ a b r. r ≡ sum_of a b)
+    (λ a b d l. sum_value_lem a b d params l) f k r e)
+    (λ change f r u e. linear_change_value frac_value (λ f. Some f) (λ d y z l. ap (λ w. frac_value w z) (told_number_lem d y l)) u params (λ change a r. r ≡ changed_frac change a)
+    (λ change a d l. change_value_lem change a d params l) change f r e)
     minus_one_value (table_forms table) Plain p (setting_of p setting) table q is.program refl (fracs_meet_equations p setting table params ok is.nodes.formed).rows
 
 pub numbers_are_reductions : NumbersAreReductions
@@ -49,8 +51,10 @@ pub affine_program : (p : Problem) (setting : Pairs) (q : Program ParamForm) →
 affine_program p setting q ok is s =
     let table = is.nodes.table in
     program_of form_of_number number_of_form sum_gives_form change_gives_form form_value s
-    (λ f k r u e. linear_sum_value form_value number_of_form (λ d y z l. ap (λ w. form_value w z) (form_told_number d y l) ∙ form_number_value y z) u s sum_gives_form (λ a b d l. form_sum_value a b d s l) f k r e)
-    (λ change f r u e. linear_change_value form_value number_of_form (λ d y z l. ap (λ w. form_value w z) (form_told_number d y l) ∙ form_number_value y z) u s change_gives_form (λ change a d l. form_change_value change a d s l) change f r e)
+    (λ f k r u e. linear_sum_value form_value number_of_form (λ d y z l. ap (λ w. form_value w z) (form_told_number d y l) ∙ form_number_value y z) u s sum_gives_form
+    (λ a b d l. form_sum_value a b d s l) f k r e)
+    (λ change f r u e. linear_change_value form_value number_of_form (λ d y z l. ap (λ w. form_value w z) (form_told_number d y l) ∙ form_number_value y z) u s change_gives_form
+    (λ change a d l. form_change_value change a d s l) change f r e)
     minus_one_value (table_forms table) Parametrized p s table q is.program refl (param_forms_meet_equations p setting table ok is.nodes.formed s).rows
 
 pub affine_are_reductions : AffineAreReductions

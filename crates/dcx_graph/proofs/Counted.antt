@@ -1,5 +1,6 @@
 -- Formed nodes have as many rows as the layout of the program counts.
-use Rattle.std.proofs.Common.{◌≡◌, ℕ, zero, suc, ◌+◌, ◌<◌, ◌≤◌, Bool, true, false, List, [], length, map, Option, Some, Result, Ok, Err, slice_get, slice_index_or, refl, sym, ap, ap₂, ◌∙◌, arith, add-one, length-append}
+use Rattle.std.proofs.Common.{◌≡◌, ℕ, zero, suc, ◌+◌, ◌<◌, ◌≤◌, Bool, true, false, List, [], length, map, Option, Some, Result, Ok, Err}
+use Rattle.std.proofs.Common.{slice_get, slice_index_or, refl, sym, ap, ap₂, ◌∙◌, arith, add-one, length-append}
 use Rattle.std.proofs.lemmas.List.{length-map}
 use Rattle.std.proofs.lemmas.Option.{slice_get-get_or}
 use Rattle.dcx_frac.specs.declared.fraction.Frac.{Frac}
@@ -69,14 +70,17 @@ module _ {C : Type 0} (of_number : Frac → C) (number_of : C → Option Frac) (
   number_alone e (Ok x) h = is_alone e _ h
   number_alone e (Err stop) h = cc
 
-  pub number_rows : (call : Call) (sides : List Sides) (args : Arguments C) (j : ℕ) (e : EntryForms C) → NumberEntry of_number number_of Sums Changes Reads rules p setting call sides args j (Ok e) → length e.rows ≡ 0
+  pub number_rows : (call : Call) (sides : List Sides) (args : Arguments C) (j : ℕ) (e : EntryForms C) → NumberEntry of_number number_of Sums Changes Reads rules p setting call sides args j (Ok e)
+      → length e.rows ≡ 0
   number_rows call sides args j e h = number_alone e (entry_formed call (given_by setting) (given_by []) sides (numbers_in number_of args) j) h
 
-  pair_alone : (zero : Bool) (scaling : Scaling) (args : Arguments C) (pairs : List Pair) (j : ℕ) (e : EntryForms C) → PairEntryBy of_number number_of Sums Changes zero scaling args pairs j (Ok e) → length e.rows ≡ 0
+  pair_alone : (zero : Bool) (scaling : Scaling) (args : Arguments C) (pairs : List Pair) (j : ℕ) (e : EntryForms C) → PairEntryBy of_number number_of Sums Changes zero scaling args pairs j (Ok e)
+      → length e.rows ≡ 0
   pair_alone true scaling args pairs j e h = cc
   pair_alone false scaling args pairs j e h = is_alone e h.0 h.2
 
-  pub reduced_count : (forms : List (List (Form C))) (i : ℕ) (n : Node) (call : Call) (j : ℕ) (e : EntryForms C) → ReducedEntry of_number number_of Sums Changes Reads rules p setting forms i n.args call (arg_sides p.tree n) j (Ok e) → length e.rows ≡ row_count p.tree n call j
+  pub reduced_count : (forms : List (List (Form C))) (i : ℕ) (n : Node) (call : Call) (j : ℕ) (e : EntryForms C)
+      → ReducedEntry of_number number_of Sums Changes Reads rules p setting forms i n.args call (arg_sides p.tree n) j (Ok e) → length e.rows ≡ row_count p.tree n call j
   reduced_count forms i n (calls.Variable v) j e h = is_alone e _ h
   reduced_count forms i n (calls.Parameter q) j e h = is_alone e _ h.2
   reduced_count forms i n (calls.Constant x) j e h = number_rows (calls.Constant x) (arg_sides p.tree n) (args_among of_number forms n.args) j e h
@@ -87,7 +91,8 @@ module _ {C : Type 0} (of_number : Frac → C) (number_of : C → Option Frac) (
   reduced_count forms i n (calls.Pairing q) j e h = pair_alone _ _ _ _ j e h
 
   -- ---- the rows of a node
-  own_rows : (i : ℕ) (es : List (EntryForms C)) (j : ℕ) (e : EntryForms C) → slice_index_or es j (alone (zero_form of_number)) ≡ e → length (entry_rows of_number i j (slice_index_or es j (alone (zero_form of_number)))) ≡ length e.rows
+  own_rows : (i : ℕ) (es : List (EntryForms C)) (j : ℕ) (e : EntryForms C) → slice_index_or es j (alone (zero_form of_number)) ≡ e
+      → length (entry_rows of_number i j (slice_index_or es j (alone (zero_form of_number)))) ≡ length e.rows
   own_rows i es j e is = ap (λ (x : EntryForms C). length (entry_rows of_number i j x)) is ∙ length-list_below (length e.rows) _
 
   module _ (forms : List (List (Form C))) (i : ℕ) (n : Node) (es : List (EntryForms C)) where
@@ -97,7 +102,8 @@ module _ {C : Type 0} (of_number : Frac → C) (number_of : C → Option Frac) (
     none_in : ((j : ℕ) → j < length es → length (Here j).rows ≡ 0) → length (node_rows of_number i es) ≡ 0
     none_in h = joined_empty (length es) (λ j. entry_rows of_number i j (Here j)) (λ j b. own_rows i es j (Here j) refl ∙ h j b)
 
-    call_count : (call : Call) → length es ≡ entries_of n.sides → ((j : ℕ) → j < length es → length (Here j).rows ≡ row_count p.tree n call j) → length (node_rows of_number i es) ≡ length (call_rows p.tree n call)
+    call_count : (call : Call) → length es ≡ entries_of n.sides → ((j : ℕ) → j < length es → length (Here j).rows ≡ row_count p.tree n call j)
+        → length (node_rows of_number i es) ≡ length (call_rows p.tree n call)
     call_count (calls.Variable v) size h = none_in h
     call_count (calls.Parameter q) size h = none_in h
     call_count (calls.Constant x) size h = none_in h
@@ -108,9 +114,11 @@ module _ {C : Type 0} (of_number : Frac → C) (number_of : C → Option Frac) (
     call_count (calls.Linear l) size h = none_in h
     call_count (calls.Pairing q) size h = none_in h
 
-    node_count : (reduced : Bool) → length es ≡ entries_of n.sides → ((j : ℕ) (e : EntryForms C) → slice_get es j ≡ Some e → NodeEntryBy of_number number_of Sums Changes Reads rules p setting reduced forms i n j (Ok e)) → length (node_rows of_number i es) ≡ length (rows_if p.tree reduced (Some n))
+    node_count : (reduced : Bool) → length es ≡ entries_of n.sides → ((j : ℕ) (e : EntryForms C) → slice_get es j ≡ Some e
+        → NodeEntryBy of_number number_of Sums Changes Reads rules p setting reduced forms i n j (Ok e)) → length (node_rows of_number i es) ≡ length (rows_if p.tree reduced (Some n))
     node_count true size h = call_count n.call size (λ j b. reduced_count forms i n n.call j (Here j) (h j (Here j) (slice_get-get_or es j (alone (zero_form of_number)) b)))
-    node_count false size h = none_in (λ j b. number_rows n.call (arg_sides p.tree n) (args_among of_number forms n.args) j (Here j) (h j (Here j) (slice_get-get_or es j (alone (zero_form of_number)) b)))
+    node_count false size h =
+        none_in (λ j b. number_rows n.call (arg_sides p.tree n) (args_among of_number forms n.args) j (Here j) (h j (Here j) (slice_get-get_or es j (alone (zero_form of_number)) b)))
 
   -- ---- the rows of all nodes
   module _ (table : Table C) (formed : AreFormed of_number number_of Sums Changes Reads rules p setting (length p.tree) table) where

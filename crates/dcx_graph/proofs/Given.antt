@@ -28,10 +28,13 @@ module _ (rules : Rules) (can_read : Pairs → List ℕ → ℕ → Type 0) (p :
 
   module _ (judged : List Judgement) (n : Node) where
     number_given : (r : Rules) → rules ≡ r → (call : Call) → reduces call judged n ≡ false → IsGivenFor r can_read setting call → IsGiven call setting []
-    number_given Plain e (calls.Variable v) h g = absurd (false≢true (sym h ∙ ap (λ (q : Rules). not (is_constant q (judgement_by rules (head_of (names_in p) (calls.Variable v) (arg_sides p.tree n) n.sides) judged))) e))
-    number_given Parametrized e (calls.Variable v) h g = absurd (false≢true (sym h ∙ ap (λ (q : Rules). not (is_constant q (judgement_by rules (head_of (names_in p) (calls.Variable v) (arg_sides p.tree n) n.sides) judged))) e))
+    number_given Plain e (calls.Variable v) h g =
+        absurd (false≢true (sym h ∙ ap (λ (q : Rules). not (is_constant q (judgement_by rules (head_of (names_in p) (calls.Variable v) (arg_sides p.tree n) n.sides) judged))) e))
+    number_given Parametrized e (calls.Variable v) h g =
+        absurd (false≢true (sym h ∙ ap (λ (q : Rules). not (is_constant q (judgement_by rules (head_of (names_in p) (calls.Variable v) (arg_sides p.tree n) n.sides) judged))) e))
     number_given Plain e (calls.Parameter q) h g = g
-    number_given Parametrized e (calls.Parameter q) h g = absurd (false≢true (sym h ∙ ap (λ (r : Rules). not (is_constant r (judgement_by rules (head_of (names_in p) (calls.Parameter q) (arg_sides p.tree n) n.sides) judged))) e))
+    number_given Parametrized e (calls.Parameter q) h g =
+        absurd (false≢true (sym h ∙ ap (λ (r : Rules). not (is_constant r (judgement_by rules (head_of (names_in p) (calls.Parameter q) (arg_sides p.tree n) n.sides) judged))) e))
     number_given r e (calls.Constant x) h g = tt
     number_given r e (calls.Atom m) h g = tt
     number_given r e (calls.Linear l) h g = tt
@@ -39,7 +42,8 @@ module _ (rules : Rules) (can_read : Pairs → List ℕ → ℕ → Type 0) (p :
 
     readable_given : (r : Rules) → rules ≡ r → (call : Call) → reduces call judged n ≡ true → IsGivenFor r can_read setting call → IsReadable can_read setting call
     readable_given r e (calls.Variable v) h g = tt
-    readable_given Plain e (calls.Parameter q) h g = absurd (false≢true (sym (ap (λ (r : Rules). not (is_constant r (judgement_by rules (head_of (names_in p) (calls.Parameter q) (arg_sides p.tree n) n.sides) judged))) e) ∙ h))
+    readable_given Plain e (calls.Parameter q) h g =
+        absurd (false≢true (sym (ap (λ (r : Rules). not (is_constant r (judgement_by rules (head_of (names_in p) (calls.Parameter q) (arg_sides p.tree n) n.sides) judged))) e) ∙ h))
     readable_given Parametrized e (calls.Parameter q) h g = g
     readable_given r e (calls.Constant x) h g = tt
     readable_given r e (calls.Atom m) h g = tt

@@ -19,10 +19,13 @@ use Rattle.dcx_graph.proofs.Widths.{node_has, rows_have}
 pub programs_are_known : ProgramsAreKnown
 programs_are_known rules p setting table q formed is =
     let known = forms_are_known rules p setting table formed in
-    let roots : All (OfNode (IsKnown p) (table_forms table)) (roots_of p.objective p.constraints) = λ i d b. node_has form_of_number (IsKnown p) table known (get_or (roots_of p.objective p.constraints) i d) in
-    let rows = program_rows_have form_of_number number_of_form sum_gives_form change_gives_form p (table_forms table) (graph_rows form_of_number table) (unknown_kinds rules p) q is (IsKnown p) (known_number p zero_frac) (sum_keeps_known p) (change_keeps_known p) roots
+    let roots : All (OfNode (IsKnown p) (table_forms table)) (roots_of p.objective p.constraints) =
+    λ i d b. node_has form_of_number (IsKnown p) table known (get_or (roots_of p.objective p.constraints) i d) in
+    let rows = program_rows_have form_of_number number_of_form sum_gives_form change_gives_form p (table_forms table) (graph_rows form_of_number table) (unknown_kinds rules p) q is (IsKnown p)
+    (known_number p zero_frac) (sum_keeps_known p) (change_keeps_known p) roots
     (rows_have form_of_number (IsKnown p) table known) in
     record {
       rows = λ k r at. subst (λ (x : Row ParamForm). IsKnown p x.form) (get_or_from_slice_get q.rows k r r at) (rows k r (slice_get_within q.rows k r at));
-      objective = program_objective_has form_of_number number_of_form sum_gives_form change_gives_form p (table_forms table) (graph_rows form_of_number table) (unknown_kinds rules p) q is (IsKnown p) (known_number p zero_frac) (sum_keeps_known p) (change_keeps_known p) roots;
+      objective = program_objective_has form_of_number number_of_form sum_gives_form change_gives_form p (table_forms table) (graph_rows form_of_number table) (unknown_kinds rules p) q is
+          (IsKnown p) (known_number p zero_frac) (sum_keeps_known p) (change_keeps_known p) roots;
     }

@@ -1,4 +1,4 @@
--- Lemmas of this crate.
+-- The lemmas by which a problem is reduced in one way, and answers of its rows are answers of it.
 pub mod Told
 pub mod Sides
 pub mod RowsFormed

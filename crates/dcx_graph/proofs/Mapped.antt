@@ -45,7 +45,8 @@ use Rattle.dcx_graph.proofs.Backward.{answers_carry_over}
 use Rattle.dcx_graph.proofs.Slacks.{rows_enough, have_slacks, multiplier_is}
 
 -- the rows that a program lends are its own
-pub given_rows : (q : Program Frac) (kinds : List UnknownKind) (rows : List (Row Frac)) (objective : Form Frac) → kinds ≡ q.kinds → rows ≡ q.rows → objective ≡ q.objective → given kinds rows objective ≡ rows_of q
+pub given_rows : (q : Program Frac) (kinds : List UnknownKind) (rows : List (Row Frac)) (objective : Form Frac) → kinds ≡ q.kinds → rows ≡ q.rows → objective ≡ q.objective
+    → given kinds rows objective ≡ rows_of q
 given_rows q kinds rows objective e f g = λ i. given (e i) (f i) (g i)
 
 -- rows and an objective that name known unknowns alone are those of the program
@@ -59,15 +60,17 @@ known_of q kinds rows objective same_kinds same_rows same_objective rows_known o
     }
 
 -- the unknowns of a point that is read are those of the columns
-pub numbered_same : (p : Problem) (rows : GivenRows) (program : tab.Program) (xs : List Frac) (point : Pairs) → ColumnsTellUnknowns rows program (map value xs) → (at : IsPointRead p rows.kinds xs point) →
-    numbered at.unknowns ≡ unknowns_at program.columns (map value xs)
+pub numbered_same : (p : Problem) (rows : GivenRows) (program : tab.Program) (xs : List Frac) (point : Pairs) → ColumnsTellUnknowns rows program (map value xs)
+    → (at : IsPointRead p rows.kinds xs point)
+    → numbered at.unknowns ≡ unknowns_at program.columns (map value xs)
 numbered_same p rows program xs point tells at = λ i u. (ap (λ zs. rat_at zs u) at.are ∙ tells.same u) i
 
 module _ (p : Problem) (s : Setting) (q : Program Frac) (a : LpAnswer) (known : HasKinds (rows_of q)) (is : IsAnswered p s q a) where
   -- ---- rows
   rows_noted : sum_by constraint_rows p.constraints ≤ length a.rows
   rows_noted =
-      let enough = rows_enough (rows_of q) is.integer known is.made is.reduced.reduction.reduced.forms p.constraints (map bound_row is.reduced.reduction.reduced.rows) is.reduced.reduction.program.rows in
+      let enough = rows_enough (rows_of q) is.integer known is.made is.reduced.reduction.reduced.forms p.constraints
+      (map bound_row is.reduced.reduction.reduced.rows) is.reduced.reduction.program.rows in
       let count = is.parts.notes in
       omega (arith, enough, count)
 

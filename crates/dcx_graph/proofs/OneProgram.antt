@@ -43,14 +43,16 @@ module _ {A : Type 0} (F : Result A Passes → Type 0) (one : (r s : Result A Pa
   one_at_row n (Err s) (Ok y) h k = not_both y s.1 k h.1
   one_at_row n (Err s) (Err t) h k = ap₂ (λ m passes. Err (m, passes)) (h.0 ∙ sym k.0) (one_stop s.1 t.1 h.1 k.1)
 
-one_of_kind : {C : Type 0} (F : Result (Form C) Passes → Type 0) → ((r s : Result (Form C) Passes) → F r → F s → r ≡ s) → (kind : RowKind) (r s : Result (Row C) Passes) → OfKind kind F r → OfKind kind F s → r ≡ s
+one_of_kind : {C : Type 0} (F : Result (Form C) Passes → Type 0) → ((r s : Result (Form C) Passes) → F r → F s → r ≡ s) → (kind : RowKind) (r s : Result (Row C) Passes) → OfKind kind F r
+    → OfKind kind F s → r ≡ s
 one_of_kind F one kind (Ok x) (Ok y) h k = ap₂ (λ a f. Ok (record { kind = a; form = f })) (h.0 ∙ sym k.0) (one_value F one x.form y.form h.1 k.1)
 one_of_kind F one kind (Ok x) (Err q) h k = not_both F one x.form q h.1 k
 one_of_kind F one kind (Err p) (Ok y) h k = not_both F one y.form p k.1 h
 one_of_kind F one kind (Err p) (Err q) h k = ap Err (one_stop F one p q h k)
 
 module _ {C : Type 0} (of_number : Frac → C) (number_of : C → Option Frac) (Sums : C → C → Result C Passes → Type 0) (Changes : Change → C → Result C Passes → Type 0)
-    (one_sum : (a b : C) (r s : Result C Passes) → Sums a b r → Sums a b s → r ≡ s) (one_change : (change : Change) (a : C) (r s : Result C Passes) → Changes change a r → Changes change a s → r ≡ s) where
+    (one_sum : (a b : C) (r s : Result C Passes) → Sums a b r → Sums a b s → r ≡ s)
+    (one_change : (change : Change) (a : C) (r s : Result C Passes) → Changes change a r → Changes change a s → r ≡ s) where
   -- a part that is added is a list of one
   alone : (f g : Form C) (change : Change) (r : Result (Form C) Passes) → adds_part number_of Sums Changes f change g r → adds_parts number_of Sums Changes ((change, g) ∷ []) f r
   alone f g change (Ok x) h = (x, h, refl)
@@ -73,12 +75,14 @@ module _ {C : Type 0} (of_number : Frac → C) (number_of : C → Option Frac) (
         let right = form_at of_number forms x.right.0 x.entry in
         one_of_kind (adds_part number_of Sums Changes left (Scale minus_one) right) (one_part left right (Scale minus_one)) x.kind r s h k
 
-    one_row_of : (xs : List ConstraintEntry) (n : ℕ) (r s : Result (Row C) (ℕ × Passes)) → RowOf of_number number_of Sums Changes forms xs n r → RowOf of_number number_of Sums Changes forms xs n s → r ≡ s
+    one_row_of : (xs : List ConstraintEntry) (n : ℕ) (r s : Result (Row C) (ℕ × Passes)) → RowOf of_number number_of Sums Changes forms xs n r → RowOf of_number number_of Sums Changes forms xs n s
+        → r ≡ s
     one_row_of xs n r s h k =
         let e : h.0 ≡ k.0 = let a = h.1 in let b = k.1 in cc in
         one_at_row (Own k.0) (one_entry_row k.0) n r s (subst (λ x. AtRow n (Own x) r) e h.2) k.2
 
-    one_entry_rows : (xs : List ConstraintEntry) (r s : Result (List (Row C)) (ℕ × Passes)) → EntryRows of_number number_of Sums Changes forms xs r → EntryRows of_number number_of Sums Changes forms xs s → r ≡ s
+    one_entry_rows : (xs : List ConstraintEntry) (r s : Result (List (Row C)) (ℕ × Passes)) → EntryRows of_number number_of Sums Changes forms xs r
+        → EntryRows of_number number_of Sums Changes forms xs s → r ≡ s
     one_entry_rows xs r s h k = one_each (RowOf of_number number_of Sums Changes forms xs) (one_row_of xs) (length xs) r s h k
 
     module _ (p : Problem) (graph : List (FormedRow C)) (kinds : List UnknownKind) where

@@ -42,7 +42,8 @@ module _ (p : Problem) (kinds : List UnknownKind) (a : LpAnswer) where
   same_answer (answers.Infeasible ds g) (answers.Unbounded y q b t) h k = let no : status.Infeasible ≡ status.Unbounded = sym h.0 ∙ k.0 in cc
   same_answer (answers.Unbounded x r b t) (answers.Optimal m y es) h k = let no : status.Unbounded ≡ status.Optimal = sym h.0 ∙ k.0 in cc
   same_answer (answers.Unbounded x r b t) (answers.Infeasible es g) h k = let no : status.Unbounded ≡ status.Infeasible = sym h.0 ∙ k.0 in cc
-  same_answer (answers.Unbounded x r b t) (answers.Unbounded y q c u) (e, h, l, at, along) (f, k, m, there, beside) = (h ∙ sym k, l ∙ sym m, same_point a.columns x y at there, same_point a.ray r q along beside)
+  same_answer (answers.Unbounded x r b t) (answers.Unbounded y q c u) (e, h, l, at, along) (f, k, m, there, beside) =
+      (h ∙ sym k, l ∙ sym m, same_point a.columns x y at there, same_point a.ray r q along beside)
 
   never : (ds : List Array) → AreDuals a.status p.constraints a.rows ds → (site : Site) → PassesAt p a site → ⊥
   never ds are site stop = none-some (stop.row, stop.passes) (sym ((are_one a.status p.constraints a.rows).none_passes ds are) ∙ stop.first)

@@ -19,8 +19,10 @@ use Rattle.dcx_graph.specs.Reducing.{Reduces}
 
 module _ {C : Type 0} (of_number : Frac → C) (number_of : C → Option Frac) (Sums : C → C → Result C Passes → Type 0) (Changes : Change → C → Result C Passes → Type 0)
     (Reads : ℕ → List ℕ → ℕ → Pairs → C → Type 0) (rules : Rules) (p : Problem) (setting : Pairs)
-    (one_forming : (r s : Result (Table C) NodeStop) → NodesGive of_number number_of Sums Changes Reads rules p setting (length p.tree) r → NodesGive of_number number_of Sums Changes Reads rules p setting (length p.tree) s → r ≡ s)
-    (one_program : (table : Table C) (r s : Result (Program C) (ℕ × Passes)) → GivesProgram of_number number_of Sums Changes rules p table r → GivesProgram of_number number_of Sums Changes rules p table s → r ≡ s) where
+    (one_forming : (r s : Result (Table C) NodeStop) → NodesGive of_number number_of Sums Changes Reads rules p setting (length p.tree) r
+    → NodesGive of_number number_of Sums Changes Reads rules p setting (length p.tree) s → r ≡ s)
+    (one_program : (table : Table C) (r s : Result (Program C) (ℕ × Passes)) → GivesProgram of_number number_of Sums Changes rules p table r
+    → GivesProgram of_number number_of Sums Changes rules p table s → r ≡ s) where
   -- what is told where a node stops, and of what its rows answer
   abbrev at_node : ℕ → ValueStop → ReduceStop
   at_node node (values.Passes entry passes) = stops.Wide (sites.Node (record { 0 = node }) entry passes)
@@ -44,7 +46,8 @@ module _ {C : Type 0} (of_number : Frac → C) (number_of : C → Option Frac) (
   abbrev Stage : Result (Program C) ReduceStop → Type 0
   Stage r =
       (¬ AreFew (row_count rules p) (column_count rules p) × (r ≡ Err (stops.TooLarge (capped (row_count rules p)) (capped (column_count rules p)))))
-      ⊎ (AreFew (row_count rules p) (column_count rules p) × (nodes : Result (Table C) NodeStop) × NodesGive of_number number_of Sums Changes Reads rules p setting (length p.tree) nodes × Follows nodes r)
+      ⊎ (AreFew (row_count rules p) (column_count rules p) × (nodes : Result (Table C) NodeStop) × NodesGive of_number number_of Sums Changes Reads rules p setting (length p.tree) nodes
+      × Follows nodes r)
 
   staged : (r : Result (Program C) ReduceStop) → Reduces of_number number_of Sums Changes Reads rules p setting r → Stage r
   staged (Ok q) h = inr (h.nodes.few, Ok h.nodes.table, h.nodes.formed, (Ok q, h.program, refl))
@@ -64,5 +67,6 @@ module _ {C : Type 0} (of_number : Frac → C) (number_of : C → Option Frac) (
   one_stage r s (inr (few, nodes, gives, is)) (inr (again, others, also, are)) =
       one_follows others r s (subst (λ n. Follows n r) (one_forming nodes others gives also) is) are
 
-  pub one_reduction : (r s : Result (Program C) ReduceStop) → Reduces of_number number_of Sums Changes Reads rules p setting r → Reduces of_number number_of Sums Changes Reads rules p setting s → r ≡ s
+  pub one_reduction : (r s : Result (Program C) ReduceStop) → Reduces of_number number_of Sums Changes Reads rules p setting r → Reduces of_number number_of Sums Changes Reads rules p setting s
+      → r ≡ s
   one_reduction r s h k = one_stage r s (staged r h) (staged s k)

@@ -28,14 +28,16 @@ one_number position name entry setting c d e f = cc
 -- an entry of a parameter is one affine number
 one_entry : (position : ℕ) (name : List ℕ) (entry : ℕ) (setting : Pairs) (c d : ParamForm) → IsEntryForm position name entry c → IsEntryForm position name entry d → c ≡ d
 one_entry position name entry setting c d h k =
-    h.is ∙ ap (λ one. record { constant = zero_frac; terms = record { position = position; name = name; entry = entry; coefficient = one } ∷ [] }) (value_injective h.one k.one (h.is_one ∙ sym k.is_one)) ∙ sym k.is
+    h.is ∙ ap (λ one. record { constant = zero_frac; terms = record { position = position; name = name; entry = entry; coefficient = one } ∷ [] })
+    (value_injective h.one k.one (h.is_one ∙ sym k.is_one)) ∙ sym k.is
 
 pub one_numbers : (p : Problem) (setting : Pairs) → IsOneAnswer (ReducesNumbers p setting)
 one_numbers p setting r s h k =
     one_reduction (λ f. f) (λ f. Some f) (λ a b r. r ≡ sum_of a b) (λ change a r. r ≡ changed_frac change a) (λ position name entry given f. entry_of given name entry ≡ Some f) Plain p setting
     (one_forming (λ f. f) (λ f. Some f) (λ a b r. r ≡ sum_of a b) (λ change a r. r ≡ changed_frac change a) (λ position name entry given f. entry_of given name entry ≡ Some f)
     (λ a b r s. one_answer (sum_of a b) r s) (λ change a r s. one_answer (changed_frac change a) r s) one_number Plain p setting (length p.tree) (omega arith))
-    (λ table r s. one_program_with (λ f. f) (λ f. Some f) (λ a b r. r ≡ sum_of a b) (λ change a r. r ≡ changed_frac change a) (λ a b r s. one_answer (sum_of a b) r s) (λ change a r s. one_answer (changed_frac change a) r s)
+    (λ table r s. one_program_with (λ f. f) (λ f. Some f) (λ a b r. r ≡ sum_of a b) (λ change a r. r ≡ changed_frac change a) (λ a b r s. one_answer (sum_of a b) r s)
+    (λ change a r s. one_answer (changed_frac change a) r s)
     (table_forms table) p (graph_rows (λ f. f) table) (unknown_kinds Plain p) r s) r s h k
 
 pub one_affine : (p : Problem) (setting : Pairs) → IsOneAnswer (ReducesAffine p setting)

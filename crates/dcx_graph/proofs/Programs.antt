@@ -25,7 +25,8 @@ use Rattle.dcx_convex.specs.Rules.{Rules}
 use Rattle.dcx_unknowns.specs.Layout.{unknown_kinds}
 use Rattle.dcx_graph.specs.declared.constraint.ConstraintEntry.{ConstraintEntry}
 use Rattle.dcx_graph.specs.declared.origin.Origin.{Origin}
-use Rattle.dcx_graph.specs.Program.{Program, minus_one, constraint_entries, origins_of, graph_row, AtRow, OfKind, form_at, Least, EntryRow, RowOf, EntryRows, Objective, IsProgramWith, IsRowStopWith, GivesProgramWith, GivesProgram}
+use Rattle.dcx_graph.specs.Program.{Program, minus_one, constraint_entries, origins_of, graph_row, AtRow, OfKind, form_at, Least, EntryRow}
+use Rattle.dcx_graph.specs.Program.{RowOf, EntryRows, Objective, IsProgramWith, IsRowStopWith, GivesProgramWith, GivesProgram}
 use Rattle.dcx_graph.proofs.Entries.{all_at, HasBoth, entries_have}
 
 -- each answer of forming carries over
@@ -42,13 +43,15 @@ module _ {C : Type 0} (of_number : Frac → C) (number_of : C → Option Frac) (
     same_form : (a e : ℕ) → Agree a → form_at of_number forms a e ≡ form_at of_number others a e
     same_form a e h = ap (λ (fs : List (Form C)). slice_index_or fs e (zero_form of_number)) h
 
-    row_carried : (x : ConstraintEntry) → HasBoth Agree x → (n : ℕ) (r : Result (Row C) (ℕ × Passes)) → AtRow n (EntryRow of_number number_of Sums Changes forms x) r → AtRow n (EntryRow of_number number_of Sums Changes others x) r
+    row_carried : (x : ConstraintEntry) → HasBoth Agree x → (n : ℕ) (r : Result (Row C) (ℕ × Passes)) → AtRow n (EntryRow of_number number_of Sums Changes forms x) r
+        → AtRow n (EntryRow of_number number_of Sums Changes others x) r
     row_carried x both n r h =
         subst (λ f. AtRow n (OfKind x.kind (adds_part number_of Sums Changes (form_at of_number others x.left.0 x.entry) (Scale minus_one) f)) r) (same_form x.right.0 x.entry both.right)
         (subst (λ f. AtRow n (OfKind x.kind (adds_part number_of Sums Changes f (Scale minus_one) (form_at of_number forms x.right.0 x.entry))) r) (same_form x.left.0 x.entry both.left) h)
 
     module _ (agree : All Agree (roots_of p.objective p.constraints)) where
-      rows_carried : (r : Result (List (Row C)) (ℕ × Passes)) → EntryRows of_number number_of Sums Changes forms (constraint_entries p) r → EntryRows of_number number_of Sums Changes others (constraint_entries p) r
+      rows_carried : (r : Result (List (Row C)) (ℕ × Passes)) → EntryRows of_number number_of Sums Changes forms (constraint_entries p) r
+          → EntryRows of_number number_of Sums Changes others (constraint_entries p) r
       rows_carried r h =
           let both = entries_have Agree 0 p.constraints (All-tail Agree p.objective.0 (sides_in p.constraints) agree) in
           each_carried (RowOf of_number number_of Sums Changes forms (constraint_entries p)) (RowOf of_number number_of Sums Changes others (constraint_entries p))
@@ -61,7 +64,8 @@ module _ {C : Type 0} (of_number : Frac → C) (number_of : C → Option Frac) (
       objective_row_carried n s h = (h.0, objective_carried (Err s.1) h.1)
 
       -- where they agree on the objective and on the sides of constraints, they give the same
-      pub program_carried : (graph : List (FormedRow C)) (kinds : List UnknownKind) (r : Result (Program C) (ℕ × Passes)) → GivesProgramWith of_number number_of Sums Changes p forms graph kinds r → GivesProgramWith of_number number_of Sums Changes p others graph kinds r
+      pub program_carried : (graph : List (FormedRow C)) (kinds : List UnknownKind) (r : Result (Program C) (ℕ × Passes)) → GivesProgramWith of_number number_of Sums Changes p forms graph kinds r
+          → GivesProgramWith of_number number_of Sums Changes p others graph kinds r
       program_carried graph kinds (Ok q) h = record {
         constraints = h.constraints;
         constraints_are = rows_carried (Ok h.constraints) h.constraints_are;
@@ -84,9 +88,14 @@ module _ {C : Type 0} (of_number : Frac → C) (number_of : C → Option Frac) (
 
     module _ (rows : List (Row C)) (formed : EntryRows of_number number_of Sums Changes forms xs (Ok rows)) where
       -- or the objective
-      pub objective_stops : (n : ℕ) (s : ℕ × Passes) → n ≡ length xs + length graph → AtRow n (Objective of_number number_of Sums Changes p forms) (Err s) → IsRowStopWith of_number number_of Sums Changes p forms graph s
+      pub objective_stops : (n : ℕ) (s : ℕ × Passes) → n ≡ length xs + length graph → AtRow n (Objective of_number number_of Sums Changes p forms) (Err s)
+          → IsRowStopWith of_number number_of Sums Changes p forms graph s
       objective_stops n s is h =
-          inr ((rows, own_rows (Ok rows) formed), subst (λ ys. AtRow (length ys + length graph) (Objective of_number number_of Sums Changes p forms) (Err s)) all (subst (λ m. AtRow m (Objective of_number number_of Sums Changes p forms) (Err s)) is h))
+          inr (
+            (rows, own_rows (Ok rows) formed),
+            subst (λ ys. AtRow (length ys + length graph) (Objective of_number number_of Sums Changes p forms) (Err s)) all
+                (subst (λ m. AtRow m (Objective of_number number_of Sums Changes p forms) (Err s)) is h),
+          )
 
       -- or nothing does
       pub asked_is : (kinds : List UnknownKind) (f : Form C) (origins : List Origin) → Objective of_number number_of Sums Changes p forms (Ok f) → origins ≡ origins_of xs graph →
@@ -102,12 +111,15 @@ module _ {C : Type 0} (of_number : Frac → C) (number_of : C → Option Frac) (
 
   -- ---- what is kept of the nodes
   module _ (Reads : ℕ → List ℕ → ℕ → Pairs → C → Type 0) (rules : Rules) (setting : Pairs) (formed : Formed C) (kept : IsKept of_number number_of Sums Changes Reads rules p setting formed)
-      (standing : List (Standing C)) (graph : List (FormedRow C)) (kinds : List UnknownKind) (stand : standing ≡ formed.standing) (rows : graph ≡ formed.rows) (known : kinds ≡ unknown_kinds rules p) where
+      (standing : List (Standing C)) (graph : List (FormedRow C)) (kinds : List UnknownKind) (stand : standing ≡ formed.standing) (rows : graph ≡ formed.rows)
+      (known : kinds ≡ unknown_kinds rules p) where
     kept_agree : All (Agree (all_forms of_number standing) (table_forms kept.table)) (roots_of p.objective p.constraints)
     kept_agree = subst (λ ss. All (Agree (all_forms of_number ss) (table_forms kept.table)) (roots_of p.objective p.constraints)) (sym stand) kept.roots
 
     -- its program is that of the nodes by the rules
-    pub kept_program : (r : Result (Program C) (ℕ × Passes)) → GivesProgramWith of_number number_of Sums Changes p (all_forms of_number standing) graph kinds r → GivesProgram of_number number_of Sums Changes rules p kept.table r
+    pub kept_program : (r : Result (Program C) (ℕ × Passes)) → GivesProgramWith of_number number_of Sums Changes p (all_forms of_number standing) graph kinds r
+        → GivesProgram of_number number_of Sums Changes rules p kept.table r
     kept_program r h =
         subst (λ ks. GivesProgramWith of_number number_of Sums Changes p (table_forms kept.table) (graph_rows of_number kept.table) ks r) known
-        (subst (λ rs. GivesProgramWith of_number number_of Sums Changes p (table_forms kept.table) rs kinds r) (rows ∙ kept.rows) (program_carried (all_forms of_number standing) (table_forms kept.table) kept_agree graph kinds r h))
+        (subst (λ rs. GivesProgramWith of_number number_of Sums Changes p (table_forms kept.table) rs kinds r) (rows ∙ kept.rows)
+        (program_carried (all_forms of_number standing) (table_forms kept.table) kept_agree graph kinds r h))

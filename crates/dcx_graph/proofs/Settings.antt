@@ -29,7 +29,8 @@ module _ (setting : Pairs) where
   rows_at-length n [] us e = let d : us ≡ [] = cc in ap length d
   rows_at-length n (r ∷ rs) us e = by (form_on_row setting n r.form) (rows_at setting (suc n) rs) (rows_at-length (suc n) rs) e
     where
-      by : (first : Result (Form Frac) (ℕ × Passes)) (rest : Result (List (Row Frac)) (ℕ × Passes)) → ((vs : List (Row Frac)) → rest ≡ Ok vs → length vs ≡ length rs) → Behind n r rs first rest ≡ Ok us → length us ≡ length (r ∷ rs)
+      by : (first : Result (Form Frac) (ℕ × Passes)) (rest : Result (List (Row Frac)) (ℕ × Passes)) → ((vs : List (Row Frac)) → rest ≡ Ok vs → length vs ≡ length rs)
+          → Behind n r rs first rest ≡ Ok us → length us ≡ length (r ∷ rs)
       by (Ok f) (Ok vs) q d = let d' : us ≡ with_form r f ∷ vs = cc in ap length d' ∙ ap suc (q vs refl)
       by (Ok f) (Err stop) q d = cc
       by (Err stop) rest q d = cc
@@ -39,7 +40,8 @@ module _ (setting : Pairs) where
   rows_at-stop n [] s e = cc
   rows_at-stop n (r ∷ rs) s e = by (form_on_row setting n r.form) (rows_at setting (suc n) rs) (on_row-stop n (form_at setting r.form)) (rows_at-stop (suc n) rs) e
     where
-      by : (first : Result (Form Frac) (ℕ × Passes)) (rest : Result (List (Row Frac)) (ℕ × Passes)) → ((t : ℕ × Passes) → first ≡ Err t → t.0 ≡ n) → ((t : ℕ × Passes) → rest ≡ Err t → t.0 < suc n + length rs)
+      by : (first : Result (Form Frac) (ℕ × Passes)) (rest : Result (List (Row Frac)) (ℕ × Passes)) → ((t : ℕ × Passes) → first ≡ Err t → t.0 ≡ n)
+          → ((t : ℕ × Passes) → rest ≡ Err t → t.0 < suc n + length rs)
           → Behind n r rs first rest ≡ Err s → s.0 < n + length (r ∷ rs)
       by (Ok f) (Ok vs) p q d = cc
       by (Ok f) (Err stop) p q d = let d' : stop ≡ s = cc in let b = q stop refl in let k : stop.0 ≡ s.0 = ap (λ t. t.0) d' in omega (arith, b, k)
@@ -51,11 +53,13 @@ module _ (setting : Pairs) where
   program-stop q s (inr h) = let b = on_row-stop (length q.0) (form_at setting q.1) s h.1 in omega (arith, b)
 
   -- what passes is told with its row
-  pub told-stop : (q : ProgramOf ParamForm) (stop : MapStop) (row : ℕ) (passes : Passes) → stop ≡ stops.Passes row passes → OnRow stop (λ s. program_gives setting q (Err s)) → program_gives setting q (Err (row, passes))
+  pub told-stop : (q : ProgramOf ParamForm) (stop : MapStop) (row : ℕ) (passes : Passes) → stop ≡ stops.Passes row passes → OnRow stop (λ s. program_gives setting q (Err s))
+      → program_gives setting q (Err (row, passes))
   told-stop q stop row passes e h = subst (λ t. OnRow t (λ s. program_gives setting q (Err s))) e h
 
   -- the same of a program with the same parts
-  pub same_parts : (rows others : List (Row ParamForm)) (f g : Form ParamForm) (kinds more : List UnknownKind) → rows ≡ others → f ≡ g → kinds ≡ more → (r : Result (ProgramOf Frac) (ℕ × Passes)) → program_gives setting (rows, f, kinds) r → program_gives setting (others, g, more) r
+  pub same_parts : (rows others : List (Row ParamForm)) (f g : Form ParamForm) (kinds more : List UnknownKind) → rows ≡ others → f ≡ g → kinds ≡ more → (r : Result (ProgramOf Frac) (ℕ × Passes))
+      → program_gives setting (rows, f, kinds) r → program_gives setting (others, g, more) r
   same_parts rows others f g kinds more a b d r h =
       subst (λ ks. program_gives setting (others, g, ks) r) d (subst (λ x. program_gives setting (others, x, kinds) r) b (subst (λ rs. program_gives setting (rs, f, kinds) r) a h))
 

@@ -23,18 +23,21 @@ pub minus_one_is : (x : Frac) → value x ≡ whole (negsuc 0) → x ≡ minus_o
 minus_one_is x e = sym (frac_at-value x) ∙ ap frac_at e
 
 -- 0 stands where there is no node
-pub no_node : {C : Type 0} (of_number : Frac → C) (standing : List (Standing C)) (a e : ℕ) (z : Frac) → value z ≡ whole (pos 0) → length standing ≤ a → is_constant (of_number z) ≡ form_at of_number (all_forms of_number standing) a e
+pub no_node : {C : Type 0} (of_number : Frac → C) (standing : List (Standing C)) (a e : ℕ) (z : Frac) → value z ≡ whole (pos 0) → length standing ≤ a
+    → is_constant (of_number z) ≡ form_at of_number (all_forms of_number standing) a e
 no_node of_number standing a e z is past =
     ap (λ x. is_constant (of_number x)) (zero_frac-unique z is)
     ∙ ap (λ (fs : List (Form _)). slice_index_or fs e (zero_form of_number)) (sym (past_end (all_forms of_number standing) a [] (omega (arith, length-map standing (forms_of of_number), past))))
 
 module _ {C : Type 0} (number_of : C → Option Frac) (Sums : C → C → Result C Passes → Type 0) (Changes : Change → C → Result C Passes → Type 0) where
   -- a form is scaled by -1
-  pub scaled : (k : Frac) (f g : Form C) (r : Result (Form C) Passes) → value k ≡ whole (negsuc 0) → f ≡ g → change_gives_linear number_of Changes (Scale k) f r → change_gives_linear number_of Changes (Scale minus_one) g r
+  pub scaled : (k : Frac) (f g : Form C) (r : Result (Form C) Passes) → value k ≡ whole (negsuc 0) → f ≡ g → change_gives_linear number_of Changes (Scale k) f r
+      → change_gives_linear number_of Changes (Scale minus_one) g r
   scaled k f g r is same h =
       subst (λ x. change_gives_linear number_of Changes (Scale minus_one) x r) same (subst (λ x. change_gives_linear number_of Changes (Scale x) f r) (minus_one_is k is) h)
 
   -- and then added
-  pub then_added : (left right negated : Form C) (r : Result (Form C) Passes) → change_gives_linear number_of Changes (Scale minus_one) right (Ok negated) → sum_gives_linear number_of Sums left negated r → adds_part number_of Sums Changes left (Scale minus_one) right r
+  pub then_added : (left right negated : Form C) (r : Result (Form C) Passes) → change_gives_linear number_of Changes (Scale minus_one) right (Ok negated)
+      → sum_gives_linear number_of Sums left negated r → adds_part number_of Sums Changes left (Scale minus_one) right r
   then_added left right negated (Ok f) change sum = (negated, change, sum)
   then_added left right negated (Err passes) change sum = inr (negated, change, sum)

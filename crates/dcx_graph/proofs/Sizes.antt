@@ -51,7 +51,8 @@ OfNode P forms a = All P (slice_index_or forms a [])
 abbrev pub AreWithin : {C : Type 0} → List (List (Form C)) → ℕ → ℕ → Type 0
 AreWithin forms n a = OfNode (λ f. form_width f ≤ n) forms a
 
-module _ {C : Type 0} (of_number : Frac → C) (number_of : C → Option Frac) (Sums : C → C → Result C Passes → Type 0) (Changes : Change → C → Result C Passes → Type 0) (p : Problem) (forms : List (List (Form C))) (graph : List (FormedRow C)) where
+module _ {C : Type 0} (of_number : Frac → C) (number_of : C → Option Frac) (Sums : C → C → Result C Passes → Type 0) (Changes : Change → C → Result C Passes → Type 0) (p : Problem)
+    (forms : List (List (Form C))) (graph : List (FormedRow C)) where
   -- ---- as many origins as rows
   module _ (kinds : List UnknownKind) (q : Program C) (is : IsProgramWith of_number number_of Sums Changes p forms graph kinds q) where
     pub rows-length : length q.rows ≡ length (constraint_entries p) + length graph
@@ -60,7 +61,8 @@ module _ {C : Type 0} (of_number : Frac → C) (number_of : C → Option Frac) (
 
     origins-length : length q.origins ≡ length (constraint_entries p) + length graph
     origins-length =
-        ap length is.origins_are ∙ length-append (map entry_origin (constraint_entries p)) (map graph_origin graph) ∙ ap₂ ◌+◌ (length-map (constraint_entries p) entry_origin) (length-map graph graph_origin)
+        ap length is.origins_are ∙ length-append (map entry_origin (constraint_entries p)) (map graph_origin graph)
+        ∙ ap₂ ◌+◌ (length-map (constraint_entries p) entry_origin) (length-map graph graph_origin)
 
     pub program_origins : sum_by constraint_rows p.constraints + length graph < 2 ^ 32 → HasOrigins q.rows q.origins
     program_origins few =
@@ -101,7 +103,8 @@ module _ {C : Type 0} (of_number : Frac → C) (number_of : C → Option Frac) (
       least_has Maximize f g h b = changes (Scale minus_one) f g h b
 
       pub program_objective_has : P q.objective
-      program_objective_has = least_has p.sense (form_at of_number forms p.objective.0 0) q.objective is.objective_is (form_has p.objective.0 0 (All-head (OfNode P forms) p.objective.0 (sides_in p.constraints) roots))
+      program_objective_has =
+          least_has p.sense (form_at of_number forms p.objective.0 0) q.objective is.objective_is (form_has p.objective.0 0 (All-head (OfNode P forms) p.objective.0 (sides_in p.constraints) roots))
 
     -- ---- no wider than the forms of the nodes
     module _ (n : ℕ) (roots : All (AreWithin forms n) (roots_of p.objective p.constraints)) where

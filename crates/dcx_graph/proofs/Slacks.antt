@@ -49,7 +49,8 @@ module _ (forms : Unknowns → ℕ → Numbers) where
   gaps_have P i (d ∷ cs) h zero c e j b =
       subst (λ (y : Constraint). j < constraint_rows y → P (i + (first_row (d ∷ cs) 0 + j)) (gap_row forms (convex_constraint y) j)) (same_Some d c e)
       (λ l. subst (λ n. P (i + n) (gap_row forms (convex_constraint d) j)) (omega arith)
-      (all_below P i (constraint_rows d) (gap_row forms (convex_constraint d)) (all_left P i (list_below (constraint_rows d) (gap_row forms (convex_constraint d))) (gap_rows forms (map convex_constraint cs)) h) j l)) b
+      (all_below P i (constraint_rows d) (gap_row forms (convex_constraint d))
+      (all_left P i (list_below (constraint_rows d) (gap_row forms (convex_constraint d))) (gap_rows forms (map convex_constraint cs)) h) j l)) b
   gaps_have P i (d ∷ cs) h (suc k) c e j b =
       subst (λ n. P n (gap_row forms (convex_constraint c) j)) (omega (arith, sum_by-cons constraint_rows d (take k cs)))
       (gaps_have P (i + constraint_rows d) cs
@@ -58,7 +59,8 @@ module _ (forms : Unknowns → ℕ → Numbers) where
 
 -- ---- multipliers
 -- the multiplier of an entry is that of its row
-pub multiplier_is : (i : ℕ) (cs : List Constraint) (m : ℕ → ℚ) (k : ℕ) (c : Constraint) → slice_get cs k ≡ Some c → (j : ℕ) → multipliers_from i (map convex_constraint cs) m k j ≡ m (i + (first_row cs k + j))
+pub multiplier_is : (i : ℕ) (cs : List Constraint) (m : ℕ → ℚ) (k : ℕ) (c : Constraint) → slice_get cs k ≡ Some c → (j : ℕ)
+    → multipliers_from i (map convex_constraint cs) m k j ≡ m (i + (first_row cs k + j))
 multiplier_is i [] m k c e j = absurd (none-some c e)
 multiplier_is i (d ∷ cs) m zero c e j = ap m (omega arith)
 multiplier_is i (d ∷ cs) m (suc k) c e j = multiplier_is (i + constraint_rows d) cs m k c e j ∙ ap m (omega (arith, sum_by-cons constraint_rows d (take k cs)))
@@ -87,7 +89,8 @@ module _ (rows : GivenRows) (q : Program) (known : HasKinds rows) (made : IsMade
       omega (arith, count, all)
 
   -- the row of an entry
-  row_there : (k : ℕ) (c : Constraint) → slice_get cs k ≡ Some c → (j : ℕ) → j < constraint_rows c → slice_get (linear_program rows).rows (first_row cs k + j) ≡ Some (gap_row forms (convex_constraint c) j)
+  row_there : (k : ℕ) (c : Constraint) → slice_get cs k ≡ Some c → (j : ℕ) → j < constraint_rows c
+      → slice_get (linear_program rows).rows (first_row cs k + j) ≡ Some (gap_row forms (convex_constraint c) j)
   row_there k c at j b =
       subst (λ n. slice_get (linear_program rows).rows n ≡ Some (gap_row forms (convex_constraint c) j)) (omega arith)
       (gaps_have forms (λ n r. slice_get (linear_program rows).rows n ≡ Some r) 0 cs
@@ -103,8 +106,9 @@ module _ (rows : GivenRows) (q : Program) (known : HasKinds rows) (made : IsMade
       by row.kind (first_row cs k + j) (λ e. inequality_there rows q known scaled (first_row cs k + j) facts e)
       (λ e h. let (n, slack) = slack_among q.columns (first_row cs k + j) h in no_slack rows q known scaled (first_row cs k + j) facts e n slack) c.kind (ap (λ r. r.kind) same)
     where
-      by : (kind : _) (i : ℕ) → (kind ≡ kind_of (relation_of relations.AtMost) → is_inequality q.columns i ≡ true) → (kind ≡ kind_of (relation_of relations.Equal) → is_inequality q.columns i ≡ true → ⊥) →
-          (relation : Kind) → kind ≡ kind_of (relation_of relation) → is_inequality q.columns i ≡ is_at_most (row_kind relation)
+      by : (kind : _) (i : ℕ) → (kind ≡ kind_of (relation_of relations.AtMost) → is_inequality q.columns i ≡ true)
+          → (kind ≡ kind_of (relation_of relations.Equal) → is_inequality q.columns i ≡ true → ⊥)
+          → (relation : Kind) → kind ≡ kind_of (relation_of relation) → is_inequality q.columns i ≡ is_at_most (row_kind relation)
       by kind i inequality equality relations.AtMost e = inequality e
       by kind i inequality equality relations.Equal e = none (is_inequality q.columns i) refl
         where

@@ -59,6 +59,7 @@ module _ {C : Type 0} (of_number : Frac → C) (number_of : C → Option Frac) (
       row_answers e (inl (s, is, stop)) = subst (λ d. Answers (Err d)) (sym is) (record { nodes = record { few = few; table = table; formed = formed }; stop = stop })
       row_answers e (inr is) = subst (λ d. Answers (Err d)) (sym is) tt
 
-      pub program_answers : (r : Result (Reduction C) ReduceStop) → TellsBy (λ row passes. sites.Row row passes) r (λ q. q.program) (GivesProgram of_number number_of Sums Changes rules p table) → Answers r
+      pub program_answers : (r : Result (Reduction C) ReduceStop) → TellsBy (λ row passes. sites.Row row passes) r (λ q. q.program) (GivesProgram of_number number_of Sums Changes rules p table)
+          → Answers r
       program_answers (Ok q) h = record { nodes = record { few = few; table = table; formed = formed }; program = h }
       program_answers (Err e) h = row_answers e h

@@ -23,6 +23,7 @@ module _ (site : ℕ → Passes → Site) where
   TellsBy-weaker (Err e) v w P Q f g h = IsWideAt-weaker e (λ s. P (Err s)) (λ s. Q (Err s)) g h
 
 -- what stops the forming of a row, stops it there
-pub stops_row : {A : Type 0} (n : ℕ) (F : Result A Passes → Type 0) (stop : CoefStop) (e : ReduceStop) → e ≡ stop_at_row n stop → OnPass stop (λ passes. F (Err passes)) → IsWideAt (λ row passes. sites.Row row passes) (λ s. AtRow n F (Err s)) e
+pub stops_row : {A : Type 0} (n : ℕ) (F : Result A Passes → Type 0) (stop : CoefStop) (e : ReduceStop) → e ≡ stop_at_row n stop → OnPass stop (λ passes. F (Err passes))
+    → IsWideAt (λ row passes. sites.Row row passes) (λ s. AtRow n F (Err s)) e
 stops_row n F (coefs.Passes passes) e is h = inl ((n, passes), is, (refl, h))
 stops_row n F coefs.Memory e is h = inr is

@@ -1,4 +1,4 @@
--- What the contracts of this crate cite.
+-- What contracts cite: the program of a problem, reduced programs, and answers of the rows as answers of the problem.
 pub mod Program
 pub mod Reduced
 pub mod Stops

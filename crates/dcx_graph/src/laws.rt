@@ -22,13 +22,18 @@ use dcx_linear::Coef;
 
 /// A problem whose nodes are formed has one program, or one operation that passes first, at one row.
 pub fn one_program<C: Coef>()
-    ensures { (rules : Rules) (p : Problem) (table : Table C) (r s : Result (Program C) (ℕ × Passes)) → GivesProgram C.of_number C.number_of C.sum_gives C.change_gives rules p table r → GivesProgram C.of_number C.number_of C.sum_gives C.change_gives rules p table s → r ≡ s }
+    ensures { (rules : Rules) (p : Problem) (table : Table C) (r s : Result (Program C) (ℕ × Passes)) → GivesProgram C.of_number C.number_of C.sum_gives C.change_gives rules p table r
+        → GivesProgram C.of_number C.number_of C.sum_gives C.change_gives rules p table s → r ≡ s }
 {}
 
 /// Formed nodes have as many rows as the layout of the program counts, and so has the program.
 pub fn rows_are_counted<C: Coef>()
-    ensures graph { (rules : Rules) (p : Problem) (setting : Pairs) (table : Table C) → AreFormed C.of_number C.number_of C.sum_gives C.change_gives C.parameter_gives rules p setting (length p.tree) table → length (graph_rows C.of_number table) ≡ rows_counted p.tree (is_reduced rules p) (length p.tree) }
-    ensures program { (rules : Rules) (p : Problem) (setting : Pairs) (table : Table C) (q : Program C) → AreFormed C.of_number C.number_of C.sum_gives C.change_gives C.parameter_gives rules p setting (length p.tree) table → IsProgram C.of_number C.number_of C.sum_gives C.change_gives rules p table q → length q.rows ≡ row_count rules p }
+    ensures graph { (rules : Rules) (p : Problem) (setting : Pairs) (table : Table C)
+        → AreFormed C.of_number C.number_of C.sum_gives C.change_gives C.parameter_gives rules p setting (length p.tree) table
+        → length (graph_rows C.of_number table) ≡ rows_counted p.tree (is_reduced rules p) (length p.tree) }
+    ensures program { (rules : Rules) (p : Problem) (setting : Pairs) (table : Table C) (q : Program C)
+        → AreFormed C.of_number C.number_of C.sum_gives C.change_gives C.parameter_gives rules p setting (length p.tree) table
+        → IsProgram C.of_number C.number_of C.sum_gives C.change_gives rules p table q → length q.rows ≡ row_count rules p }
 {}
 
 /// A program with affine coefficients has one program at a setting, or one operation that passes first, at one row.

@@ -43,7 +43,9 @@ fn what_is_asked<C: Coef>(
     graph: &[FormedRow<C>],
 ) -> Result<Asked<C>, ReduceStop>
     requires { sum_by constraint_rows problem.now.constraints + length graph.now < 2 ^ 32 }
-    ensures { (kinds : List UnknownKind) → TellsBy Site.Row result (λ a. record { rows = a.rows.items ++ map graph_row graph.now; objective = a.objective; kinds = kinds; origins = a.origins.items }) (GivesProgramWith C.of_number C.number_of C.sum_gives C.change_gives problem.now (all_forms C.of_number standing.now) graph.now kinds) }
+    ensures { (kinds : List UnknownKind)
+        → TellsBy Site.Row result (λ a. record { rows = a.rows.items ++ map graph_row graph.now; objective = a.objective; kinds = kinds; origins = a.origins.items })
+        (GivesProgramWith C.of_number C.number_of C.sum_gives C.change_gives problem.now (all_forms C.of_number standing.now) graph.now kinds) }
 {
     let entries = constraint_entries(alloc, problem.constraints.as_slice())?;
     let origins = row_origins(alloc, &entries, graph)?;
@@ -74,7 +76,8 @@ fn finished<C: Coef>(
     requires origins { HasOrigins (asked.rows.items ++ map graph_row graph.items) asked.origins.items }
     requires rows { rows_width (asked.rows.items ++ map graph_row graph.items) ≤ length kinds }
     requires objective { form_width asked.objective ≤ length kinds }
-    ensures program { TellsBy Site.Row result (λ q. q.program) (λ r. r ≡ Ok (record { rows = asked.rows.items ++ map graph_row graph.items; objective = asked.objective; kinds = kinds; origins = asked.origins.items })) }
+    ensures program { TellsBy Site.Row result (λ q. q.program) (λ r. r ≡ Ok
+        (record { rows = asked.rows.items ++ map graph_row graph.items; objective = asked.objective; kinds = kinds; origins = asked.origins.items })) }
     ensures from_map { IfOk result (λ q. q.from_map ≡ false) }
 {
     let Asked {
@@ -112,7 +115,8 @@ pub(crate) fn program<C: Coef>(
     requires few { sum_by constraint_rows problem.now.constraints + length formed.rows < 2 ^ 32 }
     requires roots { All (λ a. All (λ f. form_width f ≤ length kinds) (slice_index_or (all_forms C.of_number formed.standing) a [])) (roots_of problem.now.objective problem.now.constraints) }
     requires rows { All (λ r. form_width r.form ≤ length kinds) formed.rows }
-    ensures program { (rules : Rules) (setting : Pairs) (kept : IsKept C.of_number C.number_of C.sum_gives C.change_gives C.parameter_gives rules problem.now setting formed) → kinds ≡ unknown_kinds rules problem.now → TellsBy Site.Row result (λ q. q.program) (GivesProgram C.of_number C.number_of C.sum_gives C.change_gives rules problem.now kept.table) }
+    ensures program { (rules : Rules) (setting : Pairs) (kept : IsKept C.of_number C.number_of C.sum_gives C.change_gives C.parameter_gives rules problem.now setting formed)
+        → kinds ≡ unknown_kinds rules problem.now → TellsBy Site.Row result (λ q. q.program) (GivesProgram C.of_number C.number_of C.sum_gives C.change_gives rules problem.now kept.table) }
     ensures from_map { IfOk result (λ q. q.from_map ≡ false) }
 {
     let Formed { standing, rows } = formed;

@@ -65,7 +65,8 @@ pub(crate) fn difference<C: Coef>(
     right: NodeId,
     entry: u32,
 ) -> Result<Form<C>, CoefStop>
-    ensures { Gives result (adds_part C.number_of C.sum_gives C.change_gives (form_at C.of_number (all_forms C.of_number standing.now) left.0 entry) (Scale minus_one) (form_at C.of_number (all_forms C.of_number standing.now) right.0 entry)) }
+    ensures { Gives result (adds_part C.number_of C.sum_gives C.change_gives (form_at C.of_number (all_forms C.of_number standing.now) left.0 entry) (Scale minus_one)
+        (form_at C.of_number (all_forms C.of_number standing.now) right.0 entry)) }
 {
     let subtracted = node_entry(standing, right, entry);
     let negated = changed_entry(alloc, &subtracted, Change::Scale(minus_one()))?;

@@ -4,6 +4,7 @@
 //! |---|---|
 //! | a fetch gives the bytes that the name has, and no more than were asked for; each fault has its cause | `Library` |
 //! | a write appends a front of the piece and says how much, or nothing | `Sink` |
+//! | a text is written whole, or a front of it; each write is handed all that is left | `write_all`, by what a sink may tell of the pieces that it was handed: `handed` of `Sink`, `specs/Pieces.antt` |
 //! | a fault of reading or writing is counted in the call that answers it | `Library`, `Sink`, `Rose` of `specs/Faults.antt` |
 //! | a library and a sink in memory tell what they hold | `told` and `written` of `MemoryLibrary`, `MemorySink`, `SteadyLibrary`, `SteadySink` |
 //! | `SteadyLibrary` and `SteadySink` never answer `Failed` | `failed` of `Library` and `Sink`, by their `faults`, which is 0 |
@@ -18,8 +19,10 @@ mod library;
 mod memory;
 mod real;
 mod sink;
+mod write;
 
 pub use library::{FetchFault, Library};
 pub use memory::{MemoryLibrary, MemorySink, SteadyLibrary, SteadySink};
 pub use real::{FileLibrary, OutSink};
 pub use sink::{Sink, SinkFault};
+pub use write::write_all;

@@ -1,8 +1,9 @@
 //! Where bytes are written.
-ghost use Rattle.std.specs.Prelude.{ℕ, ◌<◌, ◌≤◌, List, length, IfOk, IsErrOf};
+ghost use Rattle.std.specs.Prelude.{ℕ, ◌<◌, ◌≤◌, List, length, None, IfOk, IsErrOf};
 ghost use Rattle.std.specs.declared.option.Option.{Option};
 ghost use Rattle.std.specs.Io.KnownBytes.{WriteAppends};
 ghost use Rattle.dcx_host.specs.Faults.{Rose};
+ghost use Rattle.dcx_host.specs.Pieces.{WriteHands};
 
 use thiserror::Error;
 
@@ -28,6 +29,9 @@ pub trait Sink {
     /// How often a write has failed. The count stands still at the end of a `u64`.
     ghost faults: { Self → ℕ };
 
+    /// The pieces of which it took the front so far, one for each write, where the sink tells them.
+    ghost handed: { Self → Option (List (List ℕ)) } = { λ _. None };
+
     /// Appends the first `n` bytes of the piece and answers `n`, which is at least 1 unless the
     /// piece is empty.
     ///
@@ -38,5 +42,6 @@ pub trait Sink {
         ensures size { IfOk result (λ n. n ≤ length piece.now) }
         ensures some { 0 < length piece.now → IfOk result (λ n. 0 < n) }
         ensures written { WriteAppends (written self.old) (written self.new) result piece.now }
+        ensures handed { WriteHands (handed self.old) (handed self.new) result piece.now }
         ensures failed { IsErrOf result SinkFault.Failed → Rose (faults self.old) (faults self.new) };
 }

@@ -77,7 +77,8 @@ module _ (p : Problem) (s : Setting) (q : Program Frac) (limit : ℕ) where
       by (inr (inr l)) = absurd (last_apart n b a j i (λ m c. sym (same m c)) k h l)
 
   -- programs of sets that agree have one answer
-  one_answer : (a b : ConstraintSet) (x y : Solved) → ((k : ℕ) → k < length p.constraints → a k ≡ b k) → IsSolved limit (program_of_set p q a) x → IsSolved limit (program_of_set p q b) y → x.answer ≡ y.answer
+  one_answer : (a b : ConstraintSet) (x y : Solved) → ((k : ℕ) → k < length p.constraints → a k ≡ b k) → IsSolved limit (program_of_set p q a) x → IsSolved limit (program_of_set p q b) y
+      → x.answer ≡ y.answer
   one_answer a b x y same h k = (one.answers_are_one limit (program_of_set p q a) x y h (subst (λ rows. IsSolved limit rows y) (sym (program_same p q a b same)) k)).answer
 
   -- ---- a step that stops
@@ -107,7 +108,8 @@ module _ (p : Problem) (s : Setting) (q : Program Frac) (limit : ℕ) where
   same_inner : (i : ℕ) (stop also : Stop) → StopsInStep p s q limit i stop → StopsInStep p s q limit i also → stop ≡ also
   same_inner i stop also h k =
       let sets = stays_same i stop h k.set i (omega arith) k.stay in
-      h.told ∙ ap run_stop (one.stops_are_one limit (program_of_set p q (step_set h.set i)) h.inner k.inner h.stops (subst (λ set. Stops limit (program_of_set p q set) k.inner) (sym sets) k.stops) h.some k.some) ∙ sym k.told
+      h.told ∙ ap run_stop (one.stops_are_one limit (program_of_set p q (step_set h.set i)) h.inner k.inner h.stops
+      (subst (λ set. Stops limit (program_of_set p q set) k.inner) (sym sets) k.stops) h.some k.some) ∙ sym k.told
 
   same_step : (i j : ℕ) (stop also : Stop) → StopsInStep p s q limit i stop → StopsInStep p s q limit j also → (i ≡ j) × (stop ≡ also)
   same_step i j stop also h k = by (cases_order i j)
@@ -123,7 +125,8 @@ module _ (p : Problem) (s : Setting) (q : Program Frac) (limit : ℕ) where
       let sets = one_filter_set p s h.set k.set h.filter k.filter in
       let answers = one_answer h.set k.set h.solved k.solved sets h.is_solved k.is_solved in
       let cs = kept_same h.set k.set 0 p.constraints (λ m a b. sets m (omega (arith, b))) in
-      let first = sym h.first ∙ ap (λ (xs : List Constraint). passing_from 0 (all_multipliers status.Infeasible xs h.solved.answer.rows)) cs ∙ ap (λ (a : LpAnswer). passing_from 0 (all_multipliers status.Infeasible (kept_of k.set p.constraints) a.rows)) answers ∙ k.first in (
+      let first = sym h.first ∙ ap (λ (xs : List Constraint). passing_from 0 (all_multipliers status.Infeasible xs h.solved.answer.rows)) cs
+      ∙ ap (λ (a : LpAnswer). passing_from 0 (all_multipliers status.Infeasible (kept_of k.set p.constraints) a.rows)) answers ∙ k.first in (
         last_same (length p.constraints) h.set k.set i j sets h.last k.last,
         h.told ∙ ap (λ (x : ℕ × Passes). stops.Wide (sites.Answer x.0 x.1)) (same_Some (h.row, h.passes) (k.row, k.passes) first) ∙ sym k.told,
       )

@@ -60,7 +60,8 @@ past_duals (y ∷ ys) (suc k) j l = past_duals ys k j (omega (arith, l))
 
 module _ (p : Problem) (q : Program Frac) (limit : ℕ) where
   -- all steps have answers
-  answers_before : (set : ConstraintSet) (n : ℕ) → (answer : LpAnswer) × IsShownImpossible p q limit every_constraint answer → ((k : ℕ) → k < n → IsDecided p q limit set k) → (i : ℕ) → i ≤ n → HasAnswer p q limit set i
+  answers_before : (set : ConstraintSet) (n : ℕ) → (answer : LpAnswer) × IsShownImpossible p q limit every_constraint answer → ((k : ℕ) → k < n → IsDecided p q limit set k) → (i : ℕ) → i ≤ n
+      → HasAnswer p q limit set i
   answers_before set n (answer, (solved, step, e, same)) decided zero l = (solved, step.is_solved)
   answers_before set n first decided (suc k) l = let d = decided k (omega (arith, l)) in (d.solved, d.is_step.is_solved)
 
@@ -116,7 +117,8 @@ module _ (p : Problem) (q : Program Frac) (limit : ℕ) where
           feasible = record { domain = keeps.domain; holds = λ k c at j l. keeps.keeps k (ap (λ (set : ConstraintSet). set k) (flagged_all flags (length p.constraints) all)) c at j l };
         }
 
-    pub point_found : (flags : List Bool) (point : Pairs) → flags ≡ replicate (length p.constraints) true → IsTried p q limit (flagged flags) (tried.Possible point) → IsReadIn p q limit every_constraint 0 point
+    pub point_found : (flags : List Bool) (point : Pairs) → flags ≡ replicate (length p.constraints) true → IsTried p q limit (flagged flags) (tried.Possible point)
+        → IsReadIn p q limit every_constraint 0 point
     point_found flags point all (solved, step, (some, read)) = record {
       solved = solved;
       is_solved = subst (λ set. IsSolved limit (program_of_set p q set) solved) (flagged_all flags (length p.constraints) all) step.is_solved;
@@ -150,7 +152,8 @@ module _ (p : Problem) (q : Program Frac) (limit : ℕ) where
       each = λ i d b. (within i d b, all_among members i d b)
 
       points_read : AllZip (IsReadAt p q limit kept) members l.points.items
-      points_read = let n = left.flags in subst (λ flags. AllZip (IsReadAt p q limit kept) (numbers_from 0 flags) l.points.items) (take_all (length p.constraints) l.kept.items (omega (arith, n))) left.points
+      points_read = let n = left.flags in
+          subst (λ flags. AllZip (IsReadAt p q limit kept) (numbers_from 0 flags) l.points.items) (take_all (length p.constraints) l.kept.items (omega (arith, n))) left.points
 
       keeps_others : (k : ℕ) (point : Pairs) → k < length p.constraints → IsTrue (set_of members k) → IsReadAt p q limit kept k point → KeepsOthers p s members k point
       keeps_others k point b t r =
@@ -183,7 +186,8 @@ module _ (p : Problem) (q : Program Frac) (limit : ℕ) where
           shown = shows;
           shaped = made.2.shaped;
           outside = λ k t j. ⊎_elim (λ b. made.2.zeros k (λ u. t (agree k b ∙ u)) j) (λ b. let n = duals_count in past_duals duals k j (omega (arith, n, b))) (cases_lt k (length p.constraints));
-          others_kept = zip_weaker (λ k. (k < length p.constraints) × IsTrue (set_of members k)) (IsReadAt p q limit kept) (KeepsOthers p s members) (λ k point b r. keeps_others k point b.0 b.1 r) members l.points.items each points_read;
+          others_kept = zip_weaker (λ k. (k < length p.constraints) × IsTrue (set_of members k)) (IsReadAt p q limit kept) (KeepsOthers p s members)
+              (λ k point b r. keeps_others k point b.0 b.1 r) members l.points.items each points_read;
         }
 
         pub are_found : AreFound p q limit (set_of members) members duals l.answer.number l.points.items
@@ -208,7 +212,8 @@ module _ (p : Problem) (q : Program Frac) (limit : ℕ) where
                   (subst (λ (xs : List Constraint). AreDuals status.Infeasible xs solved.answer.rows made.0) cs
                   (subst (λ (t : LpStatus). AreDuals t (kept_of kept p.constraints) solved.answer.rows made.0) none
                   (subst (λ (a : LpAnswer). AreDuals a.status (kept_of kept p.constraints) a.rows made.0) same made.1)));
-              read = zip_weaker (λ k. k < length p.constraints) (IsReadAt p q limit kept) (IsReadAt p q limit (set_of members)) (λ k point b r. read_same p q limit kept (set_of members) k point (beside k (omega (arith, b))) r) members l.points.items within points_read;
+              read = zip_weaker (λ k. k < length p.constraints) (IsReadAt p q limit kept) (IsReadAt p q limit (set_of members))
+                  (λ k point b r. read_same p q limit kept (set_of members) k point (beside k (omega (arith, b))) r) members l.points.items within points_read;
             }
 
       -- the notes of the rows of what is left are there, and are few

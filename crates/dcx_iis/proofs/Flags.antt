@@ -1,12 +1,13 @@
 -- Sets that flags tell, and the numbers of the flags that are set.
-use Rattle.std.proofs.Common.{◌≡◌, ◌≢◌, ℕ, zero, suc, ◌+◌, ◌<◌, ◌≤◌, arith, Bool, true, false, if◌then◌else◌, IsTrue, List, [], ◌∷◌, ◌++◌, All, length, take, set, get_or, replicate, refl, sym, ap, ◌∙◌, subst, add-zero, append_assoc, append-nil, get_or-set_same, get_or-set_other}
+use Rattle.std.proofs.Common.{◌≡◌, ◌≢◌, ℕ, zero, suc, ◌+◌, ◌<◌, ◌≤◌, arith, Bool, true, false, if◌then◌else◌, IsTrue, List, [], ◌∷◌, ◌++◌, All, length, take, set}
+use Rattle.std.proofs.Common.{get_or, replicate, refl, sym, ap, ◌∙◌, subst, add-zero, append_assoc, append-nil, get_or-set_same, get_or-set_other}
 use Rattle.std.specs.Prelude.{◌||◌}
 use Rattle.std.specs.List.{AllZip}
 use Rattle.std.proofs.Math.Path.{fun_ext}
 use Rattle.std.proofs.lemmas.Bool.{eq-eqb, ne_eqb}
 use Rattle.std.proofs.lemmas.List.{get_or_default, set-set, set-get_or, take-set-le, length-set}
 use Rattle.std.proofs.lemmas.List.Elements.{All-nil, All-cons, All-head, All-tail}
-use Rattle.dcx_linear.specs.Terms.{IsRising}
+use Rattle.dcx_math.specs.Rising.{IsRising}
 use Rattle.dcx_iis.specs.Sets.{every_constraint, set_of, flagged, left_beside}
 use Rattle.dcx_iis.specs.Runs.{numbers_from}
 use Rattle.dcx_iis.proofs.Sets.{beside_is}
@@ -60,7 +61,8 @@ pub numbers_next : (flags : List Bool) (i : ℕ) → i < length flags → number
 numbers_next flags i l =
     ap (numbers_from 0) (take_next flags i l)
     ∙ numbers_push 0 (take i flags) (get_or flags i true)
-    ∙ ap (λ n. numbers_from 0 (take i flags) ++ (if get_or flags i true then n ∷ [] else [])) (let count = take_count flags i (omega (arith, l)) in let q : 0 + length (take i flags) ≡ i = omega (arith, count) in q)
+    ∙ ap (λ n. numbers_from 0 (take i flags) ++ (if get_or flags i true then n ∷ [] else []))
+    (let count = take_count flags i (omega (arith, l)) in let q : 0 + length (take i flags) ≡ i = omega (arith, count) in q)
 
 pub numbers_stay : (flags : List Bool) (i : ℕ) → i < length flags → IsTrue (flagged flags i) → numbers_from 0 (take (suc i) flags) ≡ numbers_from 0 (take i flags) ++ i ∷ []
 numbers_stay flags i l t = numbers_next flags i l ∙ ap (λ (b : Bool). numbers_from 0 (take i flags) ++ (if b then i ∷ [] else [])) t

@@ -19,17 +19,20 @@ use Rattle.dcx_iis.specs.Steps.{rows_from, program_of_set}
 use Rattle.dcx_iis.proofs.Kept.{rows_within}
 
 -- rows that are those of a set, with nothing that is to be small, are its program
-pub set_program : (p : Problem) (q : Program Frac) (set : ConstraintSet) (kinds : List UnknownKind) (rows : List (Row Frac)) (zero : Frac) → kinds ≡ q.kinds → rows ≡ rows_from set 0 p.constraints q.rows → value zero ≡ whole (pos 0) →
-    given kinds rows (is_constant zero) ≡ program_of_set p q set
+pub set_program : (p : Problem) (q : Program Frac) (set : ConstraintSet) (kinds : List UnknownKind) (rows : List (Row Frac)) (zero : Frac) → kinds ≡ q.kinds
+    → rows ≡ rows_from set 0 p.constraints q.rows → value zero ≡ whole (pos 0)
+    → given kinds rows (is_constant zero) ≡ program_of_set p q set
 set_program p q set kinds rows zero e f z = let g = zero_frac-unique zero z in λ i. given (e i) (f i) (is_constant (g i))
 
 -- rows and an objective that name known unknowns alone
-pub known_given : (kinds : List UnknownKind) (rows : List (Row Frac)) (objective : Form Frac) (g : GivenRows) → rows_width rows ≤ length kinds → form_width objective ≤ length kinds → given kinds rows objective ≡ g → HasKinds g
+pub known_given : (kinds : List UnknownKind) (rows : List (Row Frac)) (objective : Form Frac) (g : GivenRows) → rows_width rows ≤ length kinds → form_width objective ≤ length kinds
+    → given kinds rows objective ≡ g → HasKinds g
 known_given kinds rows objective g h k e = subst HasKinds e (record { rows_known = h; objective_known = k })
 
 -- ---- widths
 -- the rows of a set name known unknowns alone, and so does a number
-pub rows_known : (set : ConstraintSet) (cs : List Constraint) (own rows : List (Row Frac)) (from kinds : List UnknownKind) → rows ≡ rows_from set 0 cs own → kinds ≡ from → rows_width own ≤ length from → rows_width rows ≤ length kinds
+pub rows_known : (set : ConstraintSet) (cs : List Constraint) (own rows : List (Row Frac)) (from kinds : List UnknownKind) → rows ≡ rows_from set 0 cs own → kinds ≡ from
+    → rows_width own ≤ length from → rows_width rows ≤ length kinds
 rows_known set cs own rows from kinds made same h =
     subst (λ rs. rows_width rs ≤ length kinds) (sym made) (subst (λ ks. rows_width (rows_from set 0 cs own) ≤ length ks) (sym same) (rows_within (length from) set 0 cs own h))
 

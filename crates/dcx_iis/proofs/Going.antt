@@ -1,5 +1,6 @@
 -- What is left when one more constraint is tried.
-use Rattle.std.proofs.Common.{◌≡◌, Some, ℕ, suc, ◌+◌, ◌<◌, ◌≤◌, arith, Bool, true, false, IsTrue, List, [], ◌∷◌, ◌++◌, length, take, set, replicate, inl, inr, refl, sym, ap, ◌∙◌, subst, ⊎_elim, get_or-set_other, length-take-le}
+use Rattle.std.proofs.Common.{◌≡◌, Some, ℕ, suc, ◌+◌, ◌<◌, ◌≤◌, arith, Bool, true, false, IsTrue, List, [], ◌∷◌, ◌++◌, length, take, set}
+use Rattle.std.proofs.Common.{replicate, inl, inr, refl, sym, ap, ◌∙◌, subst, ⊎_elim, get_or-set_other, length-take-le}
 use Rattle.std.specs.List.{AllZip}
 use Rattle.std.proofs.lemmas.Bool.{cases_lt, false≢true}
 use Rattle.std.proofs.lemmas.List.{length-set, length-replicate}
@@ -134,7 +135,8 @@ module _ (p : Problem) (q : Program Frac) (limit : ℕ) where
         let own : IsDecided p q limit (flagged l.kept.items) i = record { solved = solved; is_step = here; stays = (λ t. found, λ n. stays) } in
         let own_read : IsReadAt p q limit (flagged l.kept.items) i point = record { solved = solved; is_solved = here.is_solved; read = read } in
         let more : AllZip (IsReadAt p q limit (flagged l.kept.items)) (numbers_from 0 (take (i + 1) l.kept.items)) (l.points.items ++ point ∷ []) =
-        subst (λ xs. AllZip (IsReadAt p q limit (flagged l.kept.items)) xs (l.points.items ++ point ∷ [])) (sym (numbers_stay l.kept.items i within stays) ∙ ap (λ n. numbers_from 0 (take n l.kept.items)) (let e : suc i ≡ i + 1 = omega arith in e))
+        subst (λ xs. AllZip (IsReadAt p q limit (flagged l.kept.items)) xs (l.points.items ++ point ∷ []))
+        (sym (numbers_stay l.kept.items i within stays) ∙ ap (λ n. numbers_from 0 (take n l.kept.items)) (let e : suc i ≡ i + 1 = omega arith in e))
         (zip_push (IsReadAt p q limit (flagged l.kept.items)) (numbers_from 0 (take i l.kept.items)) l.points.items i point is.points own_read) in
         let old = is.last in
         record {
@@ -169,7 +171,8 @@ module _ (p : Problem) (q : Program Frac) (limit : ℕ) where
         let here : IsStep p q limit (left_beside (flagged flags) i) solved = subst (λ set. IsStep p q limit set solved) (cleared ∙ beside_after i (omega arith)) step in
         let own : IsDecided p q limit (flagged flags) i = record { solved = solved; is_step = here; stays = (λ t. absurd (false≢true (sym gone ∙ t)), λ n. absurd (n none)) } in
         let rest : AllZip (IsReadAt p q limit (flagged flags)) (numbers_from 0 (take i l.kept.items)) l.points.items =
-        zip_weaker (λ k. k < i) (IsReadAt p q limit (flagged l.kept.items)) (IsReadAt p q limit (flagged flags)) (λ k x b r. read_same (flagged l.kept.items) (flagged flags) k x (beside_after k (omega (arith, b))) r)
+        zip_weaker (λ k. k < i) (IsReadAt p q limit (flagged l.kept.items)) (IsReadAt p q limit (flagged flags))
+        (λ k x b r. read_same (flagged l.kept.items) (flagged flags) k x (beside_after k (omega (arith, b))) r)
         (numbers_from 0 (take i l.kept.items)) l.points.items
         (numbers_below 0 i (take i l.kept.items) (let n = length-take-le i l.kept.items (omega (arith, within)) in omega (arith, n))) is.points in
         record {
@@ -187,13 +190,15 @@ module _ (p : Problem) (q : Program Frac) (limit : ℕ) where
           };
           points = subst (λ f. AllZip (IsReadAt p q limit (flagged f)) (numbers_from 0 (take (i + 1) f)) m.points.items) (sym kept)
               (subst (AllZip (IsReadAt p q limit (flagged flags)) (numbers_from 0 (take (i + 1) flags))) (sym points)
-              (subst (λ xs. AllZip (IsReadAt p q limit (flagged flags)) xs l.points.items) (sym (numbers_cleared l.kept.items i within) ∙ ap (λ n. numbers_from 0 (take n flags)) (let e : suc i ≡ i + 1 = omega arith in e)) rest));
+              (subst (λ xs. AllZip (IsReadAt p q limit (flagged flags)) xs l.points.items)
+              (sym (numbers_cleared l.kept.items i within) ∙ ap (λ n. numbers_from 0 (take n flags)) (let e : suc i ≡ i + 1 = omega arith in e)) rest));
         }
 
   -- ---- the end
   -- a multiplier of what is left passes
-  pub forming_stops : (l : Left) → IsLeft p q limit (length p.constraints) l → (e : MultiplierStop) → StopsAt e (passing_from 0 (all_multipliers l.answer.status (kept_of (flagged l.kept.items) p.constraints) l.answer.rows)) →
-      StopsRun p q limit (forming_stop l.step e)
+  pub forming_stops : (l : Left) → IsLeft p q limit (length p.constraints) l → (e : MultiplierStop)
+      → StopsAt e (passing_from 0 (all_multipliers l.answer.status (kept_of (flagged l.kept.items) p.constraints) l.answer.rows))
+      → StopsRun p q limit (forming_stop l.step e)
   forming_stops l is (multipliers.Wide row passes) first =
       let (solved, step, none, same) = is.shown in
       inr (record {
@@ -205,7 +210,8 @@ module _ (p : Problem) (q : Program Frac) (limit : ℕ) where
         shown = is.shown;
         row = row;
         passes = passes;
-        passing = subst (λ (t : LpStatus). passing_from 0 (all_multipliers t (kept_of (flagged l.kept.items) p.constraints) l.answer.rows) ≡ Some (row, passes)) (ap (λ (a : LpAnswer). a.status) same ∙ none) first;
+        passing = subst (λ (t : LpStatus). passing_from 0 (all_multipliers t (kept_of (flagged l.kept.items) p.constraints) l.answer.rows) ≡ Some (row, passes))
+            (ap (λ (a : LpAnswer). a.status) same ∙ none) first;
         told = refl;
       })
   forming_stops l is multipliers.Memory first = tt

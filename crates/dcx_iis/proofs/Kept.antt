@@ -1,5 +1,6 @@
 -- Lists of the items of a set, and the rows of its constraints.
-use Rattle.std.proofs.Common.{◌≡◌, ◌⊎◌, ℕ, zero, suc, ◌+◌, ◌<◌, ◌≤◌, arith, Bool, true, false, if◌then◌else◌, IsTrue, List, [], ◌∷◌, ◌++◌, length, map, take, drop, Some, slice_get, inl, inr, refl, sym, ap, ap₂, ◌∙◌, add-zero, append_assoc}
+use Rattle.std.proofs.Common.{◌≡◌, ◌⊎◌, ℕ, zero, suc, ◌+◌, ◌<◌, ◌≤◌, arith, Bool, true, false, if◌then◌else◌, IsTrue, List, [], ◌∷◌, ◌++◌, length}
+use Rattle.std.proofs.Common.{map, take, drop, Some, slice_get, inl, inr, refl, sym, ap, ap₂, ◌∙◌, add-zero, append_assoc}
 use Rattle.std.proofs.lemmas.List.{map-append, take_at, drop_at}
 use Rattle.std.proofs.lemmas.Option.{none-some, same_Some}
 use Rattle.dcx_atom.specs.Arrays.{list_below}
@@ -98,11 +99,13 @@ module _ (set : ConstraintSet) where
   -- the rows of the constraints of the set are those of the constraints that are kept
   module _ (forms : Unknowns → ℕ → Numbers) where
     gaps_one : (b : Bool) (c : Constraint) (cs : List Constraint) (rest : List RowAt) →
-        (if b then list_below (constraint_rows c) (gap_row forms (convex_constraint c)) else []) ++ (gap_rows forms (map convex_constraint cs) ++ rest) ≡ gap_rows forms (map convex_constraint (one_if b c cs)) ++ rest
+        (if b then list_below (constraint_rows c) (gap_row forms (convex_constraint c)) else []) ++ (gap_rows forms (map convex_constraint cs) ++ rest)
+        ≡ gap_rows forms (map convex_constraint (one_if b c cs)) ++ rest
     gaps_one true c cs rest = sym (append_assoc (list_below (constraint_rows c) (gap_row forms (convex_constraint c))) (gap_rows forms (map convex_constraint cs)) rest)
     gaps_one false c cs rest = refl
 
-    pub rows_gaps : (i : ℕ) (cs : List Constraint) (rest : List RowAt) → rows_from set i cs (gap_rows forms (map convex_constraint cs) ++ rest) ≡ gap_rows forms (map convex_constraint (kept_from set i cs)) ++ rest
+    pub rows_gaps : (i : ℕ) (cs : List Constraint) (rest : List RowAt)
+        → rows_from set i cs (gap_rows forms (map convex_constraint cs) ++ rest) ≡ gap_rows forms (map convex_constraint (kept_from set i cs)) ++ rest
     rows_gaps i [] rest = refl
     rows_gaps i (c ∷ cs) rest =
         let n = constraint_rows c in
@@ -146,4 +149,5 @@ module _ {C : Type 0} (n : ℕ) where
   rows_within set i [] rows h = h
   rows_within set i (c ∷ cs) rows h =
       let m = constraint_rows c in
-      width_append (if set i then take m rows else []) (rows_from set (suc i) cs (drop m rows)) (width_if (set i) (take m rows) (width_take m rows h)) (rows_within set (suc i) cs (drop m rows) (width_drop m rows h))
+      width_append (if set i then take m rows else []) (rows_from set (suc i) cs (drop m rows)) (width_if (set i) (take m rows) (width_take m rows h))
+      (rows_within set (suc i) cs (drop m rows) (width_drop m rows h))

@@ -1,4 +1,4 @@
--- The lemmas.
+-- The lemmas by which the filter's set is impossible, minimal and one, and its multipliers show it.
 pub mod Sets
 pub mod Kept
 pub mod Telling

@@ -1,5 +1,6 @@
 -- One more constraint in a loop: its rows, its number, its array.
-use Rattle.std.proofs.Common.{◌≡◌, ℕ, zero, suc, ◌+◌, ◌-◌, ◌<◌, ◌≤◌, arith, Bool, true, false, if◌then◌else◌, IsTrue, List, [], ◌∷◌, ◌++◌, length, get_or, take, drop, slice_range, refl, sym, ap, ap₂, ◌∙◌, subst, pos, append_assoc, append-nil, length-take-le}
+use Rattle.std.proofs.Common.{◌≡◌, ℕ, zero, suc, ◌+◌, ◌-◌, ◌<◌, ◌≤◌, arith, Bool, true, false, if◌then◌else◌, IsTrue, List, [], ◌∷◌, ◌++◌, length, get_or}
+use Rattle.std.proofs.Common.{take, drop, slice_range, refl, sym, ap, ap₂, ◌∙◌, subst, pos, append_assoc, append-nil, length-take-le}
 use Rattle.std.specs.Prelude.{sum_by}
 use Rattle.std.specs.List.{AllZip}
 use Rattle.std.proofs.lemmas.Bool.{true≢false, false_from_ne_true}
@@ -28,12 +29,15 @@ module _ {A : Type 0} (set : ConstraintSet) (cs : List Constraint) (rows : List 
   rest_is = drop_at cs i c lt is
 
   -- the rows of the constraint are there, and those behind them
-  pub rows_there : next + sum_by constraint_rows (drop i cs) ≤ length rows → (next + constraint_rows c ≤ length rows) × ((next + constraint_rows c) + sum_by constraint_rows (drop (i + 1) cs) ≤ length rows)
+  pub rows_there : next + sum_by constraint_rows (drop i cs) ≤ length rows
+      → (next + constraint_rows c ≤ length rows) × ((next + constraint_rows c) + sum_by constraint_rows (drop (i + 1) cs) ≤ length rows)
   rows_there h =
-      let total : sum_by constraint_rows (drop i cs) ≡ constraint_rows c + sum_by constraint_rows (drop (i + 1) cs) = ap (sum_by constraint_rows) rest_is ∙ sum_by-cons constraint_rows c (drop (i + 1) cs) in
+      let total : sum_by constraint_rows (drop i cs) ≡ constraint_rows c + sum_by constraint_rows (drop (i + 1) cs) = ap (sum_by constraint_rows) rest_is
+      ∙ sum_by-cons constraint_rows c (drop (i + 1) cs) in
       (omega (arith, total, h), omega (arith, total, h))
 
-  rows_are : rows_from set i (drop i cs) (drop next rows) ≡ (if set i then slice_range rows next (next + constraint_rows c) else []) ++ rows_from set (i + 1) (drop (i + 1) cs) (drop (next + constraint_rows c) rows)
+  rows_are : rows_from set i (drop i cs) (drop next rows) ≡ (if set i then slice_range rows next (next + constraint_rows c) else [])
+      ++ rows_from set (i + 1) (drop (i + 1) cs) (drop (next + constraint_rows c) rows)
   rows_are =
       let n : constraint_rows c ≡ (next + constraint_rows c) - next = omega arith in
       let k : suc i ≡ i + 1 = omega arith in
@@ -42,8 +46,9 @@ module _ {A : Type 0} (set : ConstraintSet) (cs : List Constraint) (rows : List 
       ∙ ap (λ m. (if set i then slice_range rows next (next + constraint_rows c) else []) ++ rows_from set m (drop (i + 1) cs) (drop (next + constraint_rows c) rows)) k
 
   -- with its own rows, those so far and then those that are left are all
-  pub rows_next : (copies more all own : List A) → copies ++ rows_from set i (drop i cs) (drop next rows) ≡ all → own ≡ slice_range rows next (next + constraint_rows c) → more ≡ copies ++ (if set i then own else []) →
-      more ++ rows_from set (i + 1) (drop (i + 1) cs) (drop (next + constraint_rows c) rows) ≡ all
+  pub rows_next : (copies more all own : List A) → copies ++ rows_from set i (drop i cs) (drop next rows) ≡ all → own ≡ slice_range rows next (next + constraint_rows c)
+      → more ≡ copies ++ (if set i then own else [])
+      → more ++ rows_from set (i + 1) (drop (i + 1) cs) (drop (next + constraint_rows c) rows) ≡ all
   rows_next copies more all own before mine added =
       ap (λ xs. xs ++ rows_from set (i + 1) (drop (i + 1) cs) (drop (next + constraint_rows c) rows)) (added ∙ ap (λ xs. copies ++ (if set i then xs else [])) mine)
       ∙ append_assoc copies (if set i then slice_range rows next (next + constraint_rows c) else []) (rows_from set (i + 1) (drop (i + 1) cs) (drop (next + constraint_rows c) rows))
@@ -51,8 +56,9 @@ module _ {A : Type 0} (set : ConstraintSet) (cs : List Constraint) (rows : List 
       ∙ before
 
 -- where no constraint is left
-pub rows_last : {A : Type 0} (set : ConstraintSet) (cs : List Constraint) (rows : List A) (i next : ℕ) (copies more all : List A) → length cs ≤ i → copies ++ rows_from set i (drop i cs) (drop next rows) ≡ all →
-    more ≡ copies ++ drop next rows → more ≡ all
+pub rows_last : {A : Type 0} (set : ConstraintSet) (cs : List Constraint) (rows : List A) (i next : ℕ) (copies more all : List A) → length cs ≤ i
+    → copies ++ rows_from set i (drop i cs) (drop next rows) ≡ all
+    → more ≡ copies ++ drop next rows → more ≡ all
 rows_last set cs rows i next copies more all h before added = added ∙ ap (λ l. copies ++ rows_from set i l (drop next rows)) (sym (drop_all i cs h)) ∙ before
 
 -- ---- constraints, and numbers
@@ -100,7 +106,8 @@ record IsTaken (b : Bool) (c : Constraint) (cs : List Constraint) (before after 
   joined : before ≡ one_if b x after
   zero : b ≡ false → (j : ℕ) → number_at x.entries j ≡ whole (pos 0)
 
-taken : (b : Bool) (c : Constraint) (cs : List Constraint) (before after : List Array) (x : Array) → AllZip HasShapeOf (one_if b c cs) before → TakesNext b c before after x → IsTaken b c cs before after x
+taken : (b : Bool) (c : Constraint) (cs : List Constraint) (before after : List Array) (x : Array) → AllZip HasShapeOf (one_if b c cs) before → TakesNext b c before after x
+    → IsTaken b c cs before after x
 taken true c cs [] after x h t = absurd h
 taken true c cs (y ∷ ys) after x h t = record {
   shape = subst (HasShapeOf c) (sym t.0) h.0;
@@ -114,7 +121,8 @@ one_append : {A : Type 0} (b : Bool) (x : A) (rest : List A) → one_if b x [] +
 one_append true x rest = refl
 one_append false x rest = refl
 
-push_zeros : (ys : List Array) (x : Array) (k j : ℕ) → (k < length ys → multipliers_in ys k j ≡ whole (pos 0)) → (k ≡ length ys → number_at x.entries j ≡ whole (pos 0)) → multipliers_in (ys ++ x ∷ []) k j ≡ whole (pos 0)
+push_zeros : (ys : List Array) (x : Array) (k j : ℕ) → (k < length ys → multipliers_in ys k j ≡ whole (pos 0)) → (k ≡ length ys → number_at x.entries j ≡ whole (pos 0))
+    → multipliers_in (ys ++ x ∷ []) k j ≡ whole (pos 0)
 push_zeros [] x zero j h z = z refl
 push_zeros [] x (suc k) j h z = refl
 push_zeros (y ∷ ys) x zero j h z = h (omega arith)
@@ -130,7 +138,8 @@ pub record AreSpreadSo (set : ConstraintSet) (cs : List Constraint) (i : ℕ) (a
   pub zeros : (k : ℕ) → ¬ IsTrue (set k) → (j : ℕ) → multipliers_in duals k j ≡ whole (pos 0)
   pub rest_shaped : AllZip HasShapeOf (kept_from set i (drop i cs)) rest
 
-module _ (set : ConstraintSet) (cs : List Constraint) (i : ℕ) (c : Constraint) (lt : i < length cs) (is : c ≡ get_or cs i c) (arrays duals before after more : List Array) (x : Array) (h : AreSpreadSo set cs i arrays duals before)
+module _ (set : ConstraintSet) (cs : List Constraint) (i : ℕ) (c : Constraint) (lt : i < length cs) (is : c ≡ get_or cs i c) (arrays duals before after more : List Array) (x : Array)
+    (h : AreSpreadSo set cs i arrays duals before)
     (t : TakesNext (set i) c before after x) (added : more ≡ duals ++ x ∷ []) where
   own : IsTaken (set i) c (kept_from set (i + 1) (drop (i + 1) cs)) before after x
   own = taken (set i) c (kept_from set (i + 1) (drop (i + 1) cs)) before after x (subst (λ l. AllZip HasShapeOf l before) (kept_are set cs i c lt is) h.rest_shaped) t
@@ -140,7 +149,8 @@ module _ (set : ConstraintSet) (cs : List Constraint) (i : ℕ) (c : Constraint)
 
   pub spread_next : AreSpreadSo set cs (i + 1) arrays more after
   spread_next = record {
-    shaped = subst (AllZip HasShapeOf (take (i + 1) cs)) (sym added) (subst (λ l. AllZip HasShapeOf l (duals ++ x ∷ [])) (sym (take_one cs i c lt is)) (zip_push HasShapeOf (take i cs) duals c x h.shaped own.shape));
+    shaped = subst (AllZip HasShapeOf (take (i + 1) cs)) (sym added) (subst (λ l. AllZip HasShapeOf l (duals ++ x ∷ [])) (sym (take_one cs i c lt is))
+        (zip_push HasShapeOf (take i cs) duals c x h.shaped own.shape));
     kept =
         let at : 0 + length duals ≡ i = omega (arith, count) in
         ap (λ l. kept_of set l ++ after) added
@@ -154,7 +164,8 @@ module _ (set : ConstraintSet) (cs : List Constraint) (i : ℕ) (c : Constraint)
   }
 
 -- where none has, all arrays are left
-pub spread_first : (set : ConstraintSet) (cs : List Constraint) (arrays duals rest : List Array) → duals ≡ [] → rest ≡ arrays → AllZip HasShapeOf (kept_of set cs) arrays → AreSpreadSo set cs 0 arrays duals rest
+pub spread_first : (set : ConstraintSet) (cs : List Constraint) (arrays duals rest : List Array) → duals ≡ [] → rest ≡ arrays → AllZip HasShapeOf (kept_of set cs) arrays
+    → AreSpreadSo set cs 0 arrays duals rest
 spread_first set cs arrays duals rest none e h =
     subst (λ ys. AreSpreadSo set cs 0 arrays ys rest) (sym none) (record { shaped = tt; kept = e; zeros = λ k n j. refl; rest_shaped = subst (AllZip HasShapeOf (kept_of set cs)) (sym e) h })
 

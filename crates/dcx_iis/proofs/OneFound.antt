@@ -1,11 +1,13 @@
 -- The filter finds one thing: the same members, with the same numbers.
-use Rattle.std.proofs.Common.{◌≡◌, ◌⊎◌, ℕ, zero, suc, ◌+◌, ◌<◌, ◌≤◌, arith, Bool, true, false, ◌||◌, IsTrue, List, [], ◌∷◌, length, map, All, slice_index_or, inl, inr, refl, sym, ap, ◌∙◌, subst, add-zero, zero-add}
+use Rattle.std.proofs.Common.{◌≡◌, ◌⊎◌, ℕ, zero, suc, ◌+◌, ◌<◌, ◌≤◌, arith, Bool, true, false, ◌||◌, IsTrue, List, [], ◌∷◌, length}
+use Rattle.std.proofs.Common.{map, All, slice_index_or, inl, inr, refl, sym, ap, ◌∙◌, subst, add-zero, zero-add}
 use Rattle.std.specs.Prelude.{nat_eq}
 use Rattle.std.specs.List.{list_any, AllZip}
 use Rattle.std.proofs.lemmas.Bool.{false≢true, eq-eqb, eqb-true, cases_lt}
 use Rattle.std.proofs.lemmas.List.{length-map}
 use Rattle.std.proofs.lemmas.List.Elements.{All-head, All-tail}
 use Rattle.std.proofs.lemmas.Slice.Zip.{AllZip-long}
+use Rattle.dcx_math.specs.Rising.{IsRising}
 use Rattle.dcx_frac.specs.declared.fraction.Frac.{Frac}
 use Rattle.dcx_atom.specs.declared.array.Array.{Array}
 use Rattle.dcx_atom.specs.Arrays.{number_at}
@@ -13,7 +15,6 @@ use Rattle.dcx_point.specs.Pairs.{Pairs}
 use Rattle.dcx_convex.specs.Nodes.{Setting}
 use Rattle.dcx_tree.specs.declared.problem.Problem.{Problem}
 use Rattle.dcx_tree.specs.Meaning.{point_of}
-use Rattle.dcx_linear.specs.Terms.{IsRising}
 use Rattle.dcx_postsolve.specs.Duals.{AreDuals}
 use Rattle.dcx_right.specs.Answers.{multipliers_in}
 use Rattle.dcx_postsolve.proofs.DualLaws.{are_one}
@@ -105,14 +106,16 @@ map-kept set f i [] = refl
 map-kept set f i (x ∷ xs) = map-one f (set i) x (kept_from set (suc i) xs) ∙ ap (one_if (set i) (f x)) (map-kept set f (suc i) xs)
 
 -- lists of one length whose items of a set are the same have them at the same places
-kept_places : {A : Type 0} (set : ConstraintSet) (i : ℕ) (xs ys : List A) (d : A) → length xs ≡ length ys → kept_from set i xs ≡ kept_from set i ys → (k : ℕ) → IsTrue (set (i + k)) → slice_index_or xs k d ≡ slice_index_or ys k d
+kept_places : {A : Type 0} (set : ConstraintSet) (i : ℕ) (xs ys : List A) (d : A) → length xs ≡ length ys → kept_from set i xs ≡ kept_from set i ys → (k : ℕ) → IsTrue (set (i + k))
+    → slice_index_or xs k d ≡ slice_index_or ys k d
 kept_places set i [] [] d n e k t = refl
 kept_places set i [] (y ∷ ys) d n e k t = absurd (omega (arith, n))
 kept_places set i (x ∷ xs) [] d n e k t = absurd (omega (arith, n))
 kept_places {A} set i (x ∷ xs) (y ∷ ys) d n e k t = by (λ e k t. kept_places set (suc i) xs ys d (let m : length xs ≡ length ys = omega (arith, n) in m) e k t) (set i) refl e k t
   where
     by : (kept_from set (suc i) xs ≡ kept_from set (suc i) ys → (k : ℕ) → IsTrue (set (suc i + k)) → slice_index_or xs k d ≡ slice_index_or ys k d) →
-        (b : Bool) → set i ≡ b → one_if b x (kept_from set (suc i) xs) ≡ one_if b y (kept_from set (suc i) ys) → (k : ℕ) → IsTrue (set (i + k)) → slice_index_or (x ∷ xs) k d ≡ slice_index_or (y ∷ ys) k d
+        (b : Bool) → set i ≡ b → one_if b x (kept_from set (suc i) xs) ≡ one_if b y (kept_from set (suc i) ys) → (k : ℕ) → IsTrue (set (i + k))
+        → slice_index_or (x ∷ xs) k d ≡ slice_index_or (y ∷ ys) k d
     by rest true q e zero t = let first : x ≡ y = cc in first
     by rest true q e (suc k) t =
         let tail : kept_from set (suc i) xs ≡ kept_from set (suc i) ys = cc in

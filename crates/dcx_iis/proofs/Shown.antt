@@ -65,7 +65,8 @@ module _ (p : Problem) (us : List Frac) (given : Pairs) (is : IsPointOf p.variab
       record {
         domain = (domain_read s h.domain).domain;
         keeps = λ k t c at j l. subst (Holds c.relation)
-            (ap₂ (λ x y. x -ℚ y) (alike_value p s (point_at p.variables (numbered us)) (point_of p given) alike c.left j) (alike_value p s (point_at p.variables (numbered us)) (point_of p given) alike c.right j))
+            (ap₂ (λ x y. x -ℚ y) (alike_value p s (point_at p.variables (numbered us)) (point_of p given) alike c.left j)
+            (alike_value p s (point_at p.variables (numbered us)) (point_of p given) alike c.right j))
             (h.keeps k t c at j l);
       }
 
@@ -123,10 +124,14 @@ module _ (p : Problem) (q : Program Frac) (limit : ℕ) (set : ConstraintSet) (s
 
     -- the point that is read keeps it
     pub point_domain : solved.answer.status ≢ status.Infeasible → (point : Pairs) → IsPointRead p q.kinds solved.answer.columns point → IsDomainPoint p point
-    point_domain n point at = domain_read p at.unknowns point at.of_variables s (subst (λ u. IsInDomain p (point_at p.variables u)) (sym (numbered_same p (program_of_set p q set) solved.program solved.answer.columns point tells at)) (some_keeps n).domain)
+    point_domain n point at =
+        domain_read p at.unknowns point at.of_variables s (subst (λ u. IsInDomain p (point_at p.variables u))
+        (sym (numbered_same p (program_of_set p q set) solved.program solved.answer.columns point tells at)) (some_keeps n).domain)
 
     pub point_keeps : solved.answer.status ≢ status.Infeasible → (point : Pairs) → IsPointRead p q.kinds solved.answer.columns point → KeepsSet p s set (point_of p point)
-    point_keeps n point at = keeps_read p at.unknowns point at.of_variables s set (subst (λ u. KeepsSet p s set (point_at p.variables u)) (sym (numbered_same p (program_of_set p q set) solved.program solved.answer.columns point tells at)) (some_keeps n))
+    point_keeps n point at =
+        keeps_read p at.unknowns point at.of_variables s set (subst (λ u. KeepsSet p s set (point_at p.variables u))
+        (sym (numbered_same p (program_of_set p q set) solved.program solved.answer.columns point tells at)) (some_keeps n))
 
     -- ---- no point
     abbrev m : ℕ → ℚ
@@ -141,7 +146,8 @@ module _ (p : Problem) (q : Program Frac) (limit : ℕ) (set : ConstraintSet) (s
     -- the notes of the rows of its constraints are there
     pub rows_noted : sum_by constraint_rows (kept_of set p.constraints) ≤ length solved.answer.rows
     rows_noted =
-        let enough = rows_enough (program_of_set p q set) solved.program step.known step.is_solved.made is.reduction.reduced.forms (kept_of set p.constraints) (map bound_row is.reduction.reduced.rows) (set_rows p s q is set) in
+        let enough = rows_enough (program_of_set p q set) solved.program step.known step.is_solved.made is.reduction.reduced.forms (kept_of set p.constraints)
+        (map bound_row is.reduction.reduced.rows) (set_rows p s q is set) in
         let count = parts.notes in
         omega (arith, enough, count)
 
@@ -151,12 +157,14 @@ module _ (p : Problem) (q : Program Frac) (limit : ℕ) (set : ConstraintSet) (s
         multiplier_is 0 (kept_of set p.constraints) m k c at j
         ∙ ap m (omega arith)
         ∙ sym (right_multiplier solved.program.columns solved.answer (kept_of set p.constraints) ds
-        (have_slacks (program_of_set p q set) solved.program step.known step.is_solved.made is.reduction.reduced.forms (kept_of set p.constraints) (map bound_row is.reduction.reduced.rows) (set_rows p s q is set))
+        (have_slacks (program_of_set p q set) solved.program step.known step.is_solved.made is.reduction.reduced.forms (kept_of set p.constraints) (map bound_row is.reduction.reduced.rows)
+        (set_rows p s q is set))
         are k c at j b)
 
     -- the multipliers of its constraints, with zeros for all others, show that no point is feasible
-    pub duals_show : solved.answer.status ≡ status.Infeasible → (ds ys : List Array) → AreDuals solved.answer.status (kept_of set p.constraints) solved.answer.rows ds → AreSpread set p.constraints ds ys →
-        IsInfeasible p s (multipliers_in ys) (value solved.answer.number)
+    pub duals_show : solved.answer.status ≡ status.Infeasible → (ds ys : List Array) → AreDuals solved.answer.status (kept_of set p.constraints) solved.answer.rows ds
+        → AreSpread set p.constraints ds ys
+        → IsInfeasible p s (multipliers_in ys) (value solved.answer.number)
     duals_show e ds ys are spread =
         spread_infeasible p s set ys (multipliers_of (only p set) m) (value solved.answer.number) (sym (zip_length HasShapeOf p.constraints ys spread.shaped))
         (λ k c at j b. dual_is ds are k c at j b ∙ ap (λ (xs : List Array). multipliers_in xs k j) (sym spread.kept))

@@ -45,7 +45,8 @@ module _ (set : ConstraintSet) where
     zero_sum n f = rat_sum_below-same n (λ j. whole (pos 0) *ℚ f j) (λ j. whole (pos 0)) (λ j l. zero-*ℚ (f j)) ∙ rat_sum_below-zero n
 
     one_more : (b : Bool) (c : Constraint) (cs : List Constraint) (m : Multipliers) →
-        rat_sum_below (constraint_rows c) (λ j. head_if b m j *ℚ gap (convex_constraint c) j) +ℚ weighed gap (map convex_constraint cs) (rest_if b m) ≡ weighed gap (map convex_constraint (one_if b c cs)) m
+        rat_sum_below (constraint_rows c) (λ j. head_if b m j *ℚ gap (convex_constraint c) j) +ℚ weighed gap (map convex_constraint cs) (rest_if b m)
+        ≡ weighed gap (map convex_constraint (one_if b c cs)) m
     one_more true c cs m = refl
     one_more false c cs m = ap (λ x. x +ℚ weighed gap (map convex_constraint cs) m) (zero_sum (constraint_rows c) (gap (convex_constraint c))) ∙ +ℚ_idl (weighed gap (map convex_constraint cs) m)
 
@@ -53,7 +54,8 @@ module _ (set : ConstraintSet) where
     weighed_spread i [] n m h = refl
     weighed_spread i (c ∷ cs) n m h =
         ap₂ ◌+ℚ◌
-        (rat_sum_below-same (constraint_rows c) (λ j. n 0 j *ℚ gap (convex_constraint c) j) (λ j. head_if (set i) m j *ℚ gap (convex_constraint c) j) (λ j l. ap (λ x. x *ℚ gap (convex_constraint c) j) (h.0 j l)))
+        (rat_sum_below-same (constraint_rows c) (λ j. n 0 j *ℚ gap (convex_constraint c) j) (λ j. head_if (set i) m j *ℚ gap (convex_constraint c) j)
+        (λ j l. ap (λ x. x *ℚ gap (convex_constraint c) j) (h.0 j l)))
         (weighed_spread (suc i) cs (λ k. n (suc k)) (rest_if (set i) m) h.1)
         ∙ one_more (set i) c (kept_from set (suc i) cs) m
 
@@ -65,7 +67,8 @@ module _ (set : ConstraintSet) where
   abbrev AreSigned : List Constraint → Multipliers → Type 0
   AreSigned cs m = (k : ℕ) (c : convex.Constraint) → slice_get (map convex_constraint cs) k ≡ Some c → (j : ℕ) → j < c.size → MayMultiply c.relation (m k j)
 
-  head_signed : (b : Bool) (c : Constraint) (cs : List Constraint) (m : Multipliers) → AreSigned (one_if b c cs) m → (j : ℕ) → j < constraint_rows c → MayMultiply (convex_constraint c).relation (head_if b m j)
+  head_signed : (b : Bool) (c : Constraint) (cs : List Constraint) (m : Multipliers) → AreSigned (one_if b c cs) m → (j : ℕ) → j < constraint_rows c
+      → MayMultiply (convex_constraint c).relation (head_if b m j)
   head_signed true c cs m h j l = h 0 (convex_constraint c) refl j l
   head_signed false c cs m h j l = zero_multiplies (convex_constraint c).relation
 

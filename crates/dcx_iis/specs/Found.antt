@@ -3,6 +3,7 @@
 use Rattle.std.specs.Prelude.{◌≡◌, ◌≢◌, ℕ, ◌<◌, ◌≤◌, IsTrue, List, All, length, pos}
 use Rattle.std.specs.List.{AllZip}
 use Rattle.dcx_math.specs.Rational.{whole}
+use Rattle.dcx_math.specs.Rising.{IsRising}
 use Rattle.dcx_frac.specs.declared.fraction.Frac.{Frac}
 use Rattle.dcx_frac.specs.Frac.{value}
 use Rattle.dcx_atom.specs.declared.array.Array.{Array}
@@ -10,7 +11,6 @@ use Rattle.dcx_point.specs.Pairs.{Pairs}
 use Rattle.dcx_convex.specs.Nodes.{Setting}
 use Rattle.dcx_tree.specs.declared.problem.Problem.{Problem}
 use Rattle.dcx_tree.specs.Meaning.{point_of, IsFeasible, IsInfeasible, IsDomainPoint}
-use Rattle.dcx_linear.specs.Terms.{IsRising}
 use Rattle.dcx_postsolve.specs.Duals.{AreDuals}
 use Rattle.dcx_right.specs.Answers.{multipliers_in}
 use Rattle.dcx_lp_answer.specs.declared.answer.LpStatus.TheVariants as status

@@ -1,4 +1,4 @@
--- What the contracts of this crate cite.
+-- What contracts cite: sets of constraints, the steps of the filter, and what it finds.
 pub mod Sets
 pub mod Steps
 pub mod Multipliers

@@ -113,7 +113,8 @@ pub(crate) fn duals_kept(
     requires flags { length kept.now ≡ length constraints.now }
     requires rows { sum_by constraint_rows (kept_of (flagged kept.now) constraints.now) ≤ length answer.now.rows }
     requires few { length answer.now.rows < 2 ^ 32 }
-    ensures made { IfOk result (λ d. (ds : List ArrayOf) × AreDuals answer.now.status (kept_of (flagged kept.now) constraints.now) answer.now.rows ds × AreSpread (flagged kept.now) constraints.now ds d) }
+    ensures made { IfOk result (λ d. (ds : List ArrayOf) × AreDuals answer.now.status (kept_of (flagged kept.now) constraints.now) answer.now.rows ds
+        × AreSpread (flagged kept.now) constraints.now ds d) }
     ensures stops { IfErr result (λ e. StopsAt e (passing_from 0 (all_multipliers answer.now.status (kept_of (flagged kept.now) constraints.now) answer.now.rows))) }
 {
     let members = constraints_kept(alloc, constraints, kept)?;

@@ -1,5 +1,6 @@
 -- How lists are formed key by key: the least key first, and then the rest.
-use Rattle.std.proofs.Common.{◌≡◌, ◌≢◌, ℕ, zero, suc, ◌<◌, ◌≤◌, Bool, true, false, if◌then◌else◌, List, [], ◌∷◌, ◌++◌, Option, Some, None, Result, Ok, Err, IfSome, length, get_or, drop, refl, sym, ap, ◌∙◌, subst, inl, inr, ◌⊎◌, arith}
+use Rattle.std.proofs.Common.{◌≡◌, ◌≢◌, ℕ, zero, suc, ◌<◌, ◌≤◌, Bool, true, false, if◌then◌else◌, List, [], ◌∷◌, ◌++◌, Option, Some, None}
+use Rattle.std.proofs.Common.{Result, Ok, Err, IfSome, length, get_or, drop, refl, sym, ap, ◌∙◌, subst, inl, inr, ◌⊎◌, arith}
 use Rattle.std.specs.List.{All}
 use Rattle.std.specs.Option.{option_to_list}
 use Rattle.std.proofs.lemmas.List.Elements.{All-head, All-weaker, All-cons, All-nil, All-drop}
@@ -9,7 +10,8 @@ use Rattle.std.proofs.Common.{◌+◌, append_assoc, add-one}
 use Rattle.std.proofs.Common.{◌-◌, take, length-drop}
 use Rattle.std.proofs.lemmas.List.{append-nil, drop_all, take_all}
 use Rattle.std.proofs.Math.Seq.{drop-cons}
-use Rattle.dcx_linear.specs.Terms.{IsRising, IsSparse, term_at, kept, SumsAt, ChangesAt, IsFirstPassing, FormsKeys, SumsTerms, ChangesTerms}
+use Rattle.dcx_math.specs.Rising.{IsRising}
+use Rattle.dcx_linear.specs.Terms.{IsSparse, term_at, kept, SumsAt, ChangesAt, IsFirstPassing, FormsKeys, SumsTerms, ChangesTerms}
 use Rattle.dcx_linear.specs.TermLaws.{term_at-here, term_at-later, term_at-below, term_at-present}
 
 -- the answer with these terms before it
@@ -179,9 +181,11 @@ module _ {T : Type 0} (key : T → ℕ) (is_zero : T → Bool) where
         → (answer : Result (List T) Passes) → SumsTerms key is_zero Sums ts us answer → SumsTerms key is_zero Sums (t ∷ ts) (u ∷ us) (after (option_to_list (kept is_zero v)) answer)
     both_next t u v ts us e f sum h i answer s =
         formed_next _ _ (key t) (kept is_zero v) (kept_at v (key t) f (is_zero v) refl)
-        (SumsAt-same (Some t) (Some u) (term_at key (t ∷ ts) (key t)) (term_at key (u ∷ us) (key t)) (Ok (kept is_zero v)) (sym (term_at-here key t ts (key t) refl)) (sym (term_at-here key u us (key t) (sym e))) (v, sum, refl))
+        (SumsAt-same (Some t) (Some u) (term_at key (t ∷ ts) (key t)) (term_at key (u ∷ us) (key t)) (Ok (kept is_zero v)) (sym (term_at-here key t ts (key t) refl))
+        (sym (term_at-here key u us (key t) (sym e))) (v, sum, refl))
         (λ j lt. sum_below j (t ∷ ts) (u ∷ us) (higher j t ts lt h) (higher j u us (omega (arith, lt, e)) i))
-        (λ j r lt q. SumsAt-same _ _ (term_at key (t ∷ ts) j) (term_at key (u ∷ us) j) r (sym (term_at-later key t ts j (λ d. omega (arith, d, lt)))) (sym (term_at-later key u us j (λ d. omega (arith, d, lt, e)))) q)
+        (λ j r lt q. SumsAt-same _ _ (term_at key (t ∷ ts) j) (term_at key (u ∷ us) j) r (sym (term_at-later key t ts j (λ d. omega (arith, d, lt))))
+        (sym (term_at-later key u us j (λ d. omega (arith, d, lt, e)))) q)
         (λ j r le q. sum_none (key t) j ts us le h (All-weaker (λ w. key u < key w) (λ w. key t < key w) (λ w a. omega (arith, a, e)) us i) r q)
         answer s
 
@@ -190,7 +194,8 @@ module _ {T : Type 0} (key : T → ℕ) (is_zero : T → Bool) where
         → SumsTerms key is_zero Sums (t ∷ ts) (u ∷ us) (Err passes)
     both_pass t u ts us passes e sum h i = record {
       key = key t;
-      here = SumsAt-same (Some t) (Some u) (term_at key (t ∷ ts) (key t)) (term_at key (u ∷ us) (key t)) (Err passes) (sym (term_at-here key t ts (key t) refl)) (sym (term_at-here key u us (key t) (sym e))) sum;
+      here = SumsAt-same (Some t) (Some u) (term_at key (t ∷ ts) (key t)) (term_at key (u ∷ us) (key t)) (Err passes) (sym (term_at-here key t ts (key t) refl))
+          (sym (term_at-here key u us (key t) (sym e))) sum;
       before = λ j lt. (None, sum_below j (t ∷ ts) (u ∷ us) (higher j t ts lt h) (higher j u us (omega (arith, lt, e)) i));
     }
 
@@ -230,7 +235,8 @@ module _ {T : Type 0} (key : T → ℕ) (is_zero : T → Bool) where
           go (t ∷ drop (i + 1) ts) (u ∷ drop (j + 1) us) zs (u ∷ []) (drop_at ts i t at_i is_t) (drop_at us j u at_j is_u) so_far h answer
           (right_next u (t ∷ drop (i + 1) ts) (drop (j + 1) us) all_t rest_u.rising.0 (head_nonzero u (drop (j + 1) us) rest_u) answer s') is
 
-      pub both_go : (so_far zs : List T) (v : T) → key t ≡ key u → key v ≡ key t → Sums t u (Ok v) → zs ≡ so_far ++ option_to_list (kept is_zero v) → GoesOn ts us i j so_far → GoesOn ts us (i + 1) (j + 1) zs
+      pub both_go : (so_far zs : List T) (v : T) → key t ≡ key u → key v ≡ key t → Sums t u (Ok v) → zs ≡ so_far ++ option_to_list (kept is_zero v) → GoesOn ts us i j so_far
+          → GoesOn ts us (i + 1) (j + 1) zs
       both_go so_far zs v e f sum is h answer s =
           go (t ∷ drop (i + 1) ts) (u ∷ drop (j + 1) us) zs (option_to_list (kept is_zero v)) (drop_at ts i t at_i is_t) (drop_at us j u at_j is_u) so_far h answer
           (both_next t u v (drop (i + 1) ts) (drop (j + 1) us) e f sum rest_t.rising.0 rest_u.rising.0 answer s) is

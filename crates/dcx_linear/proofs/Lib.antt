@@ -1,4 +1,4 @@
--- The lemmas.
+-- The lemmas on coefficients, forms and rows: how they are formed, what they are worth, and which unknowns they name.
 pub mod Formed
 pub mod Keys
 pub mod ParamForms
@@ -14,3 +14,4 @@ pub mod Coefficients
 pub mod SettingForms
 pub mod SettingRows
 pub mod NumberForms
+pub mod Behind

@@ -48,7 +48,8 @@ module _ {C : Type 0} (number_of : C → Option Frac) (Changes : Change → C �
     pub multiple_value : (f h : Form C) → multiple_gives number_of Changes c f (Ok h) → linear_value value_at h x p ≡ value_at c p *ℚ linear_value value_at f x p
     multiple_value f h s =
         ap₂ ◌+ℚ◌ (times_value f.constant h.constant s.1.0 ∙ swapped (value_at c p) (value_at f.constant p))
-        (change_of_terms unknown_of (unknown_value value_at x p) (has_zero_coefficient number_of) (zero_term value_at number_of number_value x p) (times_unknown number_of Changes c) (λ q. value_at c p *ℚ q) term_times (*ℚ-zero (value_at c p)) (λ n g. rat_sum_below-*ℚ n (value_at c p) g) f.terms h.terms s.0.rising s.1.1)
+        (change_of_terms unknown_of (unknown_value value_at x p) (has_zero_coefficient number_of) (zero_term value_at number_of number_value x p) (times_unknown number_of Changes c)
+        (λ q. value_at c p *ℚ q) term_times (*ℚ-zero (value_at c p)) (λ n g. rat_sum_below-*ℚ n (value_at c p) g) f.terms h.terms s.0.rising s.1.1)
         ∙ times_over (value_at c p) (value_at f.constant p) (rat_sum_by (unknown_value value_at x p) f.terms)
 
   module _ (one_change : (change : Change) (a : C) (r s : Result C Passes) → Changes change a r → Changes change a s → r ≡ s) where
@@ -62,12 +63,14 @@ module _ {C : Type 0} (number_of : C → Option Frac) (Changes : Change → C �
     pub one_multiple : (f : Form C) (r s : Result (Form C) Passes) → multiple_gives number_of Changes c f r → multiple_gives number_of Changes c f s → r ≡ s
     one_multiple f r s h k =
         one_in_turn form_constant form_terms (same_linear number_of) _ _ (one_times f.constant)
-        (one_change_of_terms unknown_of (has_zero_coefficient number_of) (times_unknown number_of Changes c) (λ t r s h k. one_given number_of t.unknown (times_number number_of Changes c t.coefficient) (one_times t.coefficient) r s h k) f.terms) r s h.1 k.1
+        (one_change_of_terms unknown_of (has_zero_coefficient number_of) (times_unknown number_of Changes c)
+        (λ t r s h k. one_given number_of t.unknown (times_number number_of Changes c t.coefficient) (one_times t.coefficient) r s h k) f.terms) r s h.1 k.1
 
   -- the multiple is no wider
   pub multiple_width : (n : ℕ) (f h : Form C) → multiple_gives number_of Changes c f (Ok h) → form_width f ≤ n → form_width h ≤ n
   multiple_width n f h s a =
       width_least h.terms n
       (each_formed unknown_of (has_zero_coefficient number_of) (λ k. ChangesAt (has_zero_coefficient number_of) (times_unknown number_of Changes c) (term_at unknown_of f.terms k)) (λ t. t.unknown < n)
-      (λ k v q. change_below number_of n (times_unknown number_of Changes c) (λ t w z. z.0) (term_at unknown_of f.terms k) v (λ t e. term_at-All unknown_of (λ t. t.unknown < n) f.terms k t (width_bounds f.terms n a) e) q)
+      (λ k v q. change_below number_of n (times_unknown number_of Changes c) (λ t w z. z.0) (term_at unknown_of f.terms k) v
+      (λ t e. term_at-All unknown_of (λ t. t.unknown < n) f.terms k t (width_bounds f.terms n a) e) q)
       h.terms s.1.1)

@@ -92,11 +92,13 @@ rows_at-width setting m n (r ∷ rs) us e h =
     subst (λ l. rows_width l ≤ n) (sym s.2.2) (max_within (form_width s.0) (rows_width s.2.0) n first rest)
 
 -- so they stay within the kinds of the unknowns
-pub known_rows : {K : Type 0} (setting : Pairs) (rs ts : List (Row ParamForm)) (us vs : List (Row Frac)) (kinds others : List K) → Ok us ≡ rows_at setting 0 ts → ts ≡ rs → vs ≡ us → others ≡ kinds → rows_width rs ≤ length kinds
+pub known_rows : {K : Type 0} (setting : Pairs) (rs ts : List (Row ParamForm)) (us vs : List (Row Frac)) (kinds others : List K) → Ok us ≡ rows_at setting 0 ts → ts ≡ rs → vs ≡ us → others ≡ kinds
+    → rows_width rs ≤ length kinds
     → rows_width vs ≤ length others
 known_rows setting rs ts us vs kinds others e d f k h =
     subst (λ l. rows_width l ≤ length others) (sym f)
     (subst (λ l. rows_width us ≤ length l) (sym k) (rows_at-width setting 0 (length kinds) rs us (ap (rows_at setting 0) (sym d) ∙ sym e) h))
 
-pub known_form : {K : Type 0} (setting : Pairs) (row : ℕ) (f : Form ParamForm) (g : Form Frac) (kinds others : List K) → Ok g ≡ form_on_row setting row f → others ≡ kinds → form_width f ≤ length kinds → form_width g ≤ length others
+pub known_form : {K : Type 0} (setting : Pairs) (row : ℕ) (f : Form ParamForm) (g : Form Frac) (kinds others : List K) → Ok g ≡ form_on_row setting row f → others ≡ kinds
+    → form_width f ≤ length kinds → form_width g ≤ length others
 known_form setting row f g kinds others e k h = subst (λ l. form_width g ≤ length l) (sym k) (form_on_row-width setting row (length kinds) f g (sym e) h)

@@ -43,7 +43,8 @@ module _ (names : Names) (setting : Pairs) (p : Parameters) (stands : StandsFor 
           rest z e
           ∙ ap (λ q. q +ℚ rat_sum_by (term_value p) ts)
           (exact_value (sum_of x w) (value x +ℚ value w) z (sym s) (sum_of_is x w).exact
-          ∙ ap (λ q. value x +ℚ q) (exact_value (product_of t.coefficient (entry_for setting t)) (value t.coefficient *ℚ value (entry_for setting t)) w (sym product) (product_of_is t.coefficient (entry_for setting t)).exact
+          ∙ ap (λ q. value x +ℚ q) (exact_value (product_of t.coefficient (entry_for setting t)) (value t.coefficient *ℚ value (entry_for setting t)) w (sym product)
+          (product_of_is t.coefficient (entry_for setting t)).exact
           ∙ ap (λ q. value t.coefficient *ℚ q) (sym entry_is)))
           ∙ +ℚ_assoc (value x) (term_value p t) (rat_sum_by (term_value p) ts)
 

@@ -1,5 +1,6 @@
 -- Coefficients in slots: what stands at each unknown, what a write changes, and that terms added one by one give the sum.
-use Rattle.std.proofs.Common.{◌≡◌, ◌≢◌, ℕ, zero, suc, ◌+◌, ◌<◌, ◌≤◌, Bool, true, false, if◌then◌else◌, List, [], ◌∷◌, ◌++◌, Option, Some, None, Result, Ok, Err, length, get_or, take, drop, append_assoc, add-one, refl, sym, ap, ap₂, ◌∙◌, subst, pos, arith, inl, inr}
+use Rattle.std.proofs.Common.{◌≡◌, ◌≢◌, ℕ, zero, suc, ◌+◌, ◌<◌, ◌≤◌, Bool, true, false, if◌then◌else◌, List, [], ◌∷◌, ◌++◌, Option, Some, None, Result, Ok}
+use Rattle.std.proofs.Common.{Err, length, get_or, take, drop, append_assoc, add-one, refl, sym, ap, ap₂, ◌∙◌, subst, pos, arith, inl, inr}
 use Rattle.std.specs.List.{All}
 use Rattle.std.specs.Option.{option_to_list}
 use Rattle.std.proofs.Math.ListN.{set}
@@ -31,7 +32,8 @@ pub zero_is_told : zero_test zero_frac ≡ true
 zero_is_told = (IsTrue-rat_eq (value zero_frac) (whole (pos 0))).1 zero_value
 
 -- so is each coefficient that is 0
-pub zero_coefficient : {C : Type 0} (number_of : C → Option Frac) (of_number : Frac → C) → number_of (of_number zero_frac) ≡ Some zero_frac → (c : C) → c ≡ of_number zero_frac → is_told_zero (number_of c) ≡ true
+pub zero_coefficient : {C : Type 0} (number_of : C → Option Frac) (of_number : Frac → C) → number_of (of_number zero_frac) ≡ Some zero_frac → (c : C) → c ≡ of_number zero_frac
+    → is_told_zero (number_of c) ≡ true
 zero_coefficient number_of of_number told c e = ap (λ x. is_told_zero (number_of x)) e ∙ ap is_told_zero told ∙ zero_is_told
 
 -- a fact of what is formed at each key carries over to the list
@@ -74,7 +76,8 @@ module _ {C : Type 0} (number_of : C → Option Frac) where
   listed-sparse n [] = record { rising = tt; nonzero = All-nil (λ t. z t ≡ false) }
   listed-sparse n (c ∷ cs) = with_kept-sparse (term n c) (Listed (suc n) cs) (z (term n c)) refl (listed-above (suc n) cs n (omega arith)) (listed-sparse (suc n) cs)
 
-  with_kept-here : (t : FormTerm C) (ts : List (FormTerm C)) (b : Bool) → All (λ u. t.unknown < unknown_of u) ts → term_at unknown_of (option_to_list (if b then None else Some t) ++ ts) t.unknown ≡ (if b then None else Some t)
+  with_kept-here : (t : FormTerm C) (ts : List (FormTerm C)) (b : Bool) → All (λ u. t.unknown < unknown_of u) ts
+      → term_at unknown_of (option_to_list (if b then None else Some t) ++ ts) t.unknown ≡ (if b then None else Some t)
   with_kept-here t ts true above = term_at-below unknown_of ts t.unknown above
   with_kept-here t ts false above = term_at-here unknown_of t ts t.unknown refl
 
@@ -114,7 +117,8 @@ module _ {C : Type 0} (number_of : C → Option Frac) where
       later n c cs k f ∙ sym (later n b cs k f)
   other_slots (b ∷ cs) n (suc i) u c k e d = by (ℕ_discrete n k) (other_slots cs (suc n) i u c k (omega (arith, e)) d)
     where
-      by : Dec (n ≡ k) → term_at unknown_of (Listed (suc n) (set cs i c)) k ≡ term_at unknown_of (Listed (suc n) cs) k → term_at unknown_of (Listed n (b ∷ set cs i c)) k ≡ term_at unknown_of (Listed n (b ∷ cs)) k
+      by : Dec (n ≡ k) → term_at unknown_of (Listed (suc n) (set cs i c)) k ≡ term_at unknown_of (Listed (suc n) cs) k
+          → term_at unknown_of (Listed n (b ∷ set cs i c)) k ≡ term_at unknown_of (Listed n (b ∷ cs)) k
       by (yes f) rest = subst (λ j. term_at unknown_of (Listed n (b ∷ set cs i c)) j ≡ term_at unknown_of (Listed n (b ∷ cs)) j) f (first_here n b (set cs i c) ∙ sym (first_here n b cs))
       by (no f) rest =
           let g : k ≢ n = λ h. f (sym h) in
@@ -135,7 +139,8 @@ module _ {C : Type 0} (number_of : C → Option Frac) where
       ∙ ap (λ l. so_far ++ Listed i l) (sym (drop_at cs i c lt is))
 
   -- and 0 stands there
-  pub slot_cleared : (cs : List C) (i : ℕ) (w : C) → i < length cs → is_told_zero (number_of w) ≡ true → listed_from number_of 0 (take i cs) ≡ [] → listed_from number_of 0 (take (i + 1) (set cs i w)) ≡ []
+  pub slot_cleared : (cs : List C) (i : ℕ) (w : C) → i < length cs → is_told_zero (number_of w) ≡ true → listed_from number_of 0 (take i cs) ≡ []
+      → listed_from number_of 0 (take (i + 1) (set cs i w)) ≡ []
   slot_cleared cs i w lt told h = ap (Listed 0) (take_more_set cs i w lt) ∙ listed-push (take i cs) 0 w told ∙ h
 
   -- after the last slot all are taken
@@ -149,7 +154,8 @@ module _ {C : Type 0} (number_of : C → Option Frac) where
     abbrev G : FormTerm C → FormTerm C → Result (FormTerm C) Passes → Type 0
     G t u r = sum_gives_unknown Sums t u r
 
-    at_slot : (t : FormTerm C) (s w : C) → z t ≡ false → (b : Bool) → sum_with_slot b Sums s t.coefficient (Ok w) → SumsAt z G (if b then None else Some (term t.unknown s)) (Some t) (Ok (kept_term number_of t.unknown w))
+    at_slot : (t : FormTerm C) (s w : C) → z t ≡ false → (b : Bool) → sum_with_slot b Sums s t.coefficient (Ok w)
+        → SumsAt z G (if b then None else Some (term t.unknown s)) (Some t) (Ok (kept_term number_of t.unknown w))
     at_slot t s w nonzero true h =
         let d : w ≡ t.coefficient = cc in
         ap (λ c. Ok (kept_term number_of t.unknown c)) d ∙ ap (λ b. Ok (if b then None else Some t)) nonzero
@@ -165,7 +171,8 @@ module _ {C : Type 0} (number_of : C → Option Frac) where
       λ k d. other_slots cs 0 t.unknown t.unknown w k (omega arith) d,
     )
 
-    pass_slot : (t : FormTerm C) (s : C) (passes : Passes) (b : Bool) → sum_with_slot b Sums s t.coefficient (Err passes) → SumsAt z G (if b then None else Some (term t.unknown s)) (Some t) (Err passes)
+    pass_slot : (t : FormTerm C) (s : C) (passes : Passes) (b : Bool) → sum_with_slot b Sums s t.coefficient (Err passes)
+        → SumsAt z G (if b then None else Some (term t.unknown s)) (Some t) (Err passes)
     pass_slot t s passes true h = cc
     pass_slot t s passes false h = (refl, h)
 
@@ -187,30 +194,38 @@ module _ {C : Type 0} (number_of : C → Option Frac) where
     SumsAt-same x y v w r s e f g h = subst (λ q. SumsAt z G y w q) g (subst (λ q. SumsAt z G y q r) f (subst (λ q. SumsAt z G q v r) e h))
 
     -- a term before the others is added first, and then the others
-    pub term_goes : (ts us : List (FormTerm C)) (t : FormTerm C) (rest : List (FormTerm C)) → adds_term number_of Sums ts t (Ok us) → All (λ v. t.unknown < unknown_of v) rest → (answer : Result (List (FormTerm C)) Passes)
-        → SumsTerms unknown_of (has_zero_coefficient number_of) (sum_gives_unknown Sums) us rest answer → SumsTerms unknown_of (has_zero_coefficient number_of) (sum_gives_unknown Sums) ts (t ∷ rest) answer
+    pub term_goes : (ts us : List (FormTerm C)) (t : FormTerm C) (rest : List (FormTerm C)) → adds_term number_of Sums ts t (Ok us) → All (λ v. t.unknown < unknown_of v) rest
+        → (answer : Result (List (FormTerm C)) Passes)
+        → SumsTerms unknown_of (has_zero_coefficient number_of) (sum_gives_unknown Sums) us rest answer
+        → SumsTerms unknown_of (has_zero_coefficient number_of) (sum_gives_unknown Sums) ts (t ∷ rest) answer
     term_goes ts us t rest h above answer s =
-        formed_map unknown_of z (λ k. SumsAt z G (term_at unknown_of us k) (term_at unknown_of rest k)) (λ k. SumsAt z G (term_at unknown_of ts k) (term_at unknown_of (t ∷ rest) k)) (λ k r q. each k r q (ℕ_discrete t.unknown k)) answer s
+        formed_map unknown_of z (λ k. SumsAt z G (term_at unknown_of us k) (term_at unknown_of rest k)) (λ k. SumsAt z G (term_at unknown_of ts k) (term_at unknown_of (t ∷ rest) k))
+        (λ k r q. each k r q (ℕ_discrete t.unknown k)) answer s
       where
-        each : (k : ℕ) (r : Result (Option (FormTerm C)) Passes) → SumsAt z G (term_at unknown_of us k) (term_at unknown_of rest k) r → Dec (t.unknown ≡ k) → SumsAt z G (term_at unknown_of ts k) (term_at unknown_of (t ∷ rest) k) r
+        each : (k : ℕ) (r : Result (Option (FormTerm C)) Passes) → SumsAt z G (term_at unknown_of us k) (term_at unknown_of rest k) r → Dec (t.unknown ≡ k)
+            → SumsAt z G (term_at unknown_of ts k) (term_at unknown_of (t ∷ rest) k) r
         each k r q (yes e) =
             let none = term_at-below unknown_of rest k (subst (λ j. All (λ v. j < unknown_of v) rest) e above) in
             let is = only_that (term_at unknown_of us k) r (SumsAt-same (term_at unknown_of us k) (term_at unknown_of us k) (term_at unknown_of rest k) None r r refl none refl q) in
-            SumsAt-same (term_at unknown_of ts k) (term_at unknown_of ts k) (Some t) (term_at unknown_of (t ∷ rest) k) (Ok (term_at unknown_of us k)) r refl (sym (term_at-here unknown_of t rest k e)) (sym is)
+            SumsAt-same (term_at unknown_of ts k) (term_at unknown_of ts k) (Some t) (term_at unknown_of (t ∷ rest) k) (Ok (term_at unknown_of us k)) r refl
+            (sym (term_at-here unknown_of t rest k e)) (sym is)
             (subst (λ j. SumsAt z G (term_at unknown_of ts j) (Some t) (Ok (term_at unknown_of us j))) e h.0)
         each k r q (no d) =
-            SumsAt-same (term_at unknown_of us k) (term_at unknown_of ts k) (term_at unknown_of rest k) (term_at unknown_of (t ∷ rest) k) r r (h.1 k (λ e. d (sym e))) (sym (term_at-later unknown_of t rest k d)) refl q
+            SumsAt-same (term_at unknown_of us k) (term_at unknown_of ts k) (term_at unknown_of rest k) (term_at unknown_of (t ∷ rest) k) r r (h.1 k (λ e. d (sym e)))
+            (sym (term_at-later unknown_of t rest k d)) refl q
 
     -- where its coefficient passes, the sum passes there first
     pub term_stops : (ts : List (FormTerm C)) (t : FormTerm C) (rest : List (FormTerm C)) (passes : Passes) → adds_term number_of Sums ts t (Err passes) → All (λ v. t.unknown < unknown_of v) rest
         → SumsTerms unknown_of (has_zero_coefficient number_of) (sum_gives_unknown Sums) ts (t ∷ rest) (Err passes)
     term_stops ts t rest passes h above = record {
       key = t.unknown;
-      here = SumsAt-same (term_at unknown_of ts t.unknown) (term_at unknown_of ts t.unknown) (Some t) (term_at unknown_of (t ∷ rest) t.unknown) (Err passes) (Err passes) refl (sym (term_at-here unknown_of t rest t.unknown refl)) refl h;
+      here = SumsAt-same (term_at unknown_of ts t.unknown) (term_at unknown_of ts t.unknown) (Some t) (term_at unknown_of (t ∷ rest) t.unknown) (Err passes) (Err passes) refl
+          (sym (term_at-here unknown_of t rest t.unknown refl)) refl h;
       before = λ k lt. (
         term_at unknown_of ts k,
         SumsAt-same (term_at unknown_of ts k) (term_at unknown_of ts k) None (term_at unknown_of (t ∷ rest) k) (Ok (term_at unknown_of ts k)) (Ok (term_at unknown_of ts k)) refl
-            (sym (term_at-below unknown_of (t ∷ rest) k (All-cons (λ v. k < unknown_of v) t rest lt (All-weaker (λ v. t.unknown < unknown_of v) (λ v. k < unknown_of v) (λ v a. omega (arith, a, lt)) rest above)))) refl
+            (sym (term_at-below unknown_of (t ∷ rest) k (All-cons (λ v. k < unknown_of v) t rest lt
+            (All-weaker (λ v. t.unknown < unknown_of v) (λ v. k < unknown_of v) (λ v a. omega (arith, a, lt)) rest above)))) refl
             (with_none (term_at unknown_of ts k)),
       );
     }
@@ -221,7 +236,8 @@ module _ {C : Type 0} (number_of : C → Option Frac) where
 
     -- the terms from n on lead from the slots to the sum
     abbrev pub GoesOn : List (FormTerm C) → List C → List (FormTerm C) → ℕ → Type 0
-    GoesOn start cs terms n = (answer : Result (List (FormTerm C)) Passes) → SumsTerms unknown_of (has_zero_coefficient number_of) (sum_gives_unknown Sums) (listed_from number_of 0 cs) (drop n terms) answer
+    GoesOn start cs terms n = (answer : Result (List (FormTerm C)) Passes)
+        → SumsTerms unknown_of (has_zero_coefficient number_of) (sum_gives_unknown Sums) (listed_from number_of 0 cs) (drop n terms) answer
         → SumsTerms unknown_of (has_zero_coefficient number_of) (sum_gives_unknown Sums) start terms answer
 
     module _ (start terms : List (FormTerm C)) (sparse : HoldsUnknowns number_of terms) (n : ℕ) (t : FormTerm C) (lt : n < length terms) (is : t ≡ get_or terms n t) where
@@ -233,7 +249,8 @@ module _ {C : Type 0} (number_of : C → Option Frac) where
 
       pub terms_go : (cs ds : List C) → adds_term number_of Sums (listed_from number_of 0 cs) t (Ok (listed_from number_of 0 ds)) → GoesOn start cs terms n → GoesOn start ds terms (n + 1)
       terms_go cs ds h go answer s =
-          go answer (subst (λ l. SumsTerms unknown_of z G (Listed 0 cs) l answer) (sym (drop_at terms n t lt is)) (term_goes (Listed 0 cs) (Listed 0 ds) t (drop (n + 1) terms) h rest.rising.0 answer s))
+          go answer (subst (λ l. SumsTerms unknown_of z G (Listed 0 cs) l answer) (sym (drop_at terms n t lt is))
+          (term_goes (Listed 0 cs) (Listed 0 ds) t (drop (n + 1) terms) h rest.rising.0 answer s))
 
       pub terms_stop : (cs : List C) (passes : Passes) → adds_term number_of Sums (listed_from number_of 0 cs) t (Err passes) → GoesOn start cs terms n
           → SumsTerms unknown_of (has_zero_coefficient number_of) (sum_gives_unknown Sums) start terms (Err passes)
@@ -263,7 +280,8 @@ module _ {C : Type 0} (number_of : C → Option Frac) where
             (both_sparse, (sums, subst (λ l. SumsTerms unknown_of z G (Listed 0 cs) l (Ok (Listed 0 ds))) is_terms h))
 
         -- or the sum of a coefficient passes
-        pub term_of_form_passes : (passes : Passes) → SumsTerms unknown_of (has_zero_coefficient number_of) (sum_gives_unknown Sums) (listed_from number_of 0 cs) terms (Err passes) → sum_gives_linear number_of Sums old f (Err passes)
+        pub term_of_form_passes : (passes : Passes) → SumsTerms unknown_of (has_zero_coefficient number_of) (sum_gives_unknown Sums) (listed_from number_of 0 cs) terms (Err passes)
+            → sum_gives_linear number_of Sums old f (Err passes)
         term_of_form_passes passes h =
             subst (λ g. sum_gives_linear number_of Sums g f (Err passes)) is_old
             (both_sparse, inr ((sum, sums), subst (λ l. SumsTerms unknown_of z G (Listed 0 cs) l (Err passes)) is_terms h))

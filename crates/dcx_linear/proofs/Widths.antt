@@ -26,7 +26,8 @@ width_least (t ∷ ts) n h =
     let rest : terms_width ts ≤ n = width_least ts n (All-tail (λ u. u.unknown < n) t ts h) in omega arith
 
 module _ {C : Type 0} (number_of : C → Option Frac) (n : ℕ) where
-  kept_below : (Forms : Result (FormTerm C) Passes → Type 0) → ((v : FormTerm C) → Forms (Ok v) → v.unknown < n) → (v : FormTerm C) → Keeps (has_zero_coefficient number_of) Forms (Ok (Some v)) → v.unknown < n
+  kept_below : (Forms : Result (FormTerm C) Passes → Type 0) → ((v : FormTerm C) → Forms (Ok v) → v.unknown < n) → (v : FormTerm C) → Keeps (has_zero_coefficient number_of) Forms (Ok (Some v))
+      → v.unknown < n
   kept_below Forms each v h = by (has_zero_coefficient number_of h.0) h.2
     where
       by : (b : Bool) → Some v ≡ (if b then None else Some h.0) → v.unknown < n
@@ -39,7 +40,8 @@ module _ {C : Type 0} (number_of : C → Option Frac) (n : ℕ) where
   sum_below Sums (Some t) None v h k s = h v (cc)
   sum_below Sums (Some t) (Some u) v h k s = kept_below (sum_gives_unknown Sums t u) (λ w q. subst (λ i. i < n) (sym q.1.0) (h t refl)) v s
 
-  pub change_below : (Changes : FormTerm C → Result (FormTerm C) Passes → Type 0) → ((t v : FormTerm C) → Changes t (Ok v) → v.unknown ≡ t.unknown) → (x : Option (FormTerm C)) (v : FormTerm C) → ((t : FormTerm C) → x ≡ Some t → t.unknown < n)
+  pub change_below : (Changes : FormTerm C → Result (FormTerm C) Passes → Type 0) → ((t v : FormTerm C) → Changes t (Ok v) → v.unknown ≡ t.unknown) → (x : Option (FormTerm C)) (v : FormTerm C)
+      → ((t : FormTerm C) → x ≡ Some t → t.unknown < n)
       → ChangesAt (has_zero_coefficient number_of) Changes x (Ok (Some v)) → v.unknown < n
   change_below Changes keeps None v h s = cc
   change_below Changes keeps (Some t) v h s = kept_below (Changes t) (λ w q. subst (λ i. i < n) (sym (keeps t w q)) (h t refl)) v s
@@ -48,14 +50,18 @@ module _ {C : Type 0} (number_of : C → Option Frac) (n : ℕ) where
   pub sum_width : (Sums : C → C → Result C Passes → Type 0) (f g h : Form C) → sum_gives_linear number_of Sums f g (Ok h) → form_width f ≤ n → form_width g ≤ n → form_width h ≤ n
   sum_width Sums f g h s a b =
       width_least h.terms n
-      (each_formed unknown_of (has_zero_coefficient number_of) (λ k. SumsAt (has_zero_coefficient number_of) (sum_gives_unknown Sums) (term_at unknown_of f.terms k) (term_at unknown_of g.terms k)) (λ t. t.unknown < n)
-      (λ k v q. sum_below Sums (term_at unknown_of f.terms k) (term_at unknown_of g.terms k) v (λ t e. term_at-All unknown_of (λ t. t.unknown < n) f.terms k t (width_bounds f.terms n a) e) (λ t e. term_at-All unknown_of (λ t. t.unknown < n) g.terms k t (width_bounds g.terms n b) e) q)
+      (each_formed unknown_of (has_zero_coefficient number_of) (λ k. SumsAt (has_zero_coefficient number_of) (sum_gives_unknown Sums) (term_at unknown_of f.terms k) (term_at unknown_of g.terms k))
+      (λ t. t.unknown < n)
+      (λ k v q. sum_below Sums (term_at unknown_of f.terms k) (term_at unknown_of g.terms k) v (λ t e. term_at-All unknown_of (λ t. t.unknown < n) f.terms k t (width_bounds f.terms n a) e)
+      (λ t e. term_at-All unknown_of (λ t. t.unknown < n) g.terms k t (width_bounds g.terms n b) e) q)
       h.terms s.1.1)
 
   -- a changed form is no wider
   pub change_width : (Changes : Change → C → Result C Passes → Type 0) (change : Change) (f h : Form C) → change_gives_linear number_of Changes change f (Ok h) → form_width f ≤ n → form_width h ≤ n
   change_width Changes change f h s a =
       width_least h.terms n
-      (each_formed unknown_of (has_zero_coefficient number_of) (λ k. ChangesAt (has_zero_coefficient number_of) (change_gives_unknown Changes change) (term_at unknown_of f.terms k)) (λ t. t.unknown < n)
-      (λ k v q. change_below (change_gives_unknown Changes change) (λ t w z. z.0) (term_at unknown_of f.terms k) v (λ t e. term_at-All unknown_of (λ t. t.unknown < n) f.terms k t (width_bounds f.terms n a) e) q)
+      (each_formed unknown_of (has_zero_coefficient number_of) (λ k. ChangesAt (has_zero_coefficient number_of) (change_gives_unknown Changes change) (term_at unknown_of f.terms k))
+      (λ t. t.unknown < n)
+      (λ k v q. change_below (change_gives_unknown Changes change) (λ t w z. z.0) (term_at unknown_of f.terms k) v
+      (λ t e. term_at-All unknown_of (λ t. t.unknown < n) f.terms k t (width_bounds f.terms n a) e) q)
       h.terms s.1.1)

@@ -56,7 +56,8 @@ module _ {C : Type 0} (value_at : C → Parameters → ℚ) (number_of : C → O
     pub linear_change_value : (change : Change) (f h : Form C) → change_gives_linear number_of Changes change f (Ok h) → linear_value value_at h x p ≡ changed change (linear_value value_at f x p)
     linear_change_value change f h s =
         ap₂ ◌+ℚ◌ (change_value change f.constant h.constant s.1.0)
-        (change_of_terms unknown_of (unknown_value value_at x p) (has_zero_coefficient number_of) zero_term (change_gives_unknown Changes change) (changed change) (term_change change) (changed_zero change) (changed_sums change) f.terms h.terms s.0.rising s.1.1)
+        (change_of_terms unknown_of (unknown_value value_at x p) (has_zero_coefficient number_of) zero_term (change_gives_unknown Changes change) (changed change) (term_change change)
+        (changed_zero change) (changed_sums change) f.terms h.terms s.0.rising s.1.1)
         ∙ changed_sum change (value_at f.constant p) (rat_sum_by (unknown_value value_at x p) f.terms)
 
 -- ---- one answer
@@ -64,7 +65,8 @@ module _ {C : Type 0} (number_of : C → Option Frac) where
   pub same_linear : (f g : Form C) → f.constant ≡ g.constant → f.terms ≡ g.terms → f ≡ g
   same_linear f g d e = ap₂ (λ c ts. let h : Form C = record { constant = c; terms = ts } in h) d e
 
-  pub one_given : (unknown : ℕ) (Forms : Result C Passes → Type 0) → ((r s : Result C Passes) → Forms r → Forms s → r ≡ s) → (r s : Result (FormTerm C) Passes) → GivesTerm unknown Forms r → GivesTerm unknown Forms s → r ≡ s
+  pub one_given : (unknown : ℕ) (Forms : Result C Passes → Type 0) → ((r s : Result C Passes) → Forms r → Forms s → r ≡ s) → (r s : Result (FormTerm C) Passes) → GivesTerm unknown Forms r
+      → GivesTerm unknown Forms s → r ≡ s
   one_given unknown Forms one (Ok t) (Ok u) h k =
       let e = one (Ok t.coefficient) (Ok u.coefficient) h.1 k.1 in
       let d : t.coefficient ≡ u.coefficient = cc in
@@ -78,11 +80,13 @@ module _ {C : Type 0} (number_of : C → Option Frac) where
       → (f g : Form C) (r s : Result (Form C) Passes) → sum_gives_linear number_of Sums f g r → sum_gives_linear number_of Sums f g s → r ≡ s
   one_linear_sum Sums one f g r s h k =
       one_in_turn form_constant form_terms same_linear _ _ (one f.constant g.constant)
-      (one_sum_of_terms unknown_of (has_zero_coefficient number_of) (sum_gives_unknown Sums) (λ t u r s h k. one_given t.unknown (Sums t.coefficient u.coefficient) (one t.coefficient u.coefficient) r s h.1 k.1) f.terms g.terms) r s h.1 k.1
+      (one_sum_of_terms unknown_of (has_zero_coefficient number_of) (sum_gives_unknown Sums)
+      (λ t u r s h k. one_given t.unknown (Sums t.coefficient u.coefficient) (one t.coefficient u.coefficient) r s h.1 k.1) f.terms g.terms) r s h.1 k.1
 
   -- a form is changed in one way
   pub one_linear_change : (Changes : Change → C → Result C Passes → Type 0) → ((change : Change) (a : C) (r s : Result C Passes) → Changes change a r → Changes change a s → r ≡ s)
       → (change : Change) (f : Form C) (r s : Result (Form C) Passes) → change_gives_linear number_of Changes change f r → change_gives_linear number_of Changes change f s → r ≡ s
   one_linear_change Changes one change f r s h k =
       one_in_turn form_constant form_terms same_linear _ _ (one change f.constant)
-      (one_change_of_terms unknown_of (has_zero_coefficient number_of) (change_gives_unknown Changes change) (λ t r s h k. one_given t.unknown (Changes change t.coefficient) (one change t.coefficient) r s h k) f.terms) r s h.1 k.1
+      (one_change_of_terms unknown_of (has_zero_coefficient number_of) (change_gives_unknown Changes change)
+      (λ t r s h k. one_given t.unknown (Changes change t.coefficient) (one change t.coefficient) r s h k) f.terms) r s h.1 k.1

@@ -1,4 +1,4 @@
--- What the contracts of this crate cite.
+-- What contracts cite: coefficients and their laws, forms, rows, parts, slots, widths, and all of them at a setting.
 pub mod Changes
 pub mod ChangeLaws
 pub mod Stops

@@ -72,13 +72,15 @@ term_change p change t v h =
 -- ---- sums, products and quotients
 pub form_sum_value : (f g h : ParamForm) (p : Parameters) → sum_gives_form f g (Ok h) → form_value h p ≡ form_value f p +ℚ form_value g p
 form_sum_value f g h p s =
-    ap₂ ◌+ℚ◌ (sum_value_lem f.constant g.constant h.constant p s.1.0) (sum_of_terms key_of (term_value p) has_zero (zero_term p) sum_gives_term (term_sum p) f.terms g.terms h.terms s.0.0.rising s.0.1.rising s.1.1)
+    ap₂ ◌+ℚ◌ (sum_value_lem f.constant g.constant h.constant p s.1.0) (sum_of_terms key_of (term_value p) has_zero (zero_term p) sum_gives_term
+    (term_sum p) f.terms g.terms h.terms s.0.0.rising s.0.1.rising s.1.1)
     ∙ ring (value f.constant ∷ value g.constant ∷ rat_sum_by (term_value p) f.terms ∷ rat_sum_by (term_value p) g.terms ∷ []) (search reads depth 30) tt
 
 pub form_change_value : (change : Change) (f h : ParamForm) (p : Parameters) → change_gives_form change f (Ok h) → form_value h p ≡ changed change (form_value f p)
 form_change_value change f h p s =
     ap₂ ◌+ℚ◌ (change_value_lem change f.constant h.constant p s.1.0)
-    (change_of_terms key_of (term_value p) has_zero (zero_term p) (change_gives_term change) (changed change) (term_change p change) (changed_zero change) (changed_sums change) f.terms h.terms s.0.rising s.1.1)
+    (change_of_terms key_of (term_value p) has_zero (zero_term p) (change_gives_term change) (changed change) (term_change p change) (changed_zero change)
+    (changed_sums change) f.terms h.terms s.0.rising s.1.1)
     ∙ changed_sum change (value f.constant) (rat_sum_by (term_value p) f.terms)
 
 -- ---- one answer
@@ -94,13 +96,15 @@ one_form_sum f g r s h k =
 
 pub one_form_change : (change : Change) (f : ParamForm) (r s : Result ParamForm Passes) → change_gives_form change f r → change_gives_form change f s → r ≡ s
 one_form_change change f r s h k =
-    one_in_turn constant_of terms_of same_parts _ _ (one_answer (changed_frac change f.constant)) (one_change_of_terms key_of has_zero (change_gives_term change) (λ t r s h k. h ∙ sym k) f.terms) r s h.1 k.1
+    one_in_turn constant_of terms_of same_parts _ _ (one_answer (changed_frac change f.constant))
+    (one_change_of_terms key_of has_zero (change_gives_term change) (λ t r s h k. h ∙ sym k) f.terms) r s h.1 k.1
 
 -- ---- names
 pub form_number_named : (names : Names) (x : Frac) → IsNamedForm names (form_of_number x)
 form_number_named names x = All-nil (IsNamed names)
 
-pub form_entry_named : (names : Names) (position : ℕ) (name : List ℕ) (entry : ℕ) (setting : Pairs) (f : ParamForm) → IsNameOf names position name → IsEntryForm position name entry f → IsNamedForm names f
+pub form_entry_named : (names : Names) (position : ℕ) (name : List ℕ) (entry : ℕ) (setting : Pairs) (f : ParamForm) → IsNameOf names position name → IsEntryForm position name entry f
+    → IsNamedForm names f
 form_entry_named names position name entry setting f n h =
     subst (λ g. IsNamedForm names g) (sym h.is) (All-cons (IsNamed names) _ [] n (All-nil (IsNamed names)))
 
@@ -120,7 +124,8 @@ sum_at_named names (Some t) (Some u) v h k s = by (has_zero s.0) s.2
 pub form_sum_named : (names : Names) (f g h : ParamForm) → sum_gives_form f g (Ok h) → IsNamedForm names f → IsNamedForm names g → IsNamedForm names h
 form_sum_named names f g h s n m =
     each_formed key_of has_zero (λ k. SumsAt has_zero sum_gives_term (term_at key_of f.terms k) (term_at key_of g.terms k)) (IsNamed names)
-    (λ k v q. sum_at_named names (term_at key_of f.terms k) (term_at key_of g.terms k) v (λ t e. term_at-All key_of (IsNamed names) f.terms k t n e) (λ t e. term_at-All key_of (IsNamed names) g.terms k t m e) q)
+    (λ k v q. sum_at_named names (term_at key_of f.terms k) (term_at key_of g.terms k) v (λ t e. term_at-All key_of (IsNamed names) f.terms k t n e)
+    (λ t e. term_at-All key_of (IsNamed names) g.terms k t m e) q)
     h.terms s.1.1
 
 change_at_named : (names : Names) (change : Change) (x : Option ParamTerm) (v : ParamTerm) → ((t : ParamTerm) → x ≡ Some t → IsNamed names t)

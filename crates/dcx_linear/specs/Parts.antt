@@ -23,12 +23,14 @@ abbrev pub adds_part : {C : Type 0} → (C → Option Frac) → (C → C → Res
 adds_part number_of Sums Changes so_far change f = Follows (change_gives_linear number_of Changes change f) (sum_gives_linear number_of Sums so_far)
 
 -- what adding parts, one after the other, answers
-abbrev pub adds_parts : {C : Type 0} → (C → Option Frac) → (C → C → Result C Passes → Type 0) → (Change → C → Result C Passes → Type 0) → List (Change × Form C) → Form C → Result (Form C) Passes → Type 0
+abbrev pub adds_parts : {C : Type 0} → (C → Option Frac) → (C → C → Result C Passes → Type 0) → (Change → C → Result C Passes → Type 0) → List (Change × Form C) → Form C → Result (Form C) Passes
+    → Type 0
 adds_parts number_of Sums Changes [] so_far r = r ≡ Ok so_far
 adds_parts number_of Sums Changes (p ∷ ps) so_far r = Follows (adds_part number_of Sums Changes so_far p.0 p.1) (λ g s. adds_parts number_of Sums Changes ps g s) r
 
 -- the same from the form 0 on
-abbrev pub sums_parts : {C : Type 0} → (Frac → C) → (C → Option Frac) → (C → C → Result C Passes → Type 0) → (Change → C → Result C Passes → Type 0) → List (Change × Form C) → Result (Form C) Passes → Type 0
+abbrev pub sums_parts : {C : Type 0} → (Frac → C) → (C → Option Frac) → (C → C → Result C Passes → Type 0) → (Change → C → Result C Passes → Type 0) → List (Change × Form C)
+    → Result (Form C) Passes → Type 0
 sums_parts of_number number_of Sums Changes ps r = adds_parts number_of Sums Changes ps (is_constant (of_number zero_frac)) r
 
 -- the number that a part is

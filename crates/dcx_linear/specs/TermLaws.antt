@@ -4,9 +4,10 @@ use Rattle.std.specs.List.{All}
 use Rattle.std.proofs.lemmas.List.Elements.{All-head, All-tail, All-weaker, All-cons}
 use Rattle.std.proofs.lemmas.Bool.{ne_eqb}
 use Rattle.std.proofs.Common.{eq-eqb}
+use Rattle.dcx_math.specs.Rising.{IsRising}
 use native.Mathlib.Decide.{ℕ_discrete, dec_lt}
 use Rattle.dcx_frac.specs.declared.fraction.Passes.{Passes}
-use Rattle.dcx_linear.specs.Terms.{IsRising, term_at, kept, Keeps, SumsAt, ChangesAt, FormsKeys, SumsTerms, ChangesTerms}
+use Rattle.dcx_linear.specs.Terms.{term_at, kept, Keeps, SumsAt, ChangesAt, FormsKeys, SumsTerms, ChangesTerms}
 
 module _ {T : Type 0} (key : T → ℕ) where
   -- the first term stands at its key

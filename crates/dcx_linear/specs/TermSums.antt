@@ -7,8 +7,9 @@ use Rattle.dcx_math.specs.Rational.{ℚ, whole, ◌+ℚ◌}
 use Rattle.dcx_math.specs.Sums.{rat_sum_by, rat_sum_below}
 use Rattle.dcx_math.proofs.Orders.{+ℚ_idl, +ℚ_idr}
 use Rattle.dcx_math.proofs.Sums.{rat_sum_below-zero, rat_sum_below-+ℚ, rat_sum_below-same, rat_sum_below-one}
+use Rattle.dcx_math.specs.Rising.{IsRising}
 use Rattle.dcx_frac.specs.declared.fraction.Passes.{Passes}
-use Rattle.dcx_linear.specs.Terms.{IsRising, term_at, kept, SumsAt, ChangesAt, SumsTerms, ChangesTerms}
+use Rattle.dcx_linear.specs.Terms.{term_at, kept, SumsAt, ChangesAt, SumsTerms, ChangesTerms}
 use Rattle.dcx_linear.specs.TermLaws.{term_at-here, term_at-later, term_at-below}
 
 module _ {T : Type 0} (key : T → ℕ) (v : T → ℚ) where

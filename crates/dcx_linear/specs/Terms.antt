@@ -1,17 +1,17 @@
 -- Lists of terms with rising keys, none of them 0: what forming such a list key by key gives.
 use Rattle.std.specs.Prelude.{◌≡◌, ℕ, ◌<◌, Bool, false, nat_eq, if◌then◌else◌, List, [], ◌∷◌, Option, Some, None, Result, Ok, Err}
 use Rattle.std.specs.List.{All}
+use Rattle.dcx_math.specs.Rising.{IsRising}
 use Rattle.dcx_frac.specs.declared.fraction.Passes.{Passes}
-
--- each key is below those that follow
-abbrev pub IsRising : {T : Type 0} → (T → ℕ) → List T → Type 0
-IsRising key [] = Unit {0}
-IsRising key (t ∷ ts) = All (λ u. key t < key u) ts × IsRising key ts
 
 -- the keys rise, and no term is 0
 pub record IsSparse {T : Type 0} (key : T → ℕ) (is_zero : T → Bool) (ts : List T) : Type 0 where
   pub rising : IsRising key ts
   pub nonzero : All (λ t. is_zero t ≡ false) ts
+
+-- each key of one list stands behind each of the other
+abbrev pub IsBehind : {T : Type 0} → (T → ℕ) → List T → List T → Type 0
+IsBehind key ts us = All (λ t. All (λ u. key t < key u) us) ts
 
 -- the term with this key; None stands for 0
 abbrev pub term_at : {T : Type 0} → (T → ℕ) → List T → ℕ → Option T

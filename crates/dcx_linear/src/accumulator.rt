@@ -51,7 +51,8 @@ impl<C: Coef> Accumulator<C> {
     {
         let Form { constant, terms } = form;
         let terms = terms.into_vec();
-        self.constant = self.constant.add(alloc, &constant)?;
+        let before = mem::replace(&mut self.constant, C::zero(alloc));
+        self.constant = before.plus(alloc, &constant)?;
         add_terms(alloc, &mut self.slots, terms)
     }
 

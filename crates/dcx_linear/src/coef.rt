@@ -81,6 +81,12 @@ pub trait Coef: Drop {
     fn add(&self, alloc: Global, other: &Self) -> Result<Self, CoefStop>
         ensures { Gives result (sum_gives self.now other.now) };
 
+    /// The same sum, of a coefficient that is given away: one behind whose entries the other's stand grows in its place.
+    ///
+    /// `Passes` where an operation passes 128 bits: the first one.
+    fn plus(self, alloc: Global, other: &Self) -> Result<Self, CoefStop>
+        ensures { Gives result (sum_gives self other.now) };
+
     /// The product with a fraction, which stands on the left.
     ///
     /// `Passes` where an operation passes 128 bits: the first one.
@@ -104,7 +110,8 @@ pub trait Coef: Drop {
     ghost told_number: { (c : Self) (x : Frac) → number_of c ≡ Some x → c ≡ of_number x };
 
     /// A parameter's entry is what stands for it.
-    ghost parameter_value: { (position : ℕ) (name : List ℕ) (entry : ℕ) (setting : Pairs) (c : Self) (p : Parameters) → parameter_gives position name entry setting c → may_be setting name entry (p position entry) → value_at c p ≡ p position entry };
+    ghost parameter_value: { (position : ℕ) (name : List ℕ) (entry : ℕ) (setting : Pairs) (c : Self) (p : Parameters) → parameter_gives position name entry setting c
+        → may_be setting name entry (p position entry) → value_at c p ≡ p position entry };
 
     /// A sum is the sum at every assignment.
     ghost sum_value: { (a b c : Self) (p : Parameters) → sum_gives a b (Ok c) → value_at c p ≡ value_at a p +ℚ value_at b p };
@@ -122,7 +129,8 @@ pub trait Coef: Drop {
     ghost number_named: { (names : Names) (x : Frac) → is_named_by names (of_number x) };
 
     /// A parameter's entry is listed under its name.
-    ghost parameter_named: { (names : Names) (position : ℕ) (name : List ℕ) (entry : ℕ) (setting : Pairs) (c : Self) → IsNameOf names position name → parameter_gives position name entry setting c → is_named_by names c };
+    ghost parameter_named: { (names : Names) (position : ℕ) (name : List ℕ) (entry : ℕ) (setting : Pairs) (c : Self) → IsNameOf names position name
+        → parameter_gives position name entry setting c → is_named_by names c };
 
     /// A sum keeps the names.
     ghost sum_named: { (names : Names) (a b c : Self) → sum_gives a b (Ok c) → is_named_by names a → is_named_by names b → is_named_by names c };

@@ -32,17 +32,20 @@ pub fn entries_determine_terms()
 /// The number at a setting is what the affine number is where the setting's numbers stand for the entries, if each
 /// entry is listed under the name of its parameter.
 pub fn number_at_setting()
-    ensures { (names : Names) (setting : Pairs) (p : Parameters) (f : ParamForm) (x : Frac) → IsNamedForm names f → StandsFor names setting p → IsListedBy setting f → number_at setting f ≡ Ok x → value x ≡ form_value f p }
+    ensures { (names : Names) (setting : Pairs) (p : Parameters) (f : ParamForm) (x : Frac) → IsNamedForm names f → StandsFor names setting p → IsListedBy setting f
+        → number_at setting f ≡ Ok x → value x ≡ form_value f p }
 {}
 
 /// A sum of forms is the sum, at all unknowns and parameters.
 pub fn sum_of_forms<C: Coef>()
-    ensures { (f g h : Form C) (x : Unknowns) (p : Parameters) → sum_gives_linear C.number_of C.sum_gives f g (Ok h) → linear_value C.value_at h x p ≡ linear_value C.value_at f x p +ℚ linear_value C.value_at g x p }
+    ensures { (f g h : Form C) (x : Unknowns) (p : Parameters) → sum_gives_linear C.number_of C.sum_gives f g (Ok h)
+        → linear_value C.value_at h x p ≡ linear_value C.value_at f x p +ℚ linear_value C.value_at g x p }
 {}
 
 /// A form multiplied or divided by a fraction is so, at all unknowns and parameters.
 pub fn changed_forms<C: Coef>()
-    ensures { (change : Change) (f h : Form C) (x : Unknowns) (p : Parameters) → change_gives_linear C.number_of C.change_gives change f (Ok h) → linear_value C.value_at h x p ≡ changed change (linear_value C.value_at f x p) }
+    ensures { (change : Change) (f h : Form C) (x : Unknowns) (p : Parameters) → change_gives_linear C.number_of C.change_gives change f (Ok h)
+        → linear_value C.value_at h x p ≡ changed change (linear_value C.value_at f x p) }
 {}
 
 /// Adding two forms has one answer: one sum, or one operation that passes first.
@@ -52,7 +55,8 @@ pub fn one_sum_of_forms<C: Coef>()
 
 /// Multiplying or dividing a form has one answer.
 pub fn one_changed_form<C: Coef>()
-    ensures { (change : Change) (f : Form C) (r s : Result (Form C) Passes) → change_gives_linear C.number_of C.change_gives change f r → change_gives_linear C.number_of C.change_gives change f s → r ≡ s }
+    ensures { (change : Change) (f : Form C) (r s : Result (Form C) Passes) → change_gives_linear C.number_of C.change_gives change f r
+        → change_gives_linear C.number_of C.change_gives change f s → r ≡ s }
 {}
 
 /// The width of terms is above each of their unknowns.

@@ -63,6 +63,10 @@ impl Coef for Frac {
         Ok(Frac::add(*self, *other)?)
     }
 
+    fn plus(self, _alloc: Global, other: &Self) -> Result<Self, CoefStop> {
+        Ok(Frac::add(self, *other)?)
+    }
+
     fn scale(&self, _alloc: Global, by: &Frac) -> Result<Self, CoefStop> {
         Ok(Frac::mul(*by, *self)?)
     }

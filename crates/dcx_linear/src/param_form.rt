@@ -4,7 +4,7 @@ use crate::coef::Coef;
 use crate::entry::entry_at;
 use crate::param_term::{ParamTerm, ParamTerms, change_number};
 use crate::stop::CoefStop;
-use crate::term::{change_terms, copy_terms, sum_terms};
+use crate::term::{added_terms, change_terms, copy_terms, sum_terms};
 use dcx_frac::{Frac, Passes};
 use dcx_point::Setting;
 use dcx_shape::{Name, copy_name};
@@ -58,7 +58,8 @@ impl ParamForm {
 
 impl Coef for ParamForm {
     ghost use Rattle.dcx_linear.specs.ParamForms.{form_value, number_of_form, form_of_number, IsEntryForm, sum_gives_form, change_gives_form, IsNamedForm};
-    ghost use Rattle.dcx_linear.specs.ParamLaws.{form_number_value, form_told_number, form_entry_value, form_sum_value, form_change_value, one_form_sum, one_form_change, form_number_named, form_entry_named, form_sum_named, form_change_named};
+    ghost use Rattle.dcx_linear.specs.ParamLaws.{form_number_value, form_told_number, form_entry_value, form_sum_value, form_change_value, one_form_sum};
+    ghost use Rattle.dcx_linear.specs.ParamLaws.{one_form_change, form_number_named, form_entry_named, form_sum_named, form_change_named};
     ghost use Rattle.std.specs.Prelude.{refl};
 
     ghost value_at = { form_value };
@@ -129,6 +130,18 @@ impl Coef for ParamForm {
         let other_terms = other.terms.as_slice();
         let constant = Frac::add(self.constant, other.constant)?;
         let sum = sum_terms(alloc, terms, other_terms)?;
+        Ok(ParamForm {
+            constant,
+            terms: ParamTerms::from_vec(sum),
+        })
+    }
+
+    fn plus(self, alloc: Global, other: &Self) -> Result<Self, CoefStop> {
+        let ParamForm { constant, terms } = self;
+        let terms = terms.into_vec();
+        let other_terms = other.terms.as_slice();
+        let constant = Frac::add(constant, other.constant)?;
+        let sum = added_terms(alloc, terms, other_terms)?;
         Ok(ParamForm {
             constant,
             terms: ParamTerms::from_vec(sum),

@@ -15,7 +15,8 @@ ghost use Rattle.dcx_linear.specs.FormsAt.{frac_value, IsListedForm, form_at};
 /// A form at a setting is what it was where the setting's numbers stand for the entries, at all unknowns, if each entry is
 /// listed under the name of its parameter.
 pub fn forms_at_setting()
-    ensures { (names : Names) (setting : Pairs) (p : Parameters) (x : Unknowns) (f : Form ParamForm) (g : Form Frac) → IsNamedLinear IsNamedForm names f → StandsFor names setting p → IsListedForm setting f → form_at setting f ≡ Ok g → linear_value frac_value g x p ≡ linear_value form_value f x p }
+    ensures { (names : Names) (setting : Pairs) (p : Parameters) (x : Unknowns) (f : Form ParamForm) (g : Form Frac) → IsNamedLinear IsNamedForm names f → StandsFor names setting p
+        → IsListedForm setting f → form_at setting f ≡ Ok g → linear_value frac_value g x p ≡ linear_value form_value f x p }
 {}
 
 /// A form at a setting is no wider than before.

@@ -44,7 +44,8 @@ fn add_to<C: Coef>(alloc: Global, slot: &mut C, coefficient: C) -> Result<(), Co
     if vanishes(slot) {
         *slot = coefficient;
     } else {
-        *slot = slot.add(alloc, &coefficient)?;
+        let before = mem::replace(slot, C::zero(alloc));
+        *slot = before.plus(alloc, &coefficient)?;
     }
     Ok(())
 }
@@ -73,7 +74,8 @@ pub(crate) fn add_terms<C: Coef>(
     requires room { length slots.old.items ≤ 4294967296 }
     requires sparse { HoldsUnknowns C.number_of terms.items }
     ensures room { length slots.new.items ≤ 4294967296 }
-    ensures sum { GivesBy result (λ _. listed_from C.number_of 0 slots.new.items) (SumsTerms unknown_of (has_zero_coefficient C.number_of) (sum_gives_unknown C.sum_gives) (listed_from C.number_of 0 slots.old.items) terms.items) }
+    ensures sum { GivesBy result (λ _. listed_from C.number_of 0 slots.new.items)
+        (SumsTerms unknown_of (has_zero_coefficient C.number_of) (sum_gives_unknown C.sum_gives) (listed_from C.number_of 0 slots.old.items) terms.items) }
 {
     'terms: for term in terms {
         add_term(alloc, slots, term)?;

@@ -20,22 +20,26 @@ use crate::coef::Coef;
 
 /// A sum of parts is the sum of what they are, at all unknowns and parameters.
 pub fn sums_of_parts<C: Coef>()
-    ensures { (ps : List (Change × Form C)) (f h : Form C) (x : Unknowns) (p : Parameters) → adds_parts C.number_of C.sum_gives C.change_gives ps f (Ok h) → linear_value C.value_at h x p ≡ linear_value C.value_at f x p +ℚ parts_value C.value_at ps x p }
+    ensures { (ps : List (Change × Form C)) (f h : Form C) (x : Unknowns) (p : Parameters) → adds_parts C.number_of C.sum_gives C.change_gives ps f (Ok h)
+        → linear_value C.value_at h x p ≡ linear_value C.value_at f x p +ℚ parts_value C.value_at ps x p }
 {}
 
 /// Adding parts has one answer: one sum, or one operation that passes first.
 pub fn one_sum_of_parts<C: Coef>()
-    ensures { (ps : List (Change × Form C)) (f : Form C) (r s : Result (Form C) Passes) → adds_parts C.number_of C.sum_gives C.change_gives ps f r → adds_parts C.number_of C.sum_gives C.change_gives ps f s → r ≡ s }
+    ensures { (ps : List (Change × Form C)) (f : Form C) (r s : Result (Form C) Passes) → adds_parts C.number_of C.sum_gives C.change_gives ps f r
+        → adds_parts C.number_of C.sum_gives C.change_gives ps f s → r ≡ s }
 {}
 
 /// A sum of parts is no wider than they are.
 pub fn widths_of_parts<C: Coef>()
-    ensures { (n : ℕ) (ps : List (Change × Form C)) (f h : Form C) → adds_parts C.number_of C.sum_gives C.change_gives ps f (Ok h) → All (λ q. part_width q ≤ n) ps → form_width f ≤ n → form_width h ≤ n }
+    ensures { (n : ℕ) (ps : List (Change × Form C)) (f h : Form C) → adds_parts C.number_of C.sum_gives C.change_gives ps f (Ok h) → All (λ q. part_width q ≤ n) ps → form_width f ≤ n
+        → form_width h ≤ n }
 {}
 
 /// A coefficient times a form is so, at all unknowns and parameters.
 pub fn multiples_of_forms<C: Coef>()
-    ensures { (c : C) (f h : Form C) (x : Unknowns) (p : Parameters) → multiple_gives C.number_of C.change_gives c f (Ok h) → linear_value C.value_at h x p ≡ C.value_at c p *ℚ linear_value C.value_at f x p }
+    ensures { (c : C) (f h : Form C) (x : Unknowns) (p : Parameters) → multiple_gives C.number_of C.change_gives c f (Ok h)
+        → linear_value C.value_at h x p ≡ C.value_at c p *ℚ linear_value C.value_at f x p }
 {}
 
 /// A coefficient times a form has one answer.
@@ -55,17 +59,20 @@ pub fn names_of_unknowns<C: Coef>()
 
 /// A sum of parts keeps the names.
 pub fn names_of_parts<C: Coef>()
-    ensures { (names : Names) (ps : List (Change × Form C)) (f h : Form C) → adds_parts C.number_of C.sum_gives C.change_gives ps f (Ok h) → All (λ q. IsNamedLinear C.is_named_by names q.1) ps → IsNamedLinear C.is_named_by names f → IsNamedLinear C.is_named_by names h }
+    ensures { (names : Names) (ps : List (Change × Form C)) (f h : Form C) → adds_parts C.number_of C.sum_gives C.change_gives ps f (Ok h)
+        → All (λ q. IsNamedLinear C.is_named_by names q.1) ps → IsNamedLinear C.is_named_by names f → IsNamedLinear C.is_named_by names h }
 {}
 
 /// A sum of forms keeps the names.
 pub fn names_of_sums<C: Coef>()
-    ensures { (names : Names) (f g h : Form C) → sum_gives_linear C.number_of C.sum_gives f g (Ok h) → IsNamedLinear C.is_named_by names f → IsNamedLinear C.is_named_by names g → IsNamedLinear C.is_named_by names h }
+    ensures { (names : Names) (f g h : Form C) → sum_gives_linear C.number_of C.sum_gives f g (Ok h) → IsNamedLinear C.is_named_by names f → IsNamedLinear C.is_named_by names g
+        → IsNamedLinear C.is_named_by names h }
 {}
 
 /// A form multiplied or divided keeps the names.
 pub fn names_of_changed<C: Coef>()
-    ensures { (names : Names) (change : Change) (f h : Form C) → change_gives_linear C.number_of C.change_gives change f (Ok h) → IsNamedLinear C.is_named_by names f → IsNamedLinear C.is_named_by names h }
+    ensures { (names : Names) (change : Change) (f h : Form C) → change_gives_linear C.number_of C.change_gives change f (Ok h) → IsNamedLinear C.is_named_by names f
+        → IsNamedLinear C.is_named_by names h }
 {}
 
 /// A coefficient times a form has the names of the coefficient.

@@ -1,12 +1,13 @@
 //! Lists of terms with rising keys: their sum, and each term changed. Forms and affine numbers both stand on it.
-ghost use Rattle.std.specs.Prelude.{◌≡◌, ℕ, Bool, List, Result, Ok, Err, IfOk, IfErr, OnOk, ◌++◌, ◌∷◌, []};
+ghost use Rattle.std.specs.Prelude.{◌≡◌, ℕ, Bool, IsTrue, List, Result, Ok, Err, IfOk, IfErr, OnOk, ◌++◌, ◌∷◌, []};
 ghost use Rattle.std.specs.Ordering.{nat_cmp};
 ghost use Rattle.dcx_frac.specs.declared.fraction.Passes.{Passes};
 ghost use Rattle.dcx_linear.specs.declared.change.Change.{Change};
 ghost use Rattle.dcx_linear.specs.Changes.{IsAllowed};
 ghost use Rattle.dcx_linear.specs.Stops.{OnPass, Gives, GivesBy};
 ghost use Rattle.std.specs.Option.{option_to_list};
-ghost use Rattle.dcx_linear.specs.Terms.{kept, IsSparse, SumsTerms, ChangesTerms};
+ghost use Rattle.dcx_math.specs.Rising.{IsRising};
+ghost use Rattle.dcx_linear.specs.Terms.{kept, IsSparse, IsBehind, SumsTerms, ChangesTerms};
 
 use crate::change::Change;
 use crate::stop::CoefStop;
@@ -150,6 +151,36 @@ pub(crate) fn sum_terms<T: Term>(alloc: Global, a: &[T], b: &[T]) -> Result<Vec<
     let mut sum = Vec::new(alloc);
     push_sum(alloc, &mut sum, a, b)?;
     Ok(sum)
+}
+
+/// Whether the keys of one list stand behind those of the other.
+fn goes_on<T: Term>(a: &[T], b: &[T]) -> bool
+    requires left { IsRising T.key a.now }
+    requires right { IsRising T.key b.now }
+    ensures { IsTrue result → IsBehind T.key a.now b.now }
+{
+    if a.is_empty() || b.is_empty() {
+        return true;
+    }
+    match a[a.len() - 1].order(&b[0]) {
+        Ordering::Less => true,
+        Ordering::Equal | Ordering::Greater => false,
+    }
+}
+
+/// The sum of two lists of terms, formed by rising keys. The first one is given away, and the other is put at its end where its keys
+/// stand behind: a sum of many terms takes time for each term, and not for each term before it.
+pub(crate) fn added_terms<T: Term>(alloc: Global, a: Vec<T>, b: &[T]) -> Result<Vec<T>, CoefStop>
+    requires left { IsSparse T.key T.is_zero a.items }
+    requires right { IsSparse T.key T.is_zero b.now }
+    ensures { GivesBy result (λ v. v.items) (SumsTerms T.key T.is_zero T.sum_gives a.items b.now) }
+{
+    if goes_on(&a, b) {
+        let mut sum = a;
+        push_copies(alloc, &mut sum, b)?;
+        return Ok(sum);
+    }
+    sum_terms(alloc, &a, b)
 }
 
 /// A list of terms, each changed, formed by rising keys.

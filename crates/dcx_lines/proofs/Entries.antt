@@ -73,7 +73,8 @@ last_left count read rest ns r h = by h.left h.counted h.written
     by (x ∷ xs) counted written = absurd (omega (arith, counted))
 
 -- one more number is written
-pub read_more : (bytes : List ℕ) (read : List Frac) (rest : List ℕ) (f : Frac) (behind : List ℕ) → bytes ≡ flat_map entry_text read ++ rest → rest ≡ entry_text f ++ behind → bytes ≡ flat_map entry_text (read ++ f ∷ []) ++ behind
+pub read_more : (bytes : List ℕ) (read : List Frac) (rest : List ℕ) (f : Frac) (behind : List ℕ) → bytes ≡ flat_map entry_text read ++ rest → rest ≡ entry_text f ++ behind
+    → bytes ≡ flat_map entry_text (read ++ f ∷ []) ++ behind
 read_more bytes read rest f behind e h =
     e ∙ ap (λ t. flat_map entry_text read ++ t) h ∙ sym (append_assoc (flat_map entry_text read) (entry_text f) behind)
     ∙ ap (λ t. t ++ behind) (sym (flat_map-append entry_text read (f ∷ []) ∙ ap (λ t. flat_map entry_text read ++ t) (append-nil (entry_text f))))

@@ -62,7 +62,8 @@ frac_text_injective f g e = by (text_cases f) (text_cases g)
         absurd ((absent IsSigned (signed_decimal (num_of f)) (signed_decimal (den_of f)) 47 h).no_slash refl)
     by (inr a) (inr b) =
         let slash = λ (xs : List ℕ). let begins : BeginsWithout IsSigned (47 ∷ xs) = record { byte = 47; tail = xs; is = refl; without = λ h. h.no_slash refl } in begins in
-        let parts = same_before IsSigned (signed_decimal (num_of f)) (signed_decimal (num_of g)) (47 ∷ signed_decimal (den_of f)) (47 ∷ signed_decimal (den_of g)) (signed_bytes (num_of f)) (signed_bytes (num_of g)) (slash (signed_decimal (den_of f))) (slash (signed_decimal (den_of g))) (sym a.text ∙ e ∙ b.text) in
+        let parts = same_before IsSigned (signed_decimal (num_of f)) (signed_decimal (num_of g)) (47 ∷ signed_decimal (den_of f)) (47 ∷ signed_decimal (den_of g)) (signed_bytes (num_of f))
+        (signed_bytes (num_of g)) (slash (signed_decimal (den_of f))) (slash (signed_decimal (den_of g))) (sym a.text ∙ e ∙ b.text) in
         let second : 47 ∷ signed_decimal (den_of f) ≡ 47 ∷ signed_decimal (den_of g) = parts.1 in
         let dens : signed_decimal (den_of f) ≡ signed_decimal (den_of g) = cc in
         frac_from_parts f g (signed_injective (num_of f) (num_of g) f.num_fits g.num_fits parts.0) (signed_injective (den_of f) (den_of g) f.den_fits g.den_fits dens)

@@ -1,3 +1,4 @@
+-- The lemmas by which numbers, fractions and points are read back from their lines.
 pub mod Digits
 pub mod FracText
 pub mod Numbered

@@ -10,7 +10,8 @@ enumerate_from-push {X} n (y ∷ ys) x =
     ap (λ t. (n, y) ∷ t) (enumerate_from-push (n + 1) ys x ∙ ap (λ k. enumerate_from (n + 1) ys ++ (k, x) ∷ []) (omega arith))
 
 -- one more numbered line, where i lines are there
-pub numbered_more : {X : Type 0} (f : ℕ × X → List ℕ) (out : List ℕ) (xs : List X) (i n : ℕ) (x : X) → i < length xs → x ≡ get_or xs i x → n ≡ i + 1 → (out ++ flat_map f (enumerate_from 1 (take i xs))) ++ f (n, x) ≡ out ++ flat_map f (enumerate_from 1 (take (i + 1) xs))
+pub numbered_more : {X : Type 0} (f : ℕ × X → List ℕ) (out : List ℕ) (xs : List X) (i n : ℕ) (x : X) → i < length xs → x ≡ get_or xs i x → n ≡ i + 1
+    → (out ++ flat_map f (enumerate_from 1 (take i xs))) ++ f (n, x) ≡ out ++ flat_map f (enumerate_from 1 (take (i + 1) xs))
 numbered_more f out xs i n x within here numbered =
     let items : take (i + 1) xs ≡ take i xs ++ x ∷ [] = take_more xs i x within ∙ ap (λ y. take i xs ++ y ∷ []) (sym here) in
     let number : 1 + length (take i xs) ≡ n = omega (arith, length-take i xs) in

@@ -1,5 +1,5 @@
 -- The pairs of a point, place by place.
-use Rattle.std.proofs.Common.{◌≡◌, ℕ, zero, suc, ◌+◌, ◌<◌, List, [], ◌∷◌, ◌++◌, length, take, get_or, Some, None, refl, sym, ap, ◌∙◌, subst, arith, append_assoc}
+use Rattle.std.proofs.Common.{◌≡◌, ℕ, zero, suc, ◌+◌, ◌<◌, List, [], ◌∷◌, ◌++◌, length, take, get_or, Some, None, sym, ap, ◌∙◌, subst, arith, append_assoc}
 use Rattle.std.specs.Prelude.{IfSome}
 use Rattle.std.specs.List.{slice_get, flat_map}
 use Rattle.std.proofs.lemmas.Option.{none-some, same_Some, slice_get-get_or}
@@ -16,12 +16,6 @@ entry_at [] i name h = absurd (none-some name h)
 entry_at (p ∷ ps) zero name h = let same : p.0 ≡ name = same_Some p.0 name h in (p.1, λ i. Some (same i, p.1))
 entry_at (p ∷ ps) (suc i) name h = entry_at ps i name h
 
--- past the names there is no pair
-pub none_at : (ps : Pairs) (i : ℕ) → slice_get (names_of ps) i ≡ None → slice_get ps i ≡ None
-none_at [] i h = refl
-none_at (p ∷ ps) zero h = absurd (none-some p.0 (sym h))
-none_at (p ∷ ps) (suc i) h = none_at ps i h
-
 module _ (ps : Pairs) (i : ℕ) (name : List ℕ) (distinct : AreDistinct ps) (at : slice_get (names_of ps) i ≡ Some name) where
   found_at : array_of ps name ≡ Some (entry_at ps i name at).0
   found_at = lookup_from_place nat_list_eq_equiv ps i name (entry_at ps i name at).0 distinct (entry_at ps i name at).1
@@ -37,7 +31,8 @@ module _ (ps : Pairs) (i : ℕ) (name : List ℕ) (distinct : AreDistinct ps) (a
   not_missing h = none-some (entry_at ps i name at).0 (sym h ∙ found_at)
 
 -- one more line
-pub lines_more : {A : Type 0} (line : A → List ℕ) (xs : List A) (i : ℕ) (start old new : List ℕ) → i < length xs → old ≡ start ++ flat_map line (take i xs) → IfSome (slice_get xs i) (λ x. new ≡ old ++ line x) → new ≡ start ++ flat_map line (take (i + 1) xs)
+pub lines_more : {A : Type 0} (line : A → List ℕ) (xs : List A) (i : ℕ) (start old new : List ℕ) → i < length xs → old ≡ start ++ flat_map line (take i xs)
+    → IfSome (slice_get xs i) (λ x. new ≡ old ++ line x) → new ≡ start ++ flat_map line (take (i + 1) xs)
 lines_more line [] i start old new l h more = absurd (omega (arith, l))
 lines_more line (x ∷ xs) i start old new l h more =
     let item = get_or (x ∷ xs) i x in

@@ -1,13 +1,9 @@
 -- What the lines of an answer tell, where the names and the shapes are known.
-use Rattle.std.proofs.Common.{◌≡◌, ℕ, ◌+◌, List, [], ◌∷◌, ◌++◌, length, map, refl, sym, ap, ◌∙◌, arith, append_assoc}
+use Rattle.std.proofs.Common.{◌≡◌, ℕ, ◌+◌, List, [], ◌∷◌, ◌++◌, map, refl, sym, ap, ◌∙◌, arith, append_assoc}
 use Rattle.std.proofs.lemmas.List.{append_cancel_left}
 use Rattle.std.specs.List.{AllZip, flat_map, enumerate_from}
 use Rattle.std.specs.Prelude.{codes, decimal}
-use mathlib.Core.HLevel.{is_prop→PathP}
-use native.Mathlib.Nat.{ℕ_set}
 use Rattle.dcx_shape.specs.declared.shape.Shape.{Shape}
-use Rattle.dcx_shape.specs.Shape.{sides_of}
-use Rattle.dcx_shape.specs.Sides.{entries_of}
 use Rattle.dcx_frac.specs.declared.fraction.Frac.{Frac}
 use Rattle.dcx_frac.specs.Text.{frac_text}
 use Rattle.dcx_atom.specs.declared.array.Array.{Array}
@@ -17,6 +13,7 @@ use Rattle.dcx_lines.specs.Lines.{named_line, dual_line, number_line}
 use Rattle.dcx_lines.specs.Shown.{variables_of, constraints_of}
 use Rattle.dcx_lines.specs.Reading.{IsInk, BeginsWithout}
 use Rattle.dcx_lines.proofs.FracText.{same_before, frac_ink, frac_text_injective}
+use Rattle.dcx_atom.proofs.OneArray.{array_from_parts}
 
 -- equal lists have one first byte
 pub first_same : (m n : ℕ) (r s : List ℕ) → m ∷ r ≡ n ∷ s → m ≡ n
@@ -46,21 +43,16 @@ entries_read [] (y ∷ ys) r s e = absurd (omega (arith, first_same 10 32 _ _ e)
 entries_read (x ∷ xs) [] r s e = absurd (omega (arith, first_same 32 10 _ _ e))
 entries_read (x ∷ xs) (y ∷ ys) r s e =
     let tail : (frac_text x ++ flat_map entry_text xs) ++ 10 ∷ r ≡ (frac_text y ++ flat_map entry_text ys) ++ 10 ∷ s = cc in
-    let parts = frac_read x y (flat_map entry_text xs ++ 10 ∷ r) (flat_map entry_text ys ++ 10 ∷ s) (entries_end xs r) (entries_end ys s) (sym (append_assoc (frac_text x) (flat_map entry_text xs) (10 ∷ r)) ∙ tail ∙ append_assoc (frac_text y) (flat_map entry_text ys) (10 ∷ s)) in
+    let parts = frac_read x y (flat_map entry_text xs ++ 10 ∷ r) (flat_map entry_text ys ++ 10 ∷ s) (entries_end xs r) (entries_end ys s)
+    (sym (append_assoc (frac_text x) (flat_map entry_text xs) (10 ∷ r)) ∙ tail ∙ append_assoc (frac_text y) (flat_map entry_text ys) (10 ∷ s)) in
     let rest = entries_read xs ys r s parts.1 in
     let head : x ≡ y = parts.0 in
     let others : xs ≡ ys = rest.0 in
     ((cc), rest.1)
 
-array_from_parts : (a b : Array) → a.shape ≡ b.shape → a.entries ≡ b.entries → a ≡ b
-array_from_parts a b p q = λ i. record {
-  shape = p i;
-  entries = q i;
-  full = is_prop→PathP (λ j. length (q j) ≡ entries_of (sides_of (p j))) (λ j. ℕ_set (length (q j)) (entries_of (sides_of (p j)))) a.full b.full i;
-}
-
 -- a line that ends with an array, and what stands behind it
-pub line_read : (front other : List ℕ) (a b : Array) (r s : List ℕ) → front ≡ other → a.shape ≡ b.shape → ((front ++ array_text a) ++ 10 ∷ []) ++ r ≡ ((other ++ array_text b) ++ 10 ∷ []) ++ s → (a ≡ b) × (r ≡ s)
+pub line_read : (front other : List ℕ) (a b : Array) (r s : List ℕ) → front ≡ other → a.shape ≡ b.shape → ((front ++ array_text a) ++ 10 ∷ []) ++ r ≡ ((other ++ array_text b) ++ 10 ∷ []) ++ s
+    → (a ≡ b) × (r ≡ s)
 unfolding array_text
 line_read front other a b r s same shapes e =
     let whole = λ (p : List ℕ) (c : Array) (t : List ℕ).
@@ -85,7 +77,8 @@ number_read word f g r s e =
     (parts.0, (cc))
 
 -- lines of two lists that can be read one by one can be read together
-pub lines_read : {A : Type 0} (f : A → List ℕ) (R : A → A → Type 0) → ((a b : A) (r s : List ℕ) → R a b → f a ++ r ≡ f b ++ s → (a ≡ b) × (r ≡ s)) → (xs ys : List A) (r s : List ℕ) → AllZip R xs ys → flat_map f xs ++ r ≡ flat_map f ys ++ s → (xs ≡ ys) × (r ≡ s)
+pub lines_read : {A : Type 0} (f : A → List ℕ) (R : A → A → Type 0) → ((a b : A) (r s : List ℕ) → R a b → f a ++ r ≡ f b ++ s → (a ≡ b) × (r ≡ s)) → (xs ys : List A) (r s : List ℕ) → AllZip R xs ys
+    → flat_map f xs ++ r ≡ flat_map f ys ++ s → (xs ≡ ys) × (r ≡ s)
 lines_read f R read [] [] r s h e = (refl, e)
 lines_read f R read [] (y ∷ ys) r s h e = absurd h
 lines_read f R read (x ∷ xs) [] r s h e = absurd h
@@ -153,7 +146,8 @@ items_of n [] = refl
 items_of n (x ∷ xs) = ap (λ t. x ∷ t) (items_of (n + 1) xs)
 
 -- the lines of the multipliers, and what stands behind them
-pub duals_read : (xs ys : List Array) (r s : List ℕ) → constraints_of xs ≡ constraints_of ys → flat_map dual_line (enumerate_from 1 xs) ++ r ≡ flat_map dual_line (enumerate_from 1 ys) ++ s → (xs ≡ ys) × (r ≡ s)
+pub duals_read : (xs ys : List Array) (r s : List ℕ) → constraints_of xs ≡ constraints_of ys → flat_map dual_line (enumerate_from 1 xs) ++ r ≡ flat_map dual_line (enumerate_from 1 ys) ++ s
+    → (xs ≡ ys) × (r ≡ s)
 duals_read xs ys r s same e =
     let parts = lines_read dual_line SameConstraint (λ a b. dual_read a b) (enumerate_from 1 xs) (enumerate_from 1 ys) r s (same_constraints 1 xs ys same) e in
     (sym (items_of 1 xs) ∙ ap (map (λ (p : ℕ × Array). p.1)) parts.0 ∙ items_of 1 ys, parts.1)

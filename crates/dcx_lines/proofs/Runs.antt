@@ -1,21 +1,12 @@
 -- Runs of bytes of one kind: where they end, and that they end at one place alone.
-use Rattle.std.proofs.Common.{◌≡◌, ℕ, ◌+◌, ◌<◌, ◌≤◌, List, [], ◌∷◌, ◌++◌, length, get_or, take, drop, ◌⊎◌, inl, inr, Bool, true, false, refl, sym, ap, ◌∙◌, subst, arith, add-one, drop-cons}
+use Rattle.std.proofs.Common.{◌≡◌, ℕ, ◌+◌, ◌<◌, ◌≤◌, List, [], ◌∷◌, ◌++◌, length, drop, ◌⊎◌, inl, inr, Bool, true, false, refl, sym, ap, ◌∙◌, subst, arith}
 use Rattle.std.proofs.Math.ListN.{drop_of_length-le}
 use Rattle.std.proofs.lemmas.Bool.Decides.{nat_tests}
-use Rattle.std.proofs.lemmas.List.{take_more, append-nil}
+use Rattle.std.proofs.lemmas.List.{append-nil}
 use Rattle.std.specs.Prelude.{nat_lt}
 use Rattle.std.specs.List.{AllByRecursion}
 use Rattle.dcx_lines.specs.Reading.{BeginsWithout}
-use Rattle.dcx_lines.proofs.Digits.{bytes_append}
 use Rattle.dcx_lines.proofs.FracText.{same_before, absent}
-
--- one more byte of the kind
-pub run_more : (P : ℕ → Type 0) (bs : List ℕ) (i : ℕ) → i < length bs → AllByRecursion P (take i bs) → P (get_or bs i 0) → AllByRecursion P (take (i + 1) bs)
-run_more P bs i l h p = subst (AllByRecursion P) (sym (take_more bs i 0 l)) (bytes_append P (take i bs) (get_or bs i 0 ∷ []) h (p, tt))
-
--- a byte of another kind ends the run
-pub run_ends : (P : ℕ → Type 0) (bs : List ℕ) (i : ℕ) → i < length bs → (P (get_or bs i 0) → ⊥) → BeginsWithout P (drop i bs)
-run_ends P bs i l h = record { byte = get_or bs i 0; tail = drop (i + 1) bs; is = rw (add-one, drop-cons bs i 0) refl; without = h }
 
 -- what stands behind a run is nothing, or begins with another byte
 abbrev pub Ends : (ℕ → Type 0) → List ℕ → Type 0

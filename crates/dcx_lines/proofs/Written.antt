@@ -1,5 +1,6 @@
 -- Numbers are read from their own texts.
-use Rattle.std.proofs.Common.{◌≡◌, ◌≢◌, ℕ, suc, ◌-◌, ◌^◌, ◌<◌, ◌↔◌, ℤ, pos, negsuc, neg_ℤ, ◌*ℤ◌, ◌<ℤ◌, unsigned_abs, List, [], ◌∷◌, ◌++◌, min, Option, Some, None, IsSome, IfSome, ◌⊎◌, inl, inr, refl, sym, ap, ap₂, ◌∙◌, subst, arith}
+use Rattle.std.proofs.Common.{◌≡◌, ◌≢◌, ℕ, suc, ◌-◌, ◌^◌, ◌<◌, ◌↔◌, ℤ, pos, negsuc, neg_ℤ, ◌*ℤ◌, ◌<ℤ◌, unsigned_abs, List, [], ◌∷◌, ◌++◌, min}
+use Rattle.std.proofs.Common.{Option, Some, None, IsSome, IfSome, ◌⊎◌, inl, inr, refl, sym, ap, ap₂, ◌∙◌, subst, arith}
 use Rattle.std.proofs.lemmas.Int.{ints}
 use Rattle.std.proofs.lemmas.Bool.{false≢true}
 use Rattle.std.proofs.lemmas.List.{append-nil}
@@ -31,7 +32,8 @@ worth_read n w ds small e h =
     omega (arith, v, h, small)
 
 -- digits behind a sign
-pub read_below : (z : ℤ) (bytes ds : List ℕ) (w : ℕ) (r : Option ℤ) → unsigned_abs z < 2 ^ 127 → bytes ≡ signed_decimal z → bytes ≡ 45 ∷ ds → w ≡ min (worth_of ds) (2 ^ 128 - 1) → (w < 2 ^ 127 → r ≡ Some (neg_ℤ (pos w))) → r ≡ Some z
+pub read_below : (z : ℤ) (bytes ds : List ℕ) (w : ℕ) (r : Option ℤ) → unsigned_abs z < 2 ^ 127 → bytes ≡ signed_decimal z → bytes ≡ 45 ∷ ds → w ≡ min (worth_of ds) (2 ^ 128 - 1)
+    → (w < 2 ^ 127 → r ≡ Some (neg_ℤ (pos w))) → r ≡ Some z
 read_below (pos n) bytes ds w r small e b h read = absurd (no_sign n ds (sym b ∙ e))
 read_below (negsuc n) bytes ds w r small e b h read =
     let same : 45 ∷ ds ≡ 45 ∷ decimal (suc n) = sym b ∙ e in
@@ -40,7 +42,8 @@ read_below (negsuc n) bytes ds w r small e b h read =
     read (omega arith) ∙ ap (λ k. Some (neg_ℤ (pos k))) is
 
 -- and without one
-pub read_above : (z : ℤ) (bytes : List ℕ) (w : ℕ) (r : Option ℤ) → unsigned_abs z < 2 ^ 127 → bytes ≡ signed_decimal z → ((ds : List ℕ) → bytes ≡ 45 ∷ ds → ⊥) → w ≡ min (worth_of bytes) (2 ^ 128 - 1) → (w < 2 ^ 127 → r ≡ Some (pos w)) → r ≡ Some z
+pub read_above : (z : ℤ) (bytes : List ℕ) (w : ℕ) (r : Option ℤ) → unsigned_abs z < 2 ^ 127 → bytes ≡ signed_decimal z → ((ds : List ℕ) → bytes ≡ 45 ∷ ds → ⊥)
+    → w ≡ min (worth_of bytes) (2 ^ 128 - 1) → (w < 2 ^ 127 → r ≡ Some (pos w)) → r ≡ Some z
 read_above (pos n) bytes w r small e b h read =
     let is : w ≡ n = worth_read n w bytes small e h in
     read (omega arith) ∙ ap (λ k. Some (pos k)) is
@@ -66,7 +69,8 @@ found f None some h = absurd (false≢true some)
 found f (Some g) some h = ap Some (value_injective g f h)
 
 -- and it is made of them
-pub made : (f : Frac) (n d : ℤ) (r : Option Frac) → n ≡ num_of f → d ≡ den_of f → (IsSome r ↔ ((d ≢ pos 0) × IsRepresentable (whole n /ℚ whole d))) → IfSome r (λ g. value g ≡ whole n /ℚ whole d) → r ≡ Some f
+pub made : (f : Frac) (n d : ℤ) (r : Option Frac) → n ≡ num_of f → d ≡ den_of f → (IsSome r ↔ ((d ≢ pos 0) × IsRepresentable (whole n /ℚ whole d))) → IfSome r (λ g. value g ≡ whole n /ℚ whole d)
+    → r ≡ Some f
 made f n d r en ed exists is =
     let same : whole n /ℚ whole d ≡ value f = ap₂ (λ a b. whole a /ℚ whole b) en ed ∙ quotient_is f in
     let some : d ≢ pos 0 = λ z. not_zero (den_of f) f.positive (sym ed ∙ z) in

@@ -1,3 +1,4 @@
+-- The lemmas by which linked cells keep the numbers of a matrix.
 pub mod Lines
 pub mod Numbers
 pub mod Stores
@@ -11,3 +12,4 @@ pub mod Listed
 pub mod Matrices
 pub mod Steps
 pub mod Passes
+pub mod Rewrites

@@ -12,8 +12,10 @@
 
 pub mod laws;
 mod links;
+mod number;
 mod pair;
 mod reserve;
+mod rewrite;
 mod search;
 mod store;
 mod walk;

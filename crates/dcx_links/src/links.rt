@@ -1,33 +1,19 @@
 //! The matrix.
-ghost use Rattle.std.specs.Prelude.{◌≡◌, ℕ, ◌<◌, pos, IfOk, length};
+ghost use Rattle.std.specs.Prelude.{◌≡◌, ◌≢◌, ℕ, ◌<◌, ◌^◌, pos, ◌-ℤ◌, ◌*ℤ◌, ◌<ℤ◌, unsigned_abs, IfOk};
+ghost use Prim.Native.Nat.{◌∣◌};
+ghost use Rattle.dcx_math.specs.Divisors.{divided};
 ghost use Rattle.dcx_links.specs.Matrix.{number_at, row_of, column_of};
-ghost use Rattle.dcx_links.specs.Cells.{number_in, IsSound};
 
+use crate::number::number_near;
 use crate::pair::{Ahead, PairWalk};
 use crate::reserve::{make_heads, store_of};
-use crate::search::row_spot;
+use crate::rewrite::{divide_row, multiply_row};
 use crate::store::{NONE, Store};
 use crate::walk::{ColumnWalk, RowWalk};
-use crate::write::{Near, put};
+use crate::write::{Near, lessen, put};
 use std::alloc::{AllocError, Global};
 use std::cell::Cell;
 use std::marker::Model;
-
-/// The number at a place, looked for from the cell that was seen last, if that stands before it in its row, and else from the
-/// head. The cell before the place is then the one that was seen last.
-fn number_near(store: &Store, row: u32, column: u32, seen: &Cell<u32>) -> i128
-    requires sound { IsSound store.now }
-    requires row { row < length store.now.row_heads.items }
-    ensures { result ≡ number_in store.now row column }
-{
-    let spot = row_spot(&store.cells, &store.row_heads, row, column, seen.get());
-    seen.set(spot.from.unwrap_or(NONE));
-    if spot.link == NONE {
-        return 0;
-    }
-    let cell = store.cells[spot.link as usize];
-    if cell.column == column { cell.value } else { 0 }
-}
 
 /// A sparse matrix. Its memory is taken once, for a number at each place.
 #[derive(Drop)]
@@ -95,6 +81,51 @@ impl Links {
         let near = put(&mut self.store, row, column, value, start);
         self.near_rows[row as usize] = near.in_row;
         self.near_columns[column as usize] = near.in_column;
+    }
+
+    /// Takes a number from that at a place.
+    pub fn subtract(&mut self, row: u32, column: u32, by: i128)
+        requires row { row < self.old.height }
+        requires column { column < self.old.width }
+        requires fits { unsigned_abs (number_at self.old row column -ℤ by) < 2 ^ 127 }
+        ensures there { number_at self.new row column ≡ number_at self.old row column -ℤ by }
+        ensures same { (r c : ℕ) → ¬ ((r ≡ row) × (c ≡ column)) → number_at self.new r c ≡ number_at self.old r c }
+        ensures height { self.new.height ≡ self.old.height }
+        ensures width { self.new.width ≡ self.old.width }
+    {
+        let start = Near {
+            in_row: self.near_rows[row as usize],
+            in_column: self.near_columns[column as usize],
+        };
+        let near = lessen(&mut self.store, row, column, by, start);
+        self.near_rows[row as usize] = near.in_row;
+        self.near_columns[column as usize] = near.in_column;
+    }
+
+    /// Multiplies the numbers of a row by a factor other than 0.
+    pub fn multiply(&mut self, row: u32, by: i128)
+        requires row { row < self.old.height }
+        requires some { by ≢ pos 0 }
+        requires fits { (c : ℕ) → c < self.old.width → unsigned_abs (by *ℤ number_at self.old row c) < 2 ^ 127 }
+        ensures there { (c : ℕ) → number_at self.new row c ≡ by *ℤ number_at self.old row c }
+        ensures same { (r c : ℕ) → r ≢ row → number_at self.new r c ≡ number_at self.old r c }
+        ensures height { self.new.height ≡ self.old.height }
+        ensures width { self.new.width ≡ self.old.width }
+    {
+        multiply_row(&mut self.store, row, by);
+    }
+
+    /// Divides the numbers of a row by a common divisor.
+    pub fn divide(&mut self, row: u32, by: i128)
+        requires row { row < self.old.height }
+        requires positive { pos 0 <ℤ by }
+        requires divides { (c : ℕ) → c < self.old.width → unsigned_abs by ∣ unsigned_abs (number_at self.old row c) }
+        ensures there { (c : ℕ) → number_at self.new row c ≡ divided (unsigned_abs by) (number_at self.old row c) }
+        ensures same { (r c : ℕ) → r ≢ row → number_at self.new r c ≡ number_at self.old r c }
+        ensures height { self.new.height ≡ self.old.height }
+        ensures width { self.new.width ≡ self.old.width }
+    {
+        divide_row(&mut self.store, row, by);
     }
 
     /// The numbers of a row other than 0, by rising columns.

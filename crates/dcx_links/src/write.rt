@@ -1,8 +1,9 @@
 //! Numbers put at places, and taken from them.
-ghost use Rattle.std.specs.Prelude.{◌≡◌, ◌≢◌, ℕ, ◌<◌, length, pos, IfSome};
+ghost use Rattle.std.specs.Prelude.{◌≡◌, ◌≢◌, ℕ, ◌<◌, ◌^◌, length, pos, ◌-ℤ◌, unsigned_abs, IfSome};
 ghost use Rattle.dcx_links.specs.Lines.{IsSpot, link_of};
 ghost use Rattle.dcx_links.specs.Cells.{head_at, InRow, InColumn, IsAt, next_in_row_at, next_in_column_at, bound_in_row, bound_in_column, number_in, with_next_in_row, with_next_in_column, with_head, IsSound};
 
+use crate::number::number_at_spot;
 use crate::search::{Spot, column_spot, is_there, row_spot};
 use crate::store::{Cell, NONE, Store};
 
@@ -125,10 +126,11 @@ fn remove_at(store: &mut Store, row: u32, column: u32, in_row: Spot, in_column: 
 }
 
 /// Puts another number in the place of one, none of both 0.
-fn change_at(store: &mut Store, at: u32, row: u32, column: u32, value: i128)
+pub(crate) fn change_at(store: &mut Store, at: u32, row: u32, column: u32, value: i128)
     requires sound { IsSound store.old }
     requires number { value ≢ pos 0 }
     requires here { IsAt store.old.cells.items at row column }
+    ensures here { IsAt store.new.cells.items at row column }
     ensures sound { IsSound store.new }
     ensures rows { length store.new.row_heads.items ≡ length store.old.row_heads.items }
     ensures columns { length store.new.column_heads.items ≡ length store.old.column_heads.items }
@@ -190,9 +192,41 @@ fn take_out(store: &mut Store, row: u32, column: u32, in_row: Spot, near: u32) -
     }
 }
 
-/// Puts a number at a place. The column is searched only where a cell comes to it or leaves it.
+/// Puts a number at a place whose spot was found before. The column is searched only where a cell comes to it or leaves it.
 ///
 /// Answers the cells at the place, or before it, as far as it found them.
+fn put_at(store: &mut Store, row: u32, column: u32, value: i128, in_row: Spot, near: u32) -> Near
+    requires sound { IsSound store.old }
+    requires row { row < length store.old.row_heads.items }
+    requires column { column < length store.old.column_heads.items }
+    requires in_row { IsSpot (InRow store.old.cells.items) row column in_row.from (bound_in_row store.old.cells.items in_row.from) in_row.link }
+    requires row_link { in_row.link ≡ link_of (head_at store.old.row_heads.items) (next_in_row_at store.old.cells.items) row in_row.from }
+    ensures sound { IsSound store.new }
+    ensures rows { length store.new.row_heads.items ≡ length store.old.row_heads.items }
+    ensures columns { length store.new.column_heads.items ≡ length store.old.column_heads.items }
+    ensures there { number_in store.new row column ≡ value }
+    ensures same { (r c : ℕ) → ¬ ((r ≡ row) × (c ≡ column)) → number_in store.new r c ≡ number_in store.old r c }
+{
+    if is_there(&store.cells, row, column, in_row) {
+        if value == 0 {
+            return take_out(store, row, column, in_row, near);
+        }
+        change_at(store, in_row.link, row, column, value);
+        return Near {
+            in_row: in_row.link,
+            in_column: in_row.link,
+        };
+    }
+    if value == 0 {
+        return Near {
+            in_row: in_row.from.unwrap_or(NONE),
+            in_column: near,
+        };
+    }
+    put_in(store, row, column, value, in_row, near)
+}
+
+/// Puts a number at a place.
 pub(crate) fn put(store: &mut Store, row: u32, column: u32, value: i128, near: Near) -> Near
     requires sound { IsSound store.old }
     requires row { row < length store.old.row_heads.items }
@@ -204,21 +238,22 @@ pub(crate) fn put(store: &mut Store, row: u32, column: u32, value: i128, near: N
     ensures same { (r c : ℕ) → ¬ ((r ≡ row) × (c ≡ column)) → number_in store.new r c ≡ number_in store.old r c }
 {
     let in_row = row_spot(&store.cells, &store.row_heads, row, column, near.in_row);
-    if is_there(&store.cells, row, column, in_row) {
-        if value == 0 {
-            return take_out(store, row, column, in_row, near.in_column);
-        }
-        change_at(store, in_row.link, row, column, value);
-        return Near {
-            in_row: in_row.link,
-            in_column: near.in_column,
-        };
-    }
-    if value == 0 {
-        return Near {
-            in_row: in_row.from.unwrap_or(NONE),
-            in_column: near.in_column,
-        };
-    }
-    put_in(store, row, column, value, in_row, near.in_column)
+    put_at(store, row, column, value, in_row, near.in_column)
+}
+
+/// Takes a number from that at a place.
+pub(crate) fn lessen(store: &mut Store, row: u32, column: u32, by: i128, near: Near) -> Near
+    requires sound { IsSound store.old }
+    requires row { row < length store.old.row_heads.items }
+    requires column { column < length store.old.column_heads.items }
+    requires fits { unsigned_abs (number_in store.old row column -ℤ by) < 2 ^ 127 }
+    ensures sound { IsSound store.new }
+    ensures rows { length store.new.row_heads.items ≡ length store.old.row_heads.items }
+    ensures columns { length store.new.column_heads.items ≡ length store.old.column_heads.items }
+    ensures there { number_in store.new row column ≡ number_in store.old row column -ℤ by }
+    ensures same { (r c : ℕ) → ¬ ((r ≡ row) × (c ≡ column)) → number_in store.new r c ≡ number_in store.old r c }
+{
+    let in_row = row_spot(&store.cells, &store.row_heads, row, column, near.in_row);
+    let number = number_at_spot(store, row, column, in_row);
+    put_at(store, row, column, number - by, in_row, near.in_column)
 }

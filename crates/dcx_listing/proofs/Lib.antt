@@ -1,2 +1,2 @@
--- Lemmas of this crate.
+-- The lemma by which what a program with affine coefficients lists has arrays.
 pub mod Maps

@@ -61,11 +61,13 @@ multiplier_is status kind n x e = by (shifted status kind n.reduced_cost) refl e
         ∙ ap (turned_if (not (is_at_most kind) && n.negated))
         (product_formed n.factor y z p ∙ *ℚ_comm (value n.factor) (value y) ∙ ap (λ w. w *ℚ value n.factor) (shifted_is status kind n.reduced_cost y s))
 
-    next : (y : Frac) → shifted status kind n.reduced_cost ≡ Ok y → (r : Result Frac Passes) → product_of n.factor y ≡ r → and_then r (λ z. Ok (turned kind n.negated z)) ≡ Ok x → value x ≡ exact status kind n
+    next : (y : Frac) → shifted status kind n.reduced_cost ≡ Ok y → (r : Result Frac Passes) → product_of n.factor y ≡ r → and_then r (λ z. Ok (turned kind n.negated z)) ≡ Ok x
+        → value x ≡ exact status kind n
     next y s (Ok z) p g = let t : turned kind n.negated z ≡ x = cc in last y z s p t
     next y s (Err passes) p g = cc
 
-    by : (r : Result Frac Passes) → shifted status kind n.reduced_cost ≡ r → and_then r (λ y. and_then (product_of n.factor y) (λ z. Ok (turned kind n.negated z))) ≡ Ok x → value x ≡ exact status kind n
+    by : (r : Result Frac Passes) → shifted status kind n.reduced_cost ≡ r → and_then r (λ y. and_then (product_of n.factor y) (λ z. Ok (turned kind n.negated z))) ≡ Ok x
+        → value x ≡ exact status kind n
     by (Ok y) s g = next y s (product_of n.factor y) refl g
     by (Err passes) s g = cc
 

@@ -3,9 +3,6 @@ use Rattle.std.proofs.Common.{◌≡◌, ◌≢◌, ◌<◌, ◌^◌, ℤ, pos, 
 use Rattle.std.specs.Prelude.{◌<ℤ◌, neg_ℤ}
 use Rattle.std.proofs.lemmas.Int.{ints}
 use Rattle.dcx_math.specs.Rational.{ℚ, whole, ◌/ℚ◌, neg_ℚ, ◌<ℚ◌}
-use Rattle.dcx_math.specs.Divisors.{IsCoprime}
-use Rattle.dcx_math.specs.LowestTerms.{IsInLowestTerms}
-use Rattle.dcx_math.proofs.Denominators.{ratio-neg_ℚ}
 use Rattle.dcx_math.proofs.Orders.{*ℚ_idr, <ℚ-≢}
 use Rattle.dcx_math.proofs.Products.{*ℚ-positive, inverse-positive, whole-<ℤ, zero-<ℚ-one, /ℚ-unique}
 use Rattle.dcx_math.proofs.Ring.{/ℚ-is}
@@ -15,7 +12,7 @@ use Rattle.dcx_frac.specs.Fits.{IsRepresentable, representable}
 use Rattle.dcx_frac.specs.Results.{frac_of}
 use Rattle.dcx_frac.proofs.Results.{value-frac_of}
 use Rattle.dcx_frac.proofs.Representable.{representable_quotient}
-use Rattle.dcx_frac.proofs.Turns.{neg_size}
+use Rattle.dcx_frac.proofs.Turns.{neg_size, neg_lowest}
 use Rattle.dcx_atom.specs.Formed.{frac_at}
 use Rattle.dcx_atom.proofs.FormedSums.{frac_at-value}
 
@@ -23,16 +20,10 @@ use Rattle.dcx_atom.proofs.FormedSums.{frac_at-value}
 pub value-frac_at : (x : ℚ) → IsRepresentable x → value (frac_at x) ≡ x
 value-frac_at x h = ap (λ y. value (frac_at y)) (sym (value-frac_of x h)) ∙ ap value (frac_at-value (frac_of x h)) ∙ value-frac_of x h
 
-negative_lowest : (x : Frac) → IsInLowestTerms (neg_ℚ (value x)) (neg_ℤ (num_of x)) (den_of x)
-negative_lowest x = record {
-  positive = x.positive;
-  coprime = subst (λ m. IsCoprime m (unsigned_abs (den_of x))) (sym (neg_size (num_of x))) x.lowest;
-  is = ratio-neg_ℚ (den_of x) x.positive (num_of x);
-}
-
 -- the negative of a fraction is one
 pub value-negative : (x : Frac) → value (frac_at (neg_ℚ (value x))) ≡ neg_ℚ (value x)
-value-negative x = value-frac_at (neg_ℚ (value x)) (representable (neg_ℚ (value x)) (neg_ℤ (num_of x)) (den_of x) (negative_lowest x) (subst (λ n. n < 2 ^ 127) (sym (neg_size (num_of x))) x.num_fits) x.den_fits)
+value-negative x = value-frac_at (neg_ℚ (value x)) (representable (neg_ℚ (value x)) (neg_ℤ (num_of x)) (den_of x) (neg_lowest x)
+    (subst (λ n. n < 2 ^ 127) (sym (neg_size (num_of x))) x.num_fits) x.den_fits)
 
 pub over_one : (x : ℚ) → x /ℚ whole (pos 1) ≡ x
 over_one x = /ℚ-unique x (whole (pos 1)) x (λ z. <ℚ-≢ zero-<ℚ-one (sym z)) (*ℚ_idr x)

@@ -75,7 +75,8 @@ combined_rows p a ys = rat_sum_below (length p.rows) (λ i. multiplier_at p.colu
 
 -- one of the two columns of a free unknown is 0 at least
 abbrev pub IsOneSided : List ColumnKind → List ℚ → Type 0
-IsOneSided kinds xs = (j k u : ℕ) → j < length kinds → k < length kinds → kind_at kinds j ≡ Unknown u false → kind_at kinds k ≡ Unknown u true → (rat_at xs j ≡ whole (pos 0)) ⊎ (rat_at xs k ≡ whole (pos 0))
+IsOneSided kinds xs = (j k u : ℕ) → j < length kinds → k < length kinds → kind_at kinds j ≡ Unknown u false → kind_at kinds k ≡ Unknown u true
+    → (rat_at xs j ≡ whole (pos 0)) ⊎ (rat_at xs k ≡ whole (pos 0))
 
 abbrev pub HasSigns : Program → LpAnswer → Type 0
 HasSigns p a = (i : ℕ) → i < length p.rows → is_inequality p.columns i ≡ true → whole (pos 0) ≤ℚ multiplier_at p.columns a i

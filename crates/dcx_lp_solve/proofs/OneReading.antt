@@ -95,7 +95,8 @@ module _ (q : Program) (t : Table) (a b : LpAnswer) where
       record {
         status = h.status ∙ sym k.status;
         number = value_injective a.number b.number (h.number ∙ sym k.number);
-        columns = same_numbers (length q.columns) a.columns b.columns h.columns k.columns (λ j l. one_number t j (rat_at (numbers a.columns) j) (rat_at (numbers b.columns) j) (h.column j l) (k.column j l));
+        columns = same_numbers (length q.columns) a.columns b.columns h.columns k.columns
+            (λ j l. one_number t j (rat_at (numbers a.columns) j) (rat_at (numbers b.columns) j) (h.column j l) (k.column j l));
         rows = one_notes a.rows b.rows costs (h.factors ∙ sym k.factors) (h.negated ∙ sym k.negated);
       }
 

@@ -27,7 +27,8 @@ use Rattle.dcx_lp_solve.proofs.OneReading.{one_reading}
 
 -- ---- one run
 -- runs on the programs of the same rows end once
-one_end : (limit : ℕ) (given : GivenRows) (q r : Program) (u v : Table) (e f : LpEnd) → IsMade given q → IsMade given r → RunEnds limit (first_tableau q) u e → RunEnds limit (first_tableau r) v f → (u ≡ v) × (e ≡ f)
+one_end : (limit : ℕ) (given : GivenRows) (q r : Program) (u v : Table) (e f : LpEnd) → IsMade given q → IsMade given r → RunEnds limit (first_tableau q) u e → RunEnds limit (first_tableau r) v f
+    → (u ≡ v) × (e ≡ f)
 one_end limit given q r u v e f made other run second =
     let same : q ≡ r = programs.programs_are_one given q r made other in
     ends_once (first_tableau q).rows limit (first_tableau q) u v e f (starts q.rows q.columns q.objective q.phase q.form) run (subst (λ p. RunEnds limit (first_tableau p) v f) (sym same) second)

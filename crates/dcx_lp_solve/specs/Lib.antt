@@ -1,4 +1,4 @@
--- What contracts cite.
+-- What contracts cite: what rows that are solved have, and what stops them.
 pub mod Solved
 pub mod Stops
 pub mod OneSolution

@@ -21,15 +21,13 @@ use Rattle.dcx_point.specs.Pairs.{Pairs}
 use Rattle.dcx_arena.specs.Nodes.{IsNode, call_at, args_at, sides_at}
 use Rattle.dcx_call.specs.declared.atoms.AtomCall.{AtomCall}
 use Rattle.dcx_call.specs.declared.call.Call.TheVariants as calls
-use Rattle.dcx_call.specs.Atoms.{atom_meaning}
+use Rattle.dcx_call.specs.Atoms.{atom_meaning, atom_lawful}
 use Rattle.dcx_tree.specs.declared.problem.Problem.{Problem}
 use Rattle.dcx_tree.specs.Nodes.{Node, arg_sides}
 use Rattle.dcx_tree.proofs.NodeValues.{args_are, sides_are}
 use Rattle.dcx_unknowns.specs.Layout.{marked, IsCallGraph, IsNodeGraph}
 use Rattle.dcx_unknowns.proofs.Lists.{Each, each_head, each_tail, each_nil, each_cons, each_joined}
-use Rattle.dcx_unknowns.proofs.OwnTerms.{IsOwn, AreOwnTerms, AreOwnRows, IsOwnForm}
-use Rattle.dcx_unknowns.proofs.OwnUnknowns.{UsesOwn}
-use Rattle.dcx_unknowns.proofs.OwnGraphs.{atom_own}
+use Rattle.dcx_atom.specs.OwnUnknowns.{IsOwn, AreOwnTerms, AreOwnRows, IsOwnForm, UsesOwn}
 use Rattle.dcx_linear.specs.declared.change.Change.{Change}
 use Rattle.dcx_linear.specs.declared.form.Form.{Form}
 use Rattle.dcx_entries.specs.declared.entries.EntryForms.{EntryForms}
@@ -81,7 +79,7 @@ module _ (p : Problem) (i : ℕ) (m : AtomCall) (c : call_at p.tree i ≡ Some (
     graph_of size e = subst (λ k. IsGraphOf (atom_meaning m) (arg_sides p.tree n) k g) (sym (e ∙ ap entries_of (sides_are p.tree i n at))) is_graph
 
     own : UsesOwn (atom_meaning m) (arg_sides p.tree n) (entries_of n.sides)
-    own = atom_own m (arg_sides p.tree n) n.sides (shape_given p i (calls.Atom m) c n at)
+    own = (atom_lawful m).own_unknowns (arg_sides p.tree n) n.sides (shape_given p i (calls.Atom m) c n at)
 
     pub results_counted : length g.results ≡ entries_of n.sides
     results_counted = sym (length-map g.results (map form_term)) ∙ ap length is_graph.results ∙ length-list_below (entries_of n.sides) ((atom_meaning m).result (arg_sides p.tree n))
@@ -94,7 +92,8 @@ module _ (p : Problem) (i : ℕ) (m : AtomCall) (c : call_at p.tree i ≡ Some (
       results_fit k d lt =
           let below : k < entries_of n.sides = omega (arith, lt, results_counted) in
           let result : map form_term (get_or g.results k d) ≡ (atom_meaning m).result (arg_sides p.tree n) k =
-          sym (get_or-map (map form_term) g.results k d [] lt) ∙ ap (λ fs. get_or fs k []) is_graph.results ∙ list_below_at (entries_of n.sides) ((atom_meaning m).result (arg_sides p.tree n)) k [] below in
+          sym (get_or-map (map form_term) g.results k d [] lt) ∙ ap (λ fs. get_or fs k []) is_graph.results
+          ∙ list_below_at (entries_of n.sides) ((atom_meaning m).result (arg_sides p.tree n)) k [] below in
           terms_fit (length ((atom_meaning m).kinds (arg_sides p.tree n))) first few_own (get_or g.results k d)
           (subst (IsOwnForm (length ((atom_meaning m).kinds (arg_sides p.tree n)))) (sym result) (own.results k below))
 
@@ -110,7 +109,9 @@ module _ (p : Problem) (i : ℕ) (m : AtomCall) (c : call_at p.tree i ≡ Some (
   module _ {C : Type 0} (of_number : Frac → C) (number_of : C → Option Frac) (Sums : C → C → Result C Passes → Type 0) (Changes : Change → C → Result C Passes → Type 0)
       (Reads : ℕ → List ℕ → ℕ → Pairs → C → Type 0) (setting : Pairs) (reduced fixed : List Bool) (forms : List (List (Form C))) (ids : List ℕ) (ids_are : ids ≡ args_at p.tree i) where
     abbrev pub AtomGives : List ℕ → ℕ → List Sides → ℕ → Result (EntryForms C) ValueStop → Type 0
-    AtomGives args first sides j r = AtEntry j (AtomEntry of_number number_of Sums Changes (map (aux_part of_number first) ((atom_meaning m).result sides j)) (map (λ row. map (row_part of_number (args_among of_number forms args) first) row) ((atom_meaning m).rows sides j))) r
+    AtomGives args first sides j r =
+        AtEntry j (AtomEntry of_number number_of Sums Changes (map (aux_part of_number first) ((atom_meaning m).result sides j))
+        (map (λ row. map (row_part of_number (args_among of_number forms args) first) row) ((atom_meaning m).rows sides j))) r
 
     pub atom_gives : length reduced ≡ length p.tree → (size : ℕ) (r : Result (List (EntryForms C)) ValueStop) → size ≡ entries_of (sides_at p.tree i) →
         FormsEach (AtomGives ids (first_marked p reduced i) (arg_sides p.tree n)) size r →

@@ -47,7 +47,8 @@ module _ (p : Problem) (reduced : List Bool) where
         omega (arith, more, own)
 
     -- and they are few
-    pub graph_room : HasFewUnknowns p reduced → (g : Graph) → i < length p.tree → marked reduced i ≡ true → IsNodeGraph p.tree i (Some g) → (first : ℕ) → first ≡ first_marked p reduced i → first + length g.aux < 2 ^ 32
+    pub graph_room : HasFewUnknowns p reduced → (g : Graph) → i < length p.tree → marked reduced i ≡ true → IsNodeGraph p.tree i (Some g) → (first : ℕ) → first ≡ first_marked p reduced i
+        → first + length g.aux < 2 ^ 32
     graph_room few g lt e h first is =
         let small = first_small few (i + 1) (omega (arith, lt)) in
         let next = next_graph g lt e h in

@@ -1,5 +1,6 @@
 -- The last entry of a variable has its own unknown, the last one of the variable.
-use Rattle.std.proofs.Common.{◌≡◌, ℕ, zero, suc, ◌+◌, ◌-◌, ◌*◌, ◌<◌, arith, true, false, ◌==◌, List, [], ◌∷◌, length, map, get_or, Option, Some, option_map, refl, sym, ap, ap₂, ◌∙◌, subst, zero-add, ◌++◌}
+use Rattle.std.proofs.Common.{◌≡◌, ℕ, zero, suc, ◌+◌, ◌-◌, ◌*◌, ◌<◌, arith, true, false, ◌==◌, List, [], ◌∷◌, length, map}
+use Rattle.std.proofs.Common.{get_or, Option, Some, option_map, refl, sym, ap, ap₂, ◌∙◌, subst, zero-add, ◌++◌}
 use Rattle.std.proofs.lemmas.Bool.{eq-eqb, le-leb, false≢true}
 use Rattle.std.proofs.lemmas.List.{length-map, get_or-map}
 use Rattle.std.proofs.lemmas.List.FromFn.{length-range_with_len, get_or-range_with_len}
@@ -90,8 +91,8 @@ nonempty zero e = absurd (false≢true e)
 nonempty (suc n) e = omega arith
 
 -- the unknown that is read at the end
-pub read_last : (v : Variable) (square : IsSquare v) (first : ℕ) (unknowns : List (Option ℕ)) (len : ℕ) (o : Option ℕ) → unknowns ≡ map (unknown_from first v) (places_below (entries_of (sides_in v))) →
-    len ≡ length unknowns → o ≡ get_or unknowns (len - 1) o → o ≡ Some (first + own_before (demanded v) (sides_in v) (last v square first))
+pub read_last : (v : Variable) (square : IsSquare v) (first : ℕ) (unknowns : List (Option ℕ)) (len : ℕ) (o : Option ℕ) → unknowns ≡ map (unknown_from first v) (places_below (entries_of (sides_in v)))
+    → len ≡ length unknowns → o ≡ get_or unknowns (len - 1) o → o ≡ Some (first + own_before (demanded v) (sides_in v) (last v square first))
 read_last v square first unknowns len o e many at =
     let size : len ≡ entries_of (sides_in v) = many ∙ ap length e ∙ length-map (places_below (entries_of (sides_in v))) (unknown_from first v) ∙ length-range_with_len 0 (entries_of (sides_in v)) in
     at ∙ ap (λ n. get_or unknowns (n - 1) o) size ∙ last_listed v square first unknowns o e ∙ last_unknown v square first

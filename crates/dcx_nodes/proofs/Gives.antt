@@ -41,8 +41,10 @@ module _ {C : Type 0} (of_number : Frac → C) (number_of : C → Option Frac) (
     (Reads : ℕ → List ℕ → ℕ → Pairs → C → Type 0) (p : Problem) (setting : Pairs) (reduced fixed : List Bool) (forms : List (List (Form C))) (i : ℕ) (call : Call) (c : call_at p.tree i ≡ Some call)
     (size : ℕ) (size_is : size ≡ entries_of (sides_at p.tree i)) where
   pub reduced_by : (r : Result (List (EntryForms C)) ValueStop) →
-      ((rules : Rules) → AreMarks rules p reduced fixed → (n : Node) → IsNode p.tree i n → FormsEach (ReducedEntry of_number number_of Sums Changes Reads rules p setting forms i n.args call (arg_sides p.tree n)) size r) →
-      ReducedGives of_number number_of Sums Changes Reads p setting reduced fixed forms i r
+      ((rules : Rules) → AreMarks rules p reduced fixed → (n : Node) → IsNode p.tree i n
+      → FormsEach (ReducedEntry of_number number_of Sums Changes Reads rules p setting forms i n.args call (arg_sides p.tree n)) size r)
+      → ReducedGives of_number number_of Sums Changes Reads p setting reduced fixed forms i r
   reduced_by r h rules marks n at =
       subst (λ z. FormsEach (ReducedEntry of_number number_of Sums Changes Reads rules p setting forms i n.args z (arg_sides p.tree n)) (entries_of n.sides) r) (sym (call_is p i call c n at))
-      (subst (λ m. FormsEach (ReducedEntry of_number number_of Sums Changes Reads rules p setting forms i n.args call (arg_sides p.tree n)) m r) (size_is ∙ ap entries_of (sides_are p.tree i n at)) (h rules marks n at))
+      (subst (λ m. FormsEach (ReducedEntry of_number number_of Sums Changes Reads rules p setting forms i n.args call (arg_sides p.tree n)) m r) (size_is ∙ ap entries_of (sides_are p.tree i n at))
+      (h rules marks n at))

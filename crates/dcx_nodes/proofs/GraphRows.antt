@@ -70,7 +70,8 @@ module _ {C : Type 0} (of_number : Frac → C) where
       let many : length (take k fs) ≡ k = taken fs k lt in
       e ∙ ap (λ xs. xs ++ record { node = record { 0 = i }; entry = j; row = k; form = f } ∷ []) so_far
       ∙ append_assoc old (rows_made i j (take k fs)) (record { node = record { 0 = i }; entry = j; row = k; form = f } ∷ [])
-      ∙ ap (λ xs. old ++ xs) (ap (λ r. rows_made i j (take k fs) ++ record { node = record { 0 = i }; entry = j; row = r; form = f } ∷ []) (sym many) ∙ sym (one_row_more i j (take k fs) f) ∙ ap (rows_made i j) (sym one))
+      ∙ ap (λ xs. old ++ xs) (ap (λ r. rows_made i j (take k fs) ++ record { node = record { 0 = i }; entry = j; row = r; form = f } ∷ []) (sym many) ∙ sym (one_row_more i j (take k fs) f)
+      ∙ ap (rows_made i j) (sym one))
     where
       taken : (xs : List (Form C)) (k : ℕ) → k < length xs → length (take k xs) ≡ k
       taken [] k b = absurd (omega (arith, b))
@@ -81,7 +82,8 @@ module _ {C : Type 0} (of_number : Frac → C) where
   abbrev pub rows_to : ℕ → List (EntryForms C) → ℕ → List (FormedRow C)
   rows_to i es k = joined_below k (λ j. entry_rows of_number i j (slice_index_or es j (alone (zero_form of_number))))
 
-  pub entry_more : (i : ℕ) (es : List (EntryForms C)) (k : ℕ) (e : EntryForms C) (old rows new : List (FormedRow C)) → e ≡ get_or es k (alone (zero_form of_number)) → rows ≡ old ++ rows_to i es k → new ≡ rows ++ entry_rows of_number i k e → new ≡ old ++ rows_to i es (k + 1)
+  pub entry_more : (i : ℕ) (es : List (EntryForms C)) (k : ℕ) (e : EntryForms C) (old rows new : List (FormedRow C)) → e ≡ get_or es k (alone (zero_form of_number)) → rows ≡ old ++ rows_to i es k
+      → new ≡ rows ++ entry_rows of_number i k e → new ≡ old ++ rows_to i es (k + 1)
   entry_more i es k e old rows new is so_far h =
       h ∙ ap₂ (λ xs x. xs ++ entry_rows of_number i k x) so_far is ∙ append_assoc old (rows_to i es k) (entry_rows of_number i k (get_or es k (alone (zero_form of_number))))
       ∙ ap (λ xs. old ++ xs) (sym (joined_more k (λ j. entry_rows of_number i j (slice_index_or es j (alone (zero_form of_number))))))
@@ -105,7 +107,8 @@ module _ {C : Type 0} (of_number : Frac → C) where
   forms_set (x ∷ xs) (suc k) e b h = ap (λ fs. x.form ∷ fs) (forms_set xs k e (omega (arith, b)) h)
 
   -- later entries stay
-  pub later_same : (es now : List (EntryForms C)) (k : ℕ) (e : EntryForms C) → ((j : ℕ) (d : EntryForms C) → k ≤ j → get_or now j d ≡ get_or es j d) → (j : ℕ) (d : EntryForms C) → k + 1 ≤ j → get_or (set now k e) j d ≡ get_or es j d
+  pub later_same : (es now : List (EntryForms C)) (k : ℕ) (e : EntryForms C) → ((j : ℕ) (d : EntryForms C) → k ≤ j → get_or now j d ≡ get_or es j d) → (j : ℕ) (d : EntryForms C) → k + 1 ≤ j
+      → get_or (set now k e) j d ≡ get_or es j d
   later_same es now k e h j d b = set_get now k j e d (omega (arith, b)) ∙ h j d (omega (arith, b))
 
   -- ---- the rows of all nodes

@@ -67,8 +67,9 @@ put_next n ids k xs ys lt below h =
     (put_more n (positions (take k ids)) (b ∷ []) xs ys (set ys b n) h (put_one n ys b below))
 
 -- one constraint more
-pub put_sides : (n : ℕ) (objective : NodeId) (constraints : List Constraint) (k : ℕ) (c : Constraint) (xs ys zs : List ℕ) → k < length constraints → IsPut (roots_of objective (take k constraints)) n xs ys →
-    IsPut ((get_or constraints k c).left.0 ∷ (get_or constraints k c).right.0 ∷ []) n ys zs → IsPut (roots_of objective (take (k + 1) constraints)) n xs zs
+pub put_sides : (n : ℕ) (objective : NodeId) (constraints : List Constraint) (k : ℕ) (c : Constraint) (xs ys zs : List ℕ) → k < length constraints
+    → IsPut (roots_of objective (take k constraints)) n xs ys
+    → IsPut ((get_or constraints k c).left.0 ∷ (get_or constraints k c).right.0 ∷ []) n ys zs → IsPut (roots_of objective (take (k + 1) constraints)) n xs zs
 put_sides n objective constraints k c xs ys zs lt h next =
     subst (λ places. IsPut places n xs zs) (sym (roots_more objective constraints k c lt))
     (put_more n (roots_of objective (take k constraints)) ((get_or constraints k c).left.0 ∷ (get_or constraints k c).right.0 ∷ []) xs ys zs h next)

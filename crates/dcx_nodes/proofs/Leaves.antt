@@ -1,5 +1,6 @@
 -- Variables and parameters are among those that are listed, and their entries are formed of their own.
-use Rattle.std.proofs.Common.{◌≡◌, ℕ, suc, ◌+◌, ◌<◌, ◌≤◌, ◌^◌, arith, Bool, true, false, if◌then◌else◌, List, [], ◌∷◌, length, length-append, map, get_or, Option, Some, refl, sym, ap, ◌∙◌, subst, zero-add, Result, Ok}
+use Rattle.std.proofs.Common.{◌≡◌, ℕ, suc, ◌+◌, ◌<◌, ◌≤◌, ◌^◌, arith, Bool, true, false, if◌then◌else◌, List, [], ◌∷◌, length}
+use Rattle.std.proofs.Common.{length-append, map, get_or, Option, Some, refl, sym, ap, ◌∙◌, subst, zero-add, Result, Ok}
 use Rattle.std.specs.Prelude.{slice_get}
 use Rattle.std.proofs.Props.{props}
 use Rattle.std.proofs.Math.Logic.{∥∥₁_elim}
@@ -114,7 +115,8 @@ module _ {C : Type 0} (of_number : Frac → C) (number_of : C → Option Frac) (
 
     pub variable_gives : first ≡ first_unknown p.variables (number_in (names_in p).variables v.name) → ReducedGives of_number number_of Sums Changes Reads p setting reduced fixed forms i (Ok es)
     variable_gives is rules marks n at =
-        subst (λ call. FormsEach (ReducedEntry of_number number_of Sums Changes Reads rules p setting forms i n.args call (arg_sides p.tree n)) (entries_of n.sides) (Ok es)) (sym (call_is p i (calls.Variable v) c n at))
+        subst (λ call. FormsEach (ReducedEntry of_number number_of Sums Changes Reads rules p setting forms i n.args call (arg_sides p.tree n)) (entries_of n.sides) (Ok es))
+        (sym (call_is p i (calls.Variable v) c n at))
         (counted ∙ ap entries_of (own_is (sides_of v.shape) (arg_sides p.tree n) n.sides (shape_given p i (calls.Variable v) c n at)), each is)
 
   module _ (q : Parameter) (c : call_at p.tree i ≡ Some (calls.Parameter q)) (position size : ℕ) (es : List (EntryForms C)) (size_is : size ≡ entries_of (sides_of q.shape))
@@ -124,7 +126,8 @@ module _ {C : Type 0} (of_number : Frac → C) (number_of : C → Option Frac) (
 
     pub parameter_gives : position ≡ number_in (names_in p).parameters q.name → ReducedGives of_number number_of Sums Changes Reads p setting reduced fixed forms i (Ok es)
     parameter_gives is rules marks n at =
-        subst (λ call. FormsEach (ReducedEntry of_number number_of Sums Changes Reads rules p setting forms i n.args call (arg_sides p.tree n)) (entries_of n.sides) (Ok es)) (sym (call_is p i (calls.Parameter q) c n at))
+        subst (λ call. FormsEach (ReducedEntry of_number number_of Sums Changes Reads rules p setting forms i n.args call (arg_sides p.tree n)) (entries_of n.sides) (Ok es))
+        (sym (call_is p i (calls.Parameter q) c n at))
         (subst (λ m. FormsEach (ParameterEntry Reads (number_in (names_in p).parameters q.name) q.name setting) m (Ok es))
         (size_is ∙ ap entries_of (own_is (sides_of q.shape) (arg_sides p.tree n) n.sides (shape_given p i (calls.Parameter q) c n at)))
         (subst (λ k. FormsEach (ParameterEntry Reads k q.name setting) size (Ok es)) is h))

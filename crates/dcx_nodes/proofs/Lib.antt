@@ -1,4 +1,4 @@
--- Lemmas of this crate.
+-- The lemmas by which each node is formed of its arguments' forms, and given back behind its last use.
 pub mod Positions
 pub mod AtNode
 pub mod Numbers

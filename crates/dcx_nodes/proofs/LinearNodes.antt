@@ -79,5 +79,6 @@ module _ (p : Problem) (i : ℕ) (l : LinearCall) (c : call_at p.tree i ≡ Some
           reduced_by of_number number_of Sums Changes Reads p setting reduced fixed forms i (calls.Linear l) c size size_is r
           (λ rules marks m there.
           let same : n ≡ m = same_Some n m (sym at ∙ there) in
-          subst (λ (z : Node). FormsEach (λ j s. AtEntry j (LinearEntry of_number number_of Sums Changes (map (term_part (args_among of_number forms z.args)) ((linear_meaning l).terms (arg_sides p.tree z) j))) s) size r) same
+          subst (λ (z : Node). FormsEach
+          (λ j s. AtEntry j (LinearEntry of_number number_of Sums Changes (map (term_part (args_among of_number forms z.args)) ((linear_meaning l).terms (arg_sides p.tree z) j))) s) size r) same
           (each_alike Listed (Told n.args) size r (λ j b s k. entries_alike n.args (ids_are ∙ args_are p.tree i n at) j (subst (λ z. j < z) here b) s k) h))

@@ -1,5 +1,6 @@
 -- What is formed of a node depends on the forms of its arguments alone.
-use Rattle.std.proofs.Common.{◌≡◌, ℕ, zero, suc, ◌+◌, ◌<◌, ◌≤◌, arith, Bool, true, false, List, [], ◌∷◌, ◌++◌, length, length-append, map, get_or, slice_index_or, All, Option, Some, refl, sym, ap, ap₂, ◌∙◌, subst, Result, Ok}
+use Rattle.std.proofs.Common.{◌≡◌, ℕ, zero, suc, ◌+◌, ◌<◌, ◌≤◌, arith, Bool, true, false, List, [], ◌∷◌, ◌++◌, length, length-append, map}
+use Rattle.std.proofs.Common.{get_or, slice_index_or, All, Option, Some, refl, sym, ap, ap₂, ◌∙◌, subst, Result, Ok}
 use Rattle.std.specs.Prelude.{slice_get, not, option_map}
 use Rattle.std.specs.List.{list_all}
 use Rattle.std.proofs.Math.ListN.{get_or-append}
@@ -60,9 +61,14 @@ module _ {C : Type 0} (of_number : Frac → C) (number_of : C → Option Frac) (
         let among : List (List (Form C)) → Arguments C = λ m k e. slice_index_or (slice_index_or m k []) e (is_constant (of_number zero_frac)) in
         ap among (found n.args same)
 
-    side_alike : (k : ℕ) → k < length n.args → side_of of_number number_of Sums Changes Reads rules p setting other (get_or n.args k 0) ≡ side_of of_number number_of Sums Changes Reads rules p setting forms (get_or n.args k 0)
+    side_alike : (k : ℕ) → k < length n.args → side_of of_number number_of Sums Changes Reads rules p setting other (get_or n.args k 0)
+        ≡ side_of of_number number_of Sums Changes Reads rules p setting forms (get_or n.args k 0)
     side_alike k b =
-        ap (λ fs. record { number = not (is_reduced rules p (get_or n.args k 0)); fixed = (judgement_at Plain (convex_problem p).nodes (get_or n.args k 0)).fixed; numbers = list_all (has_numbers number_of) fs })
+        ap (λ fs. record {
+          number = not (is_reduced rules p (get_or n.args k 0));
+          fixed = (judgement_at Plain (convex_problem p).nodes (get_or n.args k 0)).fixed;
+          numbers = list_all (has_numbers number_of) fs;
+        })
         (same k 0 b)
 
     abbrev Entry : List (List (Form C)) → Call → ℕ → Result (EntryForms C) ValueStop → Type 0
@@ -82,33 +88,44 @@ module _ {C : Type 0} (of_number : Frac → C) (number_of : C → Option Frac) (
         let call : call_at p.tree i ≡ Some (calls.Pairing q) = ap (option_map (λ (z : Node). z.call)) at ∙ ap Some is in
         let two = args_two p i q call n at n.args (sym (args_are p.tree i n at)) in
         let scaling = ap₂ (pairing_scaling q) (side_alike 0 (omega (arith, two))) (side_alike 1 (omega (arith, two))) in
-        subst (λ s. PairEntry of_number number_of Sums Changes s (args_among of_number other n.args) (pairs_at q (sides_at (arg_sides p.tree n) 0) (sides_at (arg_sides p.tree n) 1) j) j r) (sym scaling)
-        (subst (λ a. PairEntry of_number number_of Sums Changes (scaling_of of_number number_of Sums Changes Reads rules p setting q forms n.args) a (pairs_at q (sides_at (arg_sides p.tree n) 0) (sides_at (arg_sides p.tree n) 1) j) j r) (sym args_alike) h)
+        subst (λ s. PairEntry of_number number_of Sums Changes s (args_among of_number other n.args) (pairs_at q (sides_at (arg_sides p.tree n) 0) (sides_at (arg_sides p.tree n) 1) j) j r)
+        (sym scaling)
+        (subst (λ a. PairEntry of_number number_of Sums Changes (scaling_of of_number number_of Sums Changes Reads rules p setting q forms n.args) a
+        (pairs_at q (sides_at (arg_sides p.tree n) 0) (sides_at (arg_sides p.tree n) 1) j) j r) (sym args_alike) h)
 
-    by_mark : (b : Bool) (j : ℕ) (r : Result (EntryForms C) ValueStop) → NodeEntryBy of_number number_of Sums Changes Reads rules p setting b forms i n j r → NodeEntryBy of_number number_of Sums Changes Reads rules p setting b other i n j r
+    by_mark : (b : Bool) (j : ℕ) (r : Result (EntryForms C) ValueStop) → NodeEntryBy of_number number_of Sums Changes Reads rules p setting b forms i n j r
+        → NodeEntryBy of_number number_of Sums Changes Reads rules p setting b other i n j r
     by_mark true j r h = reduced_alike n.call refl j r h
     by_mark false j r h = subst (λ a. NumberEntry of_number number_of Sums Changes Reads rules p setting n.call (arg_sides p.tree n) a j r) (sym args_alike) h
 
-    entry_alike : (j : ℕ) (r : Result (EntryForms C) ValueStop) → NodeEntry of_number number_of Sums Changes Reads rules p setting forms i n j r → NodeEntry of_number number_of Sums Changes Reads rules p setting other i n j r
+    entry_alike : (j : ℕ) (r : Result (EntryForms C) ValueStop) → NodeEntry of_number number_of Sums Changes Reads rules p setting forms i n j r
+        → NodeEntry of_number number_of Sums Changes Reads rules p setting other i n j r
     entry_alike = by_mark (is_reduced rules p i)
 
-    pub entries_by_args : (size : ℕ) (r : Result (List (EntryForms C)) ValueStop) → FormsEach (NodeEntry of_number number_of Sums Changes Reads rules p setting forms i n) size r → FormsEach (NodeEntry of_number number_of Sums Changes Reads rules p setting other i n) size r
-    entries_by_args size r h = each_alike (NodeEntry of_number number_of Sums Changes Reads rules p setting forms i n) (NodeEntry of_number number_of Sums Changes Reads rules p setting other i n) size r (λ j b. entry_alike j) h
+    pub entries_by_args : (size : ℕ) (r : Result (List (EntryForms C)) ValueStop) → FormsEach (NodeEntry of_number number_of Sums Changes Reads rules p setting forms i n) size r
+        → FormsEach (NodeEntry of_number number_of Sums Changes Reads rules p setting other i n) size r
+    entries_by_args size r h =
+        each_alike (NodeEntry of_number number_of Sums Changes Reads rules p setting forms i n) (NodeEntry of_number number_of Sums Changes Reads rules p setting other i n) size r
+        (λ j b. entry_alike j) h
 
   -- other forms, which are the same of all nodes before node i
   module _ (forms other : List (List (Form C))) (i : ℕ) (same : (a : ℕ) → a < i → slice_index_or other a [] ≡ slice_index_or forms a []) (n : Node) (at : IsNode p.tree i n) where
-    pub entries_alike : (size : ℕ) (r : Result (List (EntryForms C)) ValueStop) → FormsEach (NodeEntry of_number number_of Sums Changes Reads rules p setting forms i n) size r → FormsEach (NodeEntry of_number number_of Sums Changes Reads rules p setting other i n) size r
+    pub entries_alike : (size : ℕ) (r : Result (List (EntryForms C)) ValueStop) → FormsEach (NodeEntry of_number number_of Sums Changes Reads rules p setting forms i n) size r
+        → FormsEach (NodeEntry of_number number_of Sums Changes Reads rules p setting other i n) size r
     entries_alike size r h =
         entries_by_args forms other i n at (All-weaker (λ a. a < i) (λ a. slice_index_or other a [] ≡ slice_index_or forms a []) same n.args (p.nodes.earlier i n at)) size r h
 
   -- one node more
   pub formed_more : (k : ℕ) (table : Table C) (es : List (EntryForms C)) → AreFormed of_number number_of Sums Changes Reads rules p setting k table →
-      ((n : Node) → IsNode p.tree k n → NodeGives of_number number_of Sums Changes Reads rules p setting table k n (Ok es)) → AreFormed of_number number_of Sums Changes Reads rules p setting (k + 1) (table ++ es ∷ [])
+      ((n : Node) → IsNode p.tree k n → NodeGives of_number number_of Sums Changes Reads rules p setting table k n (Ok es))
+      → AreFormed of_number number_of Sums Changes Reads rules p setting (k + 1) (table ++ es ∷ [])
   formed_more k table es h here = record {
     count = omega (arith, length-append table (es ∷ []), h.count);
-    each = λ i n fs lt at there. subst (λ forms. FormsEach (NodeEntry of_number number_of Sums Changes Reads rules p setting forms i n) (entries_of n.sides) (Ok fs)) (sym (map_push entry_forms table es))
+    each = λ i n fs lt at there. subst (λ forms. FormsEach (NodeEntry of_number number_of Sums Changes Reads rules p setting forms i n) (entries_of n.sides) (Ok fs))
+        (sym (map_push entry_forms table es))
         (get_pushed table es fs i there (FormsEach (NodeEntry of_number number_of Sums Changes Reads rules p setting (table_forms table ++ entry_forms es ∷ []) i n) (entries_of n.sides) (Ok fs))
-        (λ old. entries_alike (table_forms table) (table_forms table ++ entry_forms es ∷ []) i (pushed_same i (let b = slice_get_within table i fs old in omega (arith, b))) n at (entries_of n.sides) (Ok fs)
+        (λ old. entries_alike (table_forms table) (table_forms table ++ entry_forms es ∷ []) i
+        (pushed_same i (let b = slice_get_within table i fs old in omega (arith, b))) n at (entries_of n.sides) (Ok fs)
         (h.each i n fs (let b = slice_get_within table i fs old in omega (arith, b, h.count)) at old))
         (λ last same. subst (λ gs. FormsEach (NodeEntry of_number number_of Sums Changes Reads rules p setting (table_forms table ++ entry_forms es ∷ []) i n) (entries_of n.sides) (Ok gs)) same
         (entries_alike (table_forms table) (table_forms table ++ entry_forms es ∷ []) i (pushed_same i (omega (arith, last))) n at (entries_of n.sides) (Ok es)

@@ -1,5 +1,6 @@
 -- The value of a node that is a number, at arrays of the numbers that its arguments are.
-use Rattle.std.proofs.Common.{◌≡◌, ℕ, zero, suc, ◌+◌, ◌<◌, ◌≤◌, arith, List, [], ◌∷◌, ◌++◌, map, length, get_or, slice_index_or, take, Option, Some, IfSome, IsSome, unwrap_or, option_map, refl, sym, ap, ap₂, ◌∙◌, subst, inl, inr, length-append, Result, Ok, Err, IsOk, IfOk, IfErr, pos}
+use Rattle.std.proofs.Common.{◌≡◌, ℕ, zero, suc, ◌+◌, ◌<◌, ◌≤◌, arith, List, [], ◌∷◌, ◌++◌, map, length, get_or, slice_index_or, take, Option, Some, IfSome, IsSome}
+use Rattle.std.proofs.Common.{unwrap_or, option_map, refl, sym, ap, ap₂, ◌∙◌, subst, inl, inr, length-append, Result, Ok, Err, IsOk, IfOk, IfErr, pos}
 use Rattle.std.specs.List.{AllZip, slice_get}
 use Rattle.std.proofs.Math.Path.{fun_ext}
 use Rattle.std.proofs.lemmas.Bool.{cases_lt}
@@ -30,8 +31,8 @@ use Rattle.dcx_call.specs.Calls.{shape_of}
 use Rattle.dcx_call.specs.Values.{given_by, entry_formed, formed_at, IsGiven, IsValue, IsValueStop}
 use Rattle.dcx_call.proofs.Entries.{some_fact}
 use Rattle.dcx_convex.specs.Rules.{Rules}
-use Rattle.dcx_call.proofs.CallValues.{number_fits}
-use Rattle.dcx_call.specs.Exact.{AreFractions, HaveFewEntries}
+use Rattle.dcx_atom.proofs.Fractions.{number_fits}
+use Rattle.dcx_atom.specs.Fractions.{AreFractions, HaveFewEntries}
 use Rattle.dcx_call.proofs.Exact.{forms_exactly}
 use Rattle.dcx_tree.specs.declared.problem.Problem.{Problem}
 use Rattle.dcx_tree.specs.Nodes.{Node, arg_sides}
@@ -116,7 +117,8 @@ module _ {C : Type 0} (of_number : Frac → C) where
               ap (number_at (xs ++ x ∷ [])) (last ∙ sym h.0) ∙ number_push xs x ∙ ap value is ∙ ap (λ i. value (number_in number_of (entry_of of_number s i))) (sym last)
         ]
 
-    pub numbers_all : (sides : Sides) (s : Standing C) (xs : List Frac) → IsOfSides sides s → AreNumbersTo s (entries_of sides) xs → (e : ℕ) → number_at xs e ≡ value (number_in number_of (entry_of of_number s e))
+    pub numbers_all : (sides : Sides) (s : Standing C) (xs : List Frac) → IsOfSides sides s → AreNumbersTo s (entries_of sides) xs → (e : ℕ)
+        → number_at xs e ≡ value (number_in number_of (entry_of of_number s e))
     numbers_all sides s xs of_sides h e = elim (cases_lt e (entries_of sides)) [
       | inl lt ↦ h.1 e lt
       | inr ge ↦
@@ -159,7 +161,8 @@ module _ {C : Type 0} (of_number : Frac → C) where
       pub arrays_more : (ids : List NodeId) (k : ℕ) (d : NodeId) (xs ys : List Array) (x : Array) → k < length ids → HaveNumbersOf of_number number_of nodes standing (positions (take k ids)) xs →
           HasNumbersAt of_number number_of nodes standing (get_or ids k d).0 x → ys ≡ xs ++ x ∷ [] → HaveNumbersOf of_number number_of nodes standing (positions (take (k + 1) ids)) ys
       arrays_more ids k d xs ys x lt h here e =
-          let ids_are : positions (take (k + 1) ids) ≡ positions (take k ids) ++ (get_or ids k d).0 ∷ [] = ap positions (take_more ids k d lt) ∙ map_push (λ (a : NodeId). a.0) (take k ids) (get_or ids k d) in
+          let ids_are : positions (take (k + 1) ids) ≡ positions (take k ids) ++ (get_or ids k d).0 ∷ [] = ap positions (take_more ids k d lt)
+          ∙ map_push (λ (a : NodeId). a.0) (take k ids) (get_or ids k d) in
           subst (λ zs. HaveNumbersOf of_number number_of nodes standing (positions (take (k + 1) ids)) zs) (sym e)
           (subst (λ is. HaveNumbersOf of_number number_of nodes standing is (xs ++ x ∷ [])) (sym ids_are)
           (zip_push (HasNumbersAt of_number number_of nodes standing) (positions (take k ids)) xs (get_or ids k d).0 x h here))
@@ -191,7 +194,8 @@ module _ {C : Type 0} (of_number : Frac → C) (number_of : C → Option Frac) (
   shape_is = ap (shape_of n.call) (sides_alike of_number number_of told p.tree standing n.args xs have) ∙ p.nodes.shaped i n at
 
   -- what is formed from the arrays is formed from the forms
-  same_formed : (j : ℕ) → formed_at n.call setting [] xs j ≡ entry_formed n.call (given_by setting) (given_by []) (arg_sides p.tree n) (numbers_in number_of (args_among of_number (all_forms of_number standing) n.args)) j
+  same_formed : (j : ℕ) → formed_at n.call setting [] xs j ≡ entry_formed n.call (given_by setting) (given_by []) (arg_sides p.tree n)
+      (numbers_in number_of (args_among of_number (all_forms of_number standing) n.args)) j
   same_formed j =
       ap₂ (λ (ss : List Sides) (a : Entries). entry_formed n.call (given_by setting) (given_by []) ss a j)
       (sides_alike of_number number_of told p.tree standing n.args xs have) (numbers_alike of_number number_of told p.tree standing n.args xs have)
@@ -215,7 +219,8 @@ module _ {C : Type 0} (of_number : Frac → C) (number_of : C → Option Frac) (
           let there : j < length x.entries = slice_get_within x.entries j z e in
           let below : j < entries_of (sides_of x.shape) = omega (arith, there, x.full) in
           let formed = formed_is (formed_at n.call setting [] xs j) (is.forms j below) in
-          let exact = forms_exactly n.call setting [] (array_sides xs) n.sides (numbers_of xs) shape_is (few_entries xs) (entries_fit xs) j (subst (λ s. j < entries_of s) sides_are below) formed.0 formed.1 in
+          let exact = forms_exactly n.call setting [] (array_sides xs) n.sides (numbers_of xs) shape_is (few_entries xs) (entries_fit xs) j
+          (subst (λ s. j < entries_of s) sides_are below) formed.0 formed.1 in
           let same : formed.0 ≡ z = value_injective formed.0 z (exact ∙ sym (is.numbers j below) ∙ number_there x.entries j z e) in
           formed.1 ∙ ap Ok same
 
@@ -237,7 +242,8 @@ module _ {C : Type 0} (of_number : Frac → C) (number_of : C → Option Frac) (
           let formed = formed_is (formed_at n.call setting [] xs j) (h.before j b) in (alone (is_constant (of_number formed.0)), entry_ok j formed.0 formed.1),
     )
 
-    pub value_stops : (stop : ValueStop) → IfSome (shape_of n.call (array_sides xs)) (λ s. IsValueStop n.call setting [] xs (entries_of s) stop) → OnStop stop (λ e. FormsEach Entry (entries_of n.sides) (Err e))
+    pub value_stops : (stop : ValueStop) → IfSome (shape_of n.call (array_sides xs)) (λ s. IsValueStop n.call setting [] xs (entries_of s) stop)
+        → OnStop stop (λ e. FormsEach Entry (entries_of n.sides) (Err e))
     value_stops stop h = by stop (some_fact (λ s. IsValueStop n.call setting [] xs (entries_of s) stop) (shape_of n.call (array_sides xs)) n.sides shape_is h)
       where
         by : (stop : ValueStop) → IsValueStop n.call setting [] xs (entries_of n.sides) stop → OnStop stop (λ e. FormsEach Entry (entries_of n.sides) (Err e))
@@ -249,7 +255,8 @@ module _ {C : Type 0} (of_number : Frac → C) (number_of : C → Option Frac) (
   of_any : (r : Result (List (EntryForms C)) ValueStop) → ((rules : Rules) → FormsEach (Entry rules) (entries_of n.sides) r) →
       ValueGives of_number number_of Sums Changes Reads p setting (all_forms of_number standing) i r
   of_any r h rules m there =
-      subst (λ (z : Node). FormsEach (NumberEntry of_number number_of Sums Changes Reads rules p setting z.call (arg_sides p.tree z) (args_among of_number (all_forms of_number standing) z.args)) (entries_of z.sides) r)
+      subst (λ (z : Node). FormsEach (NumberEntry of_number number_of Sums Changes Reads rules p setting z.call (arg_sides p.tree z) (args_among of_number (all_forms of_number standing) z.args))
+      (entries_of z.sides) r)
       (same_Some n m (sym at ∙ there)) (h rules)
 
   answers : (r : Result Array ValueStop) → IfOk r (IsValue n.call setting [] xs) → IfErr r (λ e. IfSome (shape_of n.call (array_sides xs)) (λ s. IsValueStop n.call setting [] xs (entries_of s) e)) →
@@ -259,12 +266,14 @@ module _ {C : Type 0} (of_number : Frac → C) (number_of : C → Option Frac) (
       sides_is : (x : Array) → IsValue n.call setting [] xs x → sides_of x.shape ≡ sides_at p.tree i
       sides_is x h = same_Some (sides_of x.shape) n.sides (sym h.shape ∙ shape_is) ∙ sym (sides_are_at p.tree i n at)
   answers (Err stop) h k = (
-    OnStop-weaker stop (λ e. (rules : Rules) → FormsEach (Entry rules) (entries_of n.sides) (Err e)) (λ e. ValueGives of_number number_of Sums Changes Reads p setting (all_forms of_number standing) i (Err e)) (λ e f. of_any (Err e) f)
+    OnStop-weaker stop (λ e. (rules : Rules) → FormsEach (Entry rules) (entries_of n.sides) (Err e))
+        (λ e. ValueGives of_number number_of Sums Changes Reads p setting (all_forms of_number standing) i (Err e)) (λ e f. of_any (Err e) f)
         (each_rules stop (λ rules. value_stops rules stop k)),
     tt,
   )
     where
-      each_rules : (stop : ValueStop) → ((rules : Rules) → OnStop stop (λ e. FormsEach (Entry rules) (entries_of n.sides) (Err e))) → OnStop stop (λ e. (rules : Rules) → FormsEach (Entry rules) (entries_of n.sides) (Err e))
+      each_rules : (stop : ValueStop) → ((rules : Rules) → OnStop stop (λ e. FormsEach (Entry rules) (entries_of n.sides) (Err e)))
+          → OnStop stop (λ e. (rules : Rules) → FormsEach (Entry rules) (entries_of n.sides) (Err e))
       each_rules (stops.Passes entry passes) f = f
       each_rules (stops.ZeroDivisor entry) f = f
       each_rules stops.Memory f = tt
@@ -287,7 +296,8 @@ module _ {C : Type 0} (of_number : Frac → C) (number_of : C → Option Frac) (
       subst (λ z. IsSome (shape_of call (array_sides z))) (sym d) (subst (λ z. IsSome (shape_of z (array_sides xs))) same (subst IsSome (sym shape_is) refl))
 
 -- what the call of a node takes is given
-pub given_is : (p : Problem) (setting : Pairs) (i : ℕ) (n : Node) → IsNode p.tree i n → (call : Call) (point : Pairs) → call_at p.tree i ≡ Some call → point ≡ [] → IsGiven n.call setting [] → IsGiven call setting point
+pub given_is : (p : Problem) (setting : Pairs) (i : ℕ) (n : Node) → IsNode p.tree i n → (call : Call) (point : Pairs) → call_at p.tree i ≡ Some call → point ≡ [] → IsGiven n.call setting []
+    → IsGiven call setting point
 given_is p setting i n at call point c e h =
     let same : n.call ≡ call = same_Some n.call call (ap (option_map (λ (z : Node). z.call)) (sym at) ∙ c) in
     subst (IsGiven call setting) (sym e) (subst (λ z. IsGiven z setting []) same h)
@@ -309,6 +319,7 @@ module _ {C : Type 0} (of_number : Frac → C) (number_of : C → Option Frac) (
   call_gives call point ys r c e d h k =
       let (n, at) = node_at p i lt in call_answers of_number number_of Sums Changes Reads told p setting standing i n at xs (node_has n at) call point ys r c e d h k
 
-pub asked_given : (p : Problem) (setting : Pairs) (i : ℕ) → i < length p.tree → ((n : Node) → IsNode p.tree i n → IsGiven n.call setting []) → (call : Call) (point : Pairs) → call_at p.tree i ≡ Some call → point ≡ [] →
-    IsGiven call setting point
+pub asked_given : (p : Problem) (setting : Pairs) (i : ℕ) → i < length p.tree → ((n : Node) → IsNode p.tree i n → IsGiven n.call setting []) → (call : Call) (point : Pairs)
+    → call_at p.tree i ≡ Some call → point ≡ []
+    → IsGiven call setting point
 asked_given p setting i lt given call point c e = let (n, at) = node_at p i lt in given_is p setting i n at call point c e (given n at)

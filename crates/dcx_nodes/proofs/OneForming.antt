@@ -66,11 +66,14 @@ module _ {C : Type 0} (of_number : Frac → C) (number_of : C → Option Frac) (
         one_pair_entries of_number number_of Sums Changes one_sum one_change (scaling_of of_number number_of Sums Changes Reads rules p setting q forms n.args) (args_among of_number forms n.args)
         (λ j. pairs_at q (sides_at (arg_sides p.tree n) 0) (sides_at (arg_sides p.tree n) 1) j) size r s h k
 
-    one_by : (b : Bool) → FormsEach (NodeEntryBy of_number number_of Sums Changes Reads rules p setting b forms i n) size r → FormsEach (NodeEntryBy of_number number_of Sums Changes Reads rules p setting b forms i n) size s → r ≡ s
+    one_by : (b : Bool) → FormsEach (NodeEntryBy of_number number_of Sums Changes Reads rules p setting b forms i n) size r
+        → FormsEach (NodeEntryBy of_number number_of Sums Changes Reads rules p setting b forms i n) size s → r ≡ s
     one_by true h k = one_reduced n.call h k
-    one_by false h k = one_each (NumberEntry of_number number_of Sums Changes Reads rules p setting n.call (arg_sides p.tree n) (args_among of_number forms n.args)) (λ j x y a b. a ∙ sym b) size r s h k
+    one_by false h k = one_each (NumberEntry of_number number_of Sums Changes Reads rules p setting n.call (arg_sides p.tree n) (args_among of_number forms n.args))
+        (λ j x y a b. a ∙ sym b) size r s h k
 
-    one_node : FormsEach (NodeEntry of_number number_of Sums Changes Reads rules p setting forms i n) size r → FormsEach (NodeEntry of_number number_of Sums Changes Reads rules p setting forms i n) size s → r ≡ s
+    one_node : FormsEach (NodeEntry of_number number_of Sums Changes Reads rules p setting forms i n) size r
+        → FormsEach (NodeEntry of_number number_of Sums Changes Reads rules p setting forms i n) size s → r ≡ s
     one_node = one_by (is_reduced rules p i)
 
   -- ---- the nodes before a node
@@ -90,7 +93,8 @@ module _ {C : Type 0} (of_number : Frac → C) (number_of : C → Option Frac) (
       let (n, at) = node_at p i (omega (arith, la, within)) in
       let before = forms_alike t u i (λ x lx. agree m a b t u f g within x (omega (arith, lx, lt)) (omega (arith, lx, la)) (omega (arith, lx, lb))) in
       let e : ◌≡◌ {A = Result (List (EntryForms C)) ValueStop} (Ok (get_or t i [])) (Ok (get_or u i [])) = one_node (table_forms u) i n (entries_of n.sides) (Ok (get_or t i [])) (Ok (get_or u i []))
-      (entries_alike of_number number_of Sums Changes Reads rules p setting (table_forms t) (table_forms u) i before n at (entries_of n.sides) (Ok (get_or t i [])) (f.each i n (get_or t i []) la at (there_at a t f i la)))
+      (entries_alike of_number number_of Sums Changes Reads rules p setting (table_forms t) (table_forms u) i before n at (entries_of n.sides) (Ok (get_or t i []))
+      (f.each i n (get_or t i []) la at (there_at a t f i la)))
       (g.each i n (get_or u i []) lb at (there_at b u g i lb)) in
       cc
 
@@ -114,7 +118,8 @@ module _ {C : Type 0} (of_number : Frac → C) (number_of : C → Option Frac) (
       (moved k t f within e.node h.table (omega (arith, lt)) h.before n at e.stop (h.here n at)) in
       cc
 
-  same_stop : (m : ℕ) → m ≤ length p.tree → (e d : NodeStop) → e.node ≡ d.node → IsFirstStop of_number number_of Sums Changes Reads rules p setting m e → IsFirstStop of_number number_of Sums Changes Reads rules p setting m d → e ≡ d
+  same_stop : (m : ℕ) → m ≤ length p.tree → (e d : NodeStop) → e.node ≡ d.node → IsFirstStop of_number number_of Sums Changes Reads rules p setting m e
+      → IsFirstStop of_number number_of Sums Changes Reads rules p setting m d → e ≡ d
   same_stop m within e d same h k =
       let lt = k.within in
       let (n, at) = node_at p d.node (omega (arith, lt, within)) in
@@ -127,7 +132,8 @@ module _ {C : Type 0} (of_number : Frac → C) (number_of : C → Option Frac) (
       let stops : e.stop ≡ d.stop = cc in
       ap₂ (λ x y. record { node = x; stop = y }) same stops
 
-  pub one_forming : (k : ℕ) → k ≤ length p.tree → (r s : Result (Table C) NodeStop) → NodesGive of_number number_of Sums Changes Reads rules p setting k r → NodesGive of_number number_of Sums Changes Reads rules p setting k s → r ≡ s
+  pub one_forming : (k : ℕ) → k ≤ length p.tree → (r s : Result (Table C) NodeStop) → NodesGive of_number number_of Sums Changes Reads rules p setting k r
+      → NodesGive of_number number_of Sums Changes Reads rules p setting k s → r ≡ s
   one_forming k within (Ok t) (Ok u) h g = ap Ok (one_table k within t u h g)
   one_forming k within (Ok t) (Err e) h g = absurd (formed_or_stops k t h within k e g.within g)
   one_forming k within (Err e) (Ok u) h g = absurd (formed_or_stops k u g within k e h.within h)

@@ -1,5 +1,6 @@
 -- One node more is formed, or the first that isn't is met.
-use Rattle.std.proofs.Common.{◌≡◌, ℕ, zero, suc, ◌+◌, ◌<◌, ◌≤◌, ◌^◌, arith, Bool, List, [], ◌∷◌, ◌++◌, length, length-append, map, get_or, slice_index_or, Option, Some, option_map, unwrap_or, refl, sym, ap, ap₂, ◌∙◌, subst, inl, inr, Result, Ok, Err, OnOk, IfErr}
+use Rattle.std.proofs.Common.{◌≡◌, ℕ, zero, suc, ◌+◌, ◌<◌, ◌≤◌, ◌^◌, arith, Bool, List, [], ◌∷◌, ◌++◌, length, length-append, map, get_or, slice_index_or}
+use Rattle.std.proofs.Common.{Option, Some, option_map, unwrap_or, refl, sym, ap, ap₂, ◌∙◌, subst, inl, inr, Result, Ok, Err, OnOk, IfErr}
 use Rattle.std.specs.Prelude.{slice_get}
 use Rattle.std.specs.List.{All, Contains}
 use Rattle.std.proofs.lemmas.List.Sums.{sum_by-cons}
@@ -66,7 +67,8 @@ pushed_alike fs gs f g k m n same a lt before = elim (cases_lt a k) [
 ]
 
 -- the forms of what stands at a place
-forms_at : {C : Type 0} (of_number : Frac → C) (xs ys : List (Standing C)) (a : ℕ) → slice_get xs a ≡ slice_get ys a → slice_index_or (all_forms of_number xs) a [] ≡ slice_index_or (all_forms of_number ys) a []
+forms_at : {C : Type 0} (of_number : Frac → C) (xs ys : List (Standing C)) (a : ℕ) → slice_get xs a ≡ slice_get ys a
+    → slice_index_or (all_forms of_number xs) a [] ≡ slice_index_or (all_forms of_number ys) a []
 forms_at of_number xs ys a e =
     sym (unwrap_or-slice_get (all_forms of_number xs) a [])
     ∙ ap (λ o. unwrap_or o []) (slice_get-map (forms_of of_number) xs a ∙ ap (option_map (forms_of of_number)) e ∙ sym (slice_get-map (forms_of of_number) ys a))
@@ -88,7 +90,8 @@ module _ {C : Type 0} (of_number : Frac → C) (number_of : C → Option Frac) (
     told : (r : Result (List (EntryForms C)) ValueStop) → MarkedGives of_number number_of Sums Changes Reads p setting reduced fixed (all_forms of_number old.standing.items) k r →
         MarkedGives of_number number_of Sums Changes Reads p setting reduced fixed (table_forms so_far.table) k r
     told r h rules marks n at =
-        entries_by_args of_number number_of Sums Changes Reads rules p setting (all_forms of_number old.standing.items) (table_forms so_far.table) k n at (args_forms n at) (entries_of n.sides) r (h rules marks n at)
+        entries_by_args of_number number_of Sums Changes Reads rules p setting (all_forms of_number old.standing.items) (table_forms so_far.table) k n at (args_forms n at) (entries_of n.sides) r
+        (h rules marks n at)
 
     -- one node more stands, and what isn't asked for behind it is given back
     module _ (lt : k < length p.tree) (uses : List ℕ) (last : AreLastUses p uses) (ids : List ℕ) (ids_are : ids ≡ args_at p.tree k) (formed kept : Standing C) (f : Forming C)
@@ -137,7 +140,8 @@ module _ {C : Type 0} (of_number : Frac → C) (number_of : C → Option Frac) (
               | inl e ↦ emptied_here a e (subst (IsUse p a) e at_last)
               | inr ne ↦
                   back.others a ne
-                  ∙ get-push_left old.standing.items kept (Forms []) a (so_far.given_back a i use_is (λ more. let past = more.1 in let b = last.last a more.0 more.2 in ne (omega (arith, le, past, b))))
+                  ∙ get-push_left old.standing.items kept (Forms []) a
+                  (so_far.given_back a i use_is (λ more. let past = more.1 in let b = last.last a more.0 more.2 in ne (omega (arith, le, past, b))))
             ]
           ]
 
@@ -157,16 +161,20 @@ module _ {C : Type 0} (of_number : Frac → C) (number_of : C → Option Frac) (
         next = next;
       }
 
-    pub stops_here : k < length p.tree → (stop : ValueStop) → MarkedGives of_number number_of Sums Changes Reads p setting reduced fixed (all_forms of_number old.standing.items) k (Err stop) → StopsAt of_number number_of Sums Changes Reads p setting reduced fixed k stop
+    pub stops_here : k < length p.tree → (stop : ValueStop) → MarkedGives of_number number_of Sums Changes Reads p setting reduced fixed (all_forms of_number old.standing.items) k (Err stop)
+        → StopsAt of_number number_of Sums Changes Reads p setting reduced fixed k stop
     stops_here lt stop gives rules marks = record { within = lt; table = so_far.table; before = so_far.formed rules marks; here = λ n at. told (Err stop) gives rules marks n at }
 
-    pub answer_stops : k < length p.tree → (stop : ValueStop) → OnStop stop (λ e. MarkedGives of_number number_of Sums Changes Reads p setting reduced fixed (all_forms of_number old.standing.items) k (Err e)) →
-        OnStop stop (StopsAt of_number number_of Sums Changes Reads p setting reduced fixed k)
+    pub answer_stops : k < length p.tree → (stop : ValueStop) → OnStop stop
+        (λ e. MarkedGives of_number number_of Sums Changes Reads p setting reduced fixed (all_forms of_number old.standing.items) k (Err e))
+        → OnStop stop (StopsAt of_number number_of Sums Changes Reads p setting reduced fixed k)
     answer_stops lt stop h = OnStop-weaker stop (λ e. MarkedGives of_number number_of Sums Changes Reads p setting reduced fixed (all_forms of_number old.standing.items) k (Err e))
         (StopsAt of_number number_of Sums Changes Reads p setting reduced fixed k) (stops_here lt) h
 
-    pub more_or_not : {E : Type 0} (r : Result (Unit {0}) E) → k < length p.tree → (uses : List ℕ) → AreLastUses p uses → (ids : List ℕ) → ids ≡ args_at p.tree k → (formed kept : Standing C) (f : Forming C) → MarkedGives of_number number_of Sums Changes Reads p setting reduced fixed (all_forms of_number old.standing.items) k (Ok (entries_in of_number formed)) →
-        forms_of of_number kept ≡ forms_of of_number formed → IsOfSides (sides_at p.tree k) kept → OnOk r (IsGivenBack uses k ids (old.standing.items ++ kept ∷ []) f.standing.items) →
+    pub more_or_not : {E : Type 0} (r : Result (Unit {0}) E) → k < length p.tree → (uses : List ℕ) → AreLastUses p uses → (ids : List ℕ) → ids ≡ args_at p.tree k
+        → (formed kept : Standing C) (f : Forming C) → MarkedGives of_number number_of Sums Changes Reads p setting reduced fixed (all_forms of_number old.standing.items) k
+        (Ok (entries_in of_number formed))
+        → forms_of of_number kept ≡ forms_of of_number formed → IsOfSides (sides_at p.tree k) kept → OnOk r (IsGivenBack uses k ids (old.standing.items ++ kept ∷ []) f.standing.items) →
         f.rows.items ≡ old.rows.items ++ node_rows of_number k (entries_in of_number formed) → f.next ≡ first_marked p reduced (k + 1) →
         OnOk r (AreFormedTo of_number number_of Sums Changes Reads p setting reduced fixed (k + 1) f)
     more_or_not (Ok u) lt uses last ids ids_are formed kept f gives same sides back rows next = one_more lt uses last ids ids_are formed kept f back gives same sides rows next
@@ -187,20 +195,23 @@ module _ {C : Type 0} (of_number : Frac → C) (number_of : C → Option Frac) (
   }
 
   -- all are formed
-  pub all_kept : (f : Forming C) (kept : Formed C) → AreFormedTo of_number number_of Sums Changes Reads p setting reduced fixed (length p.tree) f → kept.standing ≡ f.standing.items → kept.rows ≡ f.rows.items →
-      IsMarkedKept of_number number_of Sums Changes Reads p setting reduced fixed kept
+  pub all_kept : (f : Forming C) (kept : Formed C) → AreFormedTo of_number number_of Sums Changes Reads p setting reduced fixed (length p.tree) f → kept.standing ≡ f.standing.items
+      → kept.rows ≡ f.rows.items
+      → IsMarkedKept of_number number_of Sums Changes Reads p setting reduced fixed kept
   all_kept f kept so_far standing rows rules marks = record {
     table = so_far.table;
     formed = so_far.formed rules marks;
     roots = λ k d lt.
         let roots = roots_of p.objective p.constraints in
         ap (λ xs. slice_index_or (all_forms of_number xs) (get_or roots k d) []) standing
-        ∙ so_far.forms (get_or roots k d) (roots_below p.tree p.objective p.constraints p.objective_kept p.constraints_kept k d lt) (length p.tree, omega arith, inr (refl, Contains-get_or roots k d lt));
+        ∙ so_far.forms (get_or roots k d) (roots_below p.tree p.objective p.constraints p.objective_kept p.constraints_kept k d lt)
+        (length p.tree, omega arith, inr (refl, Contains-get_or roots k d lt));
     rows = rows ∙ so_far.rows;
   }
 
   -- what stops a node, stops all
-  pub marked_stop : (node : NodeId) (stop : ValueStop) → OnStop stop (StopsAt of_number number_of Sums Changes Reads p setting reduced fixed node.0) → IsMarkedStop of_number number_of Sums Changes Reads p setting reduced fixed (stop_of node stop)
+  pub marked_stop : (node : NodeId) (stop : ValueStop) → OnStop stop (StopsAt of_number number_of Sums Changes Reads p setting reduced fixed node.0)
+      → IsMarkedStop of_number number_of Sums Changes Reads p setting reduced fixed (stop_of node stop)
   marked_stop node (values.Passes entry passes) h = h
   marked_stop node (values.ZeroDivisor entry) h = h
   marked_stop node values.Memory h = λ rules marks. tt

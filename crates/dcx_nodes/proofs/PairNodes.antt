@@ -1,5 +1,6 @@
 -- Products and quotients: two sides, and which of them scales the other.
-use Rattle.std.proofs.Common.{◌≡◌, ℕ, zero, suc, ◌<◌, arith, Bool, true, false, not, ◌&&◌, if◌then◌else◌, List, [], ◌∷◌, length, map, get_or, slice_index_or, All, Option, Some, None, IfSome, IsSome, refl, sym, ap, ap₂, ◌∙◌, subst, Result}
+use Rattle.std.proofs.Common.{◌≡◌, ℕ, zero, suc, ◌<◌, arith, Bool, true, false, not, ◌&&◌, if◌then◌else◌, List, [], ◌∷◌, length, map, get_or}
+use Rattle.std.proofs.Common.{slice_index_or, All, Option, Some, None, IfSome, IsSome, refl, sym, ap, ap₂, ◌∙◌, subst, Result}
 use Rattle.std.specs.List.{list_all}
 use Rattle.std.proofs.lemmas.Bool.{and_parts}
 use Rattle.std.proofs.lemmas.List.{length-map}
@@ -72,7 +73,8 @@ module _ {C : Type 0} (number_of : C → Option Frac) where
     entries_told (f ∷ fs) h (suc e) = entries_told fs (and_parts (has_numbers number_of f) (list_all (has_numbers number_of) fs) h).1 e
 
     -- the side that an affine number is multiplied by has them
-    module _ (l r : Side) (args : ℕ → ℕ → Form C) (left : l.numbers ≡ true → (e : ℕ) → HasNumbers number_of (args 0 e)) (right : r.numbers ≡ true → (e : ℕ) → HasNumbers number_of (args 1 e)) (x : Pair) where
+    module _ (l r : Side) (args : ℕ → ℕ → Form C) (left : l.numbers ≡ true → (e : ℕ) → HasNumbers number_of (args 0 e)) (right : r.numbers ≡ true → (e : ℕ) → HasNumbers number_of (args 1 e))
+        (x : Pair) where
       by_right : (b : Bool) → (r.fixed && l.numbers) ≡ b → HasNumbersFor number_of (if b then RightAffine else LeftNumber) args x
       by_right true e = left (and_parts r.fixed l.numbers e).1 x.left
       by_right false e = tt
@@ -85,7 +87,9 @@ module _ {C : Type 0} (number_of : C → Option Frac) where
       by_second true = tt
       by_second false = by_left (l.fixed && r.numbers) refl
 
-      by_first : (b : Bool) → HasNumbersFor number_of (if b then LeftNumber else (if r.number then RightNumber else (if l.fixed && r.numbers then LeftAffine else (if r.fixed && l.numbers then RightAffine else LeftNumber)))) args x
+      by_first : (b : Bool)
+          → HasNumbersFor number_of
+          (if b then LeftNumber else (if r.number then RightNumber else (if l.fixed && r.numbers then LeftAffine else (if r.fixed && l.numbers then RightAffine else LeftNumber)))) args x
       by_first true = tt
       by_first false = by_second r.number
 
@@ -136,7 +140,8 @@ module _ (p : Problem) (i : ℕ) (q : Pairing) (c : call_at p.tree i ≡ Some (c
   pub arg_below : (k d : ℕ) → k < 2 → get_or ids k d < i
   arg_below k d b = subst (λ zs. All (λ a. a < i) zs) (sym same_args) (p.nodes.earlier i n at) k d (omega (arith, b, args_two))
 
-  module _ (d : ℕ) (pairs : List (List Pair)) (h : IfSome (paired_sides q (sides_at p.tree (get_or ids 0 d)) (sides_at p.tree (get_or ids 1 d))) (λ s. pairs ≡ list_below (entries_of s) (pairs_at q (sides_at p.tree (get_or ids 0 d)) (sides_at p.tree (get_or ids 1 d))))) where
+  module _ (d : ℕ) (pairs : List (List Pair)) (h : IfSome (paired_sides q (sides_at p.tree (get_or ids 0 d)) (sides_at p.tree (get_or ids 1 d)))
+      (λ s. pairs ≡ list_below (entries_of s) (pairs_at q (sides_at p.tree (get_or ids 0 d)) (sides_at p.tree (get_or ids 1 d))))) where
     pairs_are : pairs ≡ list_below (entries_of n.sides) (pairs_at q (sides_at p.tree (get_or ids 0 d)) (sides_at p.tree (get_or ids 1 d)))
     pairs_are = some_fact (λ s. pairs ≡ list_below (entries_of s) (pairs_at q (sides_at p.tree (get_or ids 0 d)) (sides_at p.tree (get_or ids 1 d)))) _ n.sides (paired d) h
 
@@ -156,21 +161,25 @@ module _ (p : Problem) (i : ℕ) (q : Pairing) (c : call_at p.tree i ≡ Some (c
       scaling_marked = pairing_scaling q (side_marked number_of reduced fixed forms (get_or ids 0 d)) (side_marked number_of reduced fixed forms (get_or ids 1 d))
 
       side_told : (k : ℕ) → k < 2 → list_all (has_numbers number_of) (slice_index_or forms (get_or ids k d) []) ≡ true → (e : ℕ) → HasNumbers number_of (args_among of_number forms ids k e)
-      side_told k b h e = subst (HasNumbers number_of) (sym (arg_among of_number forms ids k d e (omega (arith, b, args_two)))) (entries_told number_of of_number told (slice_index_or forms (get_or ids k d) []) h e)
+      side_told k b h e = subst (HasNumbers number_of) (sym (arg_among of_number forms ids k d e (omega (arith, b, args_two))))
+          (entries_told number_of of_number told (slice_index_or forms (get_or ids k d) []) h e)
 
       pub pairs_have_numbers : (ps : List Pair) → All (HasNumbersFor number_of scaling_marked (args_among of_number forms ids)) ps
       pairs_have_numbers [] = All-nil (HasNumbersFor number_of scaling_marked (args_among of_number forms ids))
       pairs_have_numbers (x ∷ xs) = All-cons (HasNumbersFor number_of scaling_marked (args_among of_number forms ids)) x xs
-          (scaled_has_numbers number_of of_number told (side_marked number_of reduced fixed forms (get_or ids 0 d)) (side_marked number_of reduced fixed forms (get_or ids 1 d)) (args_among of_number forms ids)
+          (scaled_has_numbers number_of of_number told (side_marked number_of reduced fixed forms (get_or ids 0 d)) (side_marked number_of reduced fixed forms (get_or ids 1 d))
+          (args_among of_number forms ids)
           (side_told 0 (omega arith)) (side_told 1 (omega arith)) x q) (pairs_have_numbers xs)
 
       -- by the rules whose marks these are
-      side_is : (rules : Rules) → AreMarks rules p reduced fixed → (k : ℕ) → k < 2 → side_marked number_of reduced fixed forms (get_or ids k d) ≡ side_of of_number number_of Sums Changes Reads rules p setting forms (get_or ids k 0)
+      side_is : (rules : Rules) → AreMarks rules p reduced fixed → (k : ℕ) → k < 2
+          → side_marked number_of reduced fixed forms (get_or ids k d) ≡ side_of of_number number_of Sums Changes Reads rules p setting forms (get_or ids k 0)
       side_is rules marks k b =
           let there : get_or ids k d ≡ get_or ids k 0 = same_get ids k d 0 (omega (arith, b, args_two)) in
           let lt : get_or ids k 0 < length p.tree = (let below = arg_below k 0 b in let within = slice_get_within p.tree i n at in omega (arith, below, within)) in
           ap (side_marked number_of reduced fixed forms) there
-          ∙ ap₂ (λ x y. record { number = not x; fixed = y; numbers = list_all (has_numbers number_of) (slice_index_or forms (get_or ids k 0) []) }) (marks.reduces (get_or ids k 0) lt) (marks.fixes (get_or ids k 0) lt)
+          ∙ ap₂ (λ x y. record { number = not x; fixed = y; numbers = list_all (has_numbers number_of) (slice_index_or forms (get_or ids k 0) []) }) (marks.reduces (get_or ids k 0) lt)
+          (marks.fixes (get_or ids k 0) lt)
 
       abbrev pub PairGives : ℕ → Result (EntryForms C) ValueStop → Type 0
       PairGives j r = PairEntry of_number number_of Sums Changes scaling_marked (args_among of_number forms ids) (slice_index_or pairs j []) j r
@@ -201,7 +210,8 @@ pos_get (a ∷ ids) (suc k) = pos_get ids k
 pub given_pairs : (q : Pairing) (x y a b : Sides) (pairs : List (List Pair)) → x ≡ a → y ≡ b → IfSome (paired_sides q x y) (λ s. pairs ≡ list_below (entries_of s) (pairs_at q x y)) →
     IfSome (paired_sides q a b) (λ s. pairs ≡ list_below (entries_of s) (pairs_at q a b))
 given_pairs q x y a b pairs e f h =
-    subst (λ z. IfSome (paired_sides q a z) (λ s. pairs ≡ list_below (entries_of s) (pairs_at q a z))) f (subst (λ z. IfSome (paired_sides q z y) (λ s. pairs ≡ list_below (entries_of s) (pairs_at q z y))) e h)
+    subst (λ z. IfSome (paired_sides q a z) (λ s. pairs ≡ list_below (entries_of s) (pairs_at q a z))) f
+    (subst (λ z. IfSome (paired_sides q z y) (λ s. pairs ≡ list_below (entries_of s) (pairs_at q z y))) e h)
 
 -- a product has two arguments, which stand before it
 module _ (p : Problem) (i : ℕ) (q : Pairing) (c : call_at p.tree i ≡ Some (calls.Pairing q)) (ids : List NodeId) (ids_are : positions ids ≡ args_at p.tree i) where

@@ -69,7 +69,8 @@ module _ {C : Type 0} (of_number : Frac → C) where
         by (Err stop) h = h
 
   -- what follows
-  pub standing_weaker : (s : Result (Standing C) ValueStop) (P Q : Result (List (EntryForms C)) ValueStop → Type 0) → ((r : Result (List (EntryForms C)) ValueStop) → P r → Q r) → StandingBy of_number s P → StandingBy of_number s Q
+  pub standing_weaker : (s : Result (Standing C) ValueStop) (P Q : Result (List (EntryForms C)) ValueStop → Type 0) → ((r : Result (List (EntryForms C)) ValueStop) → P r → Q r)
+      → StandingBy of_number s P → StandingBy of_number s Q
   standing_weaker (Ok x) P Q f h = f (Ok (entries_in of_number x)) h
   standing_weaker (Err stop) P Q f h = OnStop-weaker stop (λ e. P (Err e)) (λ e. Q (Err e)) (λ e. f (Err e)) h
 
@@ -90,17 +91,22 @@ constant_given p i x setting c n at = subst (λ z. IsGiven z setting []) (sym (c
 module _ {C : Type 0} (of_number : Frac → C) (number_of : C → Option Frac) (Sums : C → C → Result C Passes → Type 0) (Changes : Change → C → Result C Passes → Type 0)
     (Reads : ℕ → List ℕ → ℕ → Pairs → C → Type 0) (p : Problem) (setting : Pairs) (reduced fixed : List Bool) (forms : List (List (Form C))) (i : ℕ) (r : Result (List (EntryForms C)) ValueStop) where
   -- a constant is its value
-  pub constant_gives : (x : Array) → call_at p.tree i ≡ Some (calls.Constant x) → ValueGives of_number number_of Sums Changes Reads p setting forms i r → ReducedGives of_number number_of Sums Changes Reads p setting reduced fixed forms i r
+  pub constant_gives : (x : Array) → call_at p.tree i ≡ Some (calls.Constant x) → ValueGives of_number number_of Sums Changes Reads p setting forms i r
+      → ReducedGives of_number number_of Sums Changes Reads p setting reduced fixed forms i r
   constant_gives x c h rules marks n at =
-      subst (λ call. FormsEach (ReducedEntry of_number number_of Sums Changes Reads rules p setting forms i n.args call (arg_sides p.tree n)) (entries_of n.sides) r) (sym (call_is p i (calls.Constant x) c n at))
-      (subst (λ call. FormsEach (NumberEntry of_number number_of Sums Changes Reads rules p setting call (arg_sides p.tree n) (args_among of_number forms n.args)) (entries_of n.sides) r) (call_is p i (calls.Constant x) c n at)
+      subst (λ call. FormsEach (ReducedEntry of_number number_of Sums Changes Reads rules p setting forms i n.args call (arg_sides p.tree n)) (entries_of n.sides) r)
+      (sym (call_is p i (calls.Constant x) c n at))
+      (subst (λ call. FormsEach (NumberEntry of_number number_of Sums Changes Reads rules p setting call (arg_sides p.tree n) (args_among of_number forms n.args)) (entries_of n.sides) r)
+      (call_is p i (calls.Constant x) c n at)
       (h rules n at))
 
   -- a node that is reduced, and one that isn't
-  pub marked_reduced : i < length p.tree → marked reduced i ≡ true → ReducedGives of_number number_of Sums Changes Reads p setting reduced fixed forms i r → MarkedGives of_number number_of Sums Changes Reads p setting reduced fixed forms i r
+  pub marked_reduced : i < length p.tree → marked reduced i ≡ true → ReducedGives of_number number_of Sums Changes Reads p setting reduced fixed forms i r
+      → MarkedGives of_number number_of Sums Changes Reads p setting reduced fixed forms i r
   marked_reduced lt e h rules marks n at =
       subst (λ b. FormsEach (NodeEntryBy of_number number_of Sums Changes Reads rules p setting b forms i n) (entries_of n.sides) r) (sym e ∙ marks.reduces i lt) (h rules marks n at)
 
-  pub marked_number : i < length p.tree → marked reduced i ≡ false → ValueGives of_number number_of Sums Changes Reads p setting forms i r → MarkedGives of_number number_of Sums Changes Reads p setting reduced fixed forms i r
+  pub marked_number : i < length p.tree → marked reduced i ≡ false → ValueGives of_number number_of Sums Changes Reads p setting forms i r
+      → MarkedGives of_number number_of Sums Changes Reads p setting reduced fixed forms i r
   marked_number lt e h rules marks n at =
       subst (λ b. FormsEach (NodeEntryBy of_number number_of Sums Changes Reads rules p setting b forms i n) (entries_of n.sides) r) (sym e ∙ marks.reduces i lt) (h rules n at)

@@ -1,4 +1,4 @@
--- What the contracts of this crate cite.
+-- What contracts cite: what must be given of nodes, what is formed of each, and where it is last asked for.
 pub mod Marks
 pub mod Given
 pub mod Formed

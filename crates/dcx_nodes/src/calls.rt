@@ -34,7 +34,8 @@ fn graph_entries<C: Coef>(
     requires next { next.old ≡ first_marked given.now.problem.now given.now.reduced.now node.0 }
     requires graph { IsNodeGraph given.now.problem.now.tree node.0 (Some graph.now) }
     ensures count { IfOk result (λ es. length es ≡ entries_of (sides_at given.now.problem.now.tree node.0)) }
-    ensures entries { IsFormed result (ReducedGives C.of_number C.number_of C.sum_gives C.change_gives C.parameter_gives given.now.problem.now given.now.setting.now given.now.reduced.now given.now.fixed.now (all_forms C.of_number args.now.standing.now) node.0) }
+    ensures entries { IsFormed result (ReducedGives C.of_number C.number_of C.sum_gives C.change_gives C.parameter_gives
+        given.now.problem.now given.now.setting.now given.now.reduced.now given.now.fixed.now (all_forms C.of_number args.now.standing.now) node.0) }
     ensures next { OnOk result (next.new ≡ first_marked given.now.problem.now given.now.reduced.now (node.0 + 1)) }
 {
     let size = given.problem.tree.shape(node).size();
@@ -59,7 +60,8 @@ pub(crate) fn atom_node<C: Coef>(
     requires reduced { marked given.now.reduced.now node.0 ≡ true }
     requires next { next.old ≡ first_marked given.now.problem.now given.now.reduced.now node.0 }
     ensures count { IfOk result (λ es. length es ≡ entries_of (sides_at given.now.problem.now.tree node.0)) }
-    ensures entries { IsFormed result (ReducedGives C.of_number C.number_of C.sum_gives C.change_gives C.parameter_gives given.now.problem.now given.now.setting.now given.now.reduced.now given.now.fixed.now (all_forms C.of_number args.now.standing.now) node.0) }
+    ensures entries { IsFormed result (ReducedGives C.of_number C.number_of C.sum_gives C.change_gives C.parameter_gives
+        given.now.problem.now given.now.setting.now given.now.reduced.now given.now.fixed.now (all_forms C.of_number args.now.standing.now) node.0) }
     ensures next { OnOk result (next.new ≡ first_marked given.now.problem.now given.now.reduced.now (node.0 + 1)) }
 {
     match node_graph(alloc, given.problem, node) {
@@ -86,7 +88,8 @@ pub(crate) fn linear_node<C: Coef>(
     requires call { call_at given.now.problem.now.tree node.0 ≡ Some (calls.Linear call.now) }
     requires ids { positions args.now.ids.now ≡ args_at given.now.problem.now.tree node.0 }
     ensures count { IfOk result (λ es. length es ≡ entries_of (sides_at given.now.problem.now.tree node.0)) }
-    ensures entries { IsFormed result (ReducedGives C.of_number C.number_of C.sum_gives C.change_gives C.parameter_gives given.now.problem.now given.now.setting.now given.now.reduced.now given.now.fixed.now (all_forms C.of_number args.now.standing.now) node.0) }
+    ensures entries { IsFormed result (ReducedGives C.of_number C.number_of C.sum_gives C.change_gives C.parameter_gives
+        given.now.problem.now given.now.setting.now given.now.reduced.now given.now.fixed.now (all_forms C.of_number args.now.standing.now) node.0) }
 {
     let tree = &given.problem.tree;
     let shapes = match tree.shapes_of(alloc, args.ids) {

@@ -91,9 +91,12 @@ fn add_formed<C: Coef>(
     requires uses { AreLastUses given.now.problem.now uses.now }
     requires there { node.0 < length given.now.problem.now.tree }
     requires ids { positions ids.now ≡ args_at given.now.problem.now.tree node.0 }
-    requires so_far { AreFormedTo C.of_number C.number_of C.sum_gives C.change_gives C.parameter_gives given.now.problem.now given.now.setting.now given.now.reduced.now given.now.fixed.now node.0 forming.old }
-    ensures formed { OnOk result (AreFormedTo C.of_number C.number_of C.sum_gives C.change_gives C.parameter_gives given.now.problem.now given.now.setting.now given.now.reduced.now given.now.fixed.now (node.0 + 1) forming.new) }
-    ensures stop { IfErr result (λ e. OnStop e (StopsAt C.of_number C.number_of C.sum_gives C.change_gives C.parameter_gives given.now.problem.now given.now.setting.now given.now.reduced.now given.now.fixed.now node.0)) }
+    requires so_far { AreFormedTo C.of_number C.number_of C.sum_gives C.change_gives C.parameter_gives
+        given.now.problem.now given.now.setting.now given.now.reduced.now given.now.fixed.now node.0 forming.old }
+    ensures formed { OnOk result (AreFormedTo C.of_number C.number_of C.sum_gives C.change_gives C.parameter_gives
+        given.now.problem.now given.now.setting.now given.now.reduced.now given.now.fixed.now (node.0 + 1) forming.new) }
+    ensures stop { IfErr result (λ e. OnStop e
+        (StopsAt C.of_number C.number_of C.sum_gives C.change_gives C.parameter_gives given.now.problem.now given.now.setting.now given.now.reduced.now given.now.fixed.now node.0)) }
 {
     let formed = form_node(
         alloc,
@@ -122,9 +125,12 @@ fn add_node<C: Coef>(
     requires ready { IsReady C.can_read given.now.problem.now given.now.reduced.now given.now.fixed.now given.now.setting.now given.now.firsts.now }
     requires uses { AreLastUses given.now.problem.now uses.now }
     requires there { node.0 < length given.now.problem.now.tree }
-    requires so_far { AreFormedTo C.of_number C.number_of C.sum_gives C.change_gives C.parameter_gives given.now.problem.now given.now.setting.now given.now.reduced.now given.now.fixed.now node.0 forming.old }
-    ensures formed { OnOk result (AreFormedTo C.of_number C.number_of C.sum_gives C.change_gives C.parameter_gives given.now.problem.now given.now.setting.now given.now.reduced.now given.now.fixed.now (node.0 + 1) forming.new) }
-    ensures stop { IfErr result (λ e. OnStop e (StopsAt C.of_number C.number_of C.sum_gives C.change_gives C.parameter_gives given.now.problem.now given.now.setting.now given.now.reduced.now given.now.fixed.now node.0)) }
+    requires so_far { AreFormedTo C.of_number C.number_of C.sum_gives C.change_gives C.parameter_gives
+        given.now.problem.now given.now.setting.now given.now.reduced.now given.now.fixed.now node.0 forming.old }
+    ensures formed { OnOk result (AreFormedTo C.of_number C.number_of C.sum_gives C.change_gives C.parameter_gives
+        given.now.problem.now given.now.setting.now given.now.reduced.now given.now.fixed.now (node.0 + 1) forming.new) }
+    ensures stop { IfErr result (λ e. OnStop e
+        (StopsAt C.of_number C.number_of C.sum_gives C.change_gives C.parameter_gives given.now.problem.now given.now.setting.now given.now.reduced.now given.now.fixed.now node.0)) }
 {
     match given.problem.tree.args(alloc, node) {
         Ok(ids) => add_formed(alloc, given, uses, forming, node, &ids),
@@ -144,9 +150,12 @@ pub(crate) fn add_nodes<C: Coef, L: Ledger>(
 ) -> Result<(), FormStop>
     requires ready { IsReady C.can_read given.now.problem.now given.now.reduced.now given.now.fixed.now given.now.setting.now given.now.firsts.now }
     requires uses { AreLastUses given.now.problem.now uses.now }
-    requires none { AreFormedTo C.of_number C.number_of C.sum_gives C.change_gives C.parameter_gives given.now.problem.now given.now.setting.now given.now.reduced.now given.now.fixed.now 0 forming.old }
-    ensures formed { OnOk result (AreFormedTo C.of_number C.number_of C.sum_gives C.change_gives C.parameter_gives given.now.problem.now given.now.setting.now given.now.reduced.now given.now.fixed.now (length given.now.problem.now.tree) forming.new) }
-    ensures stop { IfErr result (IsMarkedStop C.of_number C.number_of C.sum_gives C.change_gives C.parameter_gives given.now.problem.now given.now.setting.now given.now.reduced.now given.now.fixed.now) }
+    requires none { AreFormedTo C.of_number C.number_of C.sum_gives C.change_gives C.parameter_gives
+        given.now.problem.now given.now.setting.now given.now.reduced.now given.now.fixed.now 0 forming.old }
+    ensures formed { OnOk result (AreFormedTo C.of_number C.number_of C.sum_gives C.change_gives C.parameter_gives
+        given.now.problem.now given.now.setting.now given.now.reduced.now given.now.fixed.now (length given.now.problem.now.tree) forming.new) }
+    ensures stop { IfErr result (IsMarkedStop C.of_number C.number_of C.sum_gives C.change_gives C.parameter_gives
+        given.now.problem.now given.now.setting.now given.now.reduced.now given.now.fixed.now) }
     ensures steps { OnOk result (steps.new ≡ steps.old + length given.now.problem.now.tree) }
     ensures begun { steps.new ≤ steps.old + length given.now.problem.now.tree }
 {

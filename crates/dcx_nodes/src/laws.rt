@@ -10,5 +10,8 @@ use dcx_linear::Coef;
 /// Where the entries of parameters have one answer, nodes are formed in one way: one table of entries, or one node that stops
 /// with one operation or divisor.
 pub fn one_forming<C: Coef>()
-    ensures { ((position : ℕ) (name : List ℕ) (entry : ℕ) (setting : Pairs) (c d : C) → C.parameter_gives position name entry setting c → C.parameter_gives position name entry setting d → c ≡ d) → (rules : Rules) (p : Problem) (setting : Pairs) (k : ℕ) → k ≤ length p.tree → (r s : Result (Table C) NodeStop) → NodesGive C.of_number C.number_of C.sum_gives C.change_gives C.parameter_gives rules p setting k r → NodesGive C.of_number C.number_of C.sum_gives C.change_gives C.parameter_gives rules p setting k s → r ≡ s }
+    ensures { ((position : ℕ) (name : List ℕ) (entry : ℕ) (setting : Pairs) (c d : C) → C.parameter_gives position name entry setting c → C.parameter_gives position name entry setting d
+        → c ≡ d) → (rules : Rules) (p : Problem) (setting : Pairs) (k : ℕ) → k ≤ length p.tree → (r s : Result (Table C) NodeStop)
+        → NodesGive C.of_number C.number_of C.sum_gives C.change_gives C.parameter_gives rules p setting k r
+        → NodesGive C.of_number C.number_of C.sum_gives C.change_gives C.parameter_gives rules p setting k s → r ≡ s }
 {}

@@ -60,7 +60,9 @@ pub(crate) fn variable_node<C: Coef>(
     requires ready { IsReady C.can_read given.now.problem.now given.now.reduced.now given.now.fixed.now given.now.setting.now given.now.firsts.now }
     requires call { call_at given.now.problem.now.tree node.0 ≡ Some (calls.Variable variable.now) }
     ensures count { IfOk result (λ es. length es ≡ entries_of (sides_at given.now.problem.now.tree node.0)) }
-    ensures entries { (forms : List (List (Form C))) → IsFormed result (ReducedGives C.of_number C.number_of C.sum_gives C.change_gives C.parameter_gives given.now.problem.now given.now.setting.now given.now.reduced.now given.now.fixed.now forms node.0) }
+    ensures entries { (forms : List (List (Form C)))
+        → IsFormed result (ReducedGives C.of_number C.number_of C.sum_gives C.change_gives C.parameter_gives
+        given.now.problem.now given.now.setting.now given.now.reduced.now given.now.fixed.now forms node.0) }
 {
     let position = variable_position(given.problem.variables.as_slice(), &variable.name);
     let unknowns = match entry_unknowns(alloc, given.firsts[position], variable) {
@@ -84,7 +86,9 @@ pub(crate) fn parameter_node<C: Coef>(
     requires call { call_at given.now.problem.now.tree node.0 ≡ Some (calls.Parameter parameter.now) }
     requires reduced { marked given.now.reduced.now node.0 ≡ true }
     ensures count { IfOk result (λ es. length es ≡ entries_of (sides_at given.now.problem.now.tree node.0)) }
-    ensures entries { (forms : List (List (Form C))) → IsFormed result (ReducedGives C.of_number C.number_of C.sum_gives C.change_gives C.parameter_gives given.now.problem.now given.now.setting.now given.now.reduced.now given.now.fixed.now forms node.0) }
+    ensures entries { (forms : List (List (Form C)))
+        → IsFormed result (ReducedGives C.of_number C.number_of C.sum_gives C.change_gives C.parameter_gives
+        given.now.problem.now given.now.setting.now given.now.reduced.now given.now.fixed.now forms node.0) }
 {
     let position = parameter_position(given.problem.parameters.as_slice(), &parameter.name);
     let size = parameter.shape.size();

@@ -54,7 +54,9 @@ fn form_reduced<C: Coef>(
     requires reduced { marked given.now.reduced.now node.0 ≡ true }
     requires next { next.old ≡ first_marked given.now.problem.now given.now.reduced.now node.0 }
     ensures sides { IfOk result (IsOfSides (sides_at given.now.problem.now.tree node.0)) }
-    ensures entries { StandingBy C.of_number result (ReducedGives C.of_number C.number_of C.sum_gives C.change_gives C.parameter_gives given.now.problem.now given.now.setting.now given.now.reduced.now given.now.fixed.now (all_forms C.of_number args.now.standing.now) node.0) }
+    ensures entries { StandingBy C.of_number result
+        (ReducedGives C.of_number C.number_of C.sum_gives C.change_gives C.parameter_gives given.now.problem.now given.now.setting.now given.now.reduced.now given.now.fixed.now
+        (all_forms C.of_number args.now.standing.now) node.0) }
     ensures next { OnOk result (next.new ≡ first_marked given.now.problem.now given.now.reduced.now (node.0 + 1)) }
 {
     match given.problem.tree.call(node) {
@@ -86,7 +88,9 @@ pub(crate) fn form_node<C: Coef>(
     requires sides { AreOfSides given.now.problem.now.tree standing.now (positions ids.now) }
     requires next { next.old ≡ first_marked given.now.problem.now given.now.reduced.now node.0 }
     ensures sides { IfOk result (IsOfSides (sides_at given.now.problem.now.tree node.0)) }
-    ensures entries { StandingBy C.of_number result (MarkedGives C.of_number C.number_of C.sum_gives C.change_gives C.parameter_gives given.now.problem.now given.now.setting.now given.now.reduced.now given.now.fixed.now (all_forms C.of_number standing.now) node.0) }
+    ensures entries { StandingBy C.of_number result
+        (MarkedGives C.of_number C.number_of C.sum_gives C.change_gives C.parameter_gives given.now.problem.now given.now.setting.now given.now.reduced.now given.now.fixed.now
+        (all_forms C.of_number standing.now) node.0) }
     ensures next { OnOk result (next.new ≡ first_marked given.now.problem.now given.now.reduced.now (node.0 + 1)) }
 {
     let args = Arguments { standing, ids };

@@ -42,8 +42,10 @@ pub fn form_nodes<C: Coef, L: Ledger>(
     requires few { HasFewUnknowns problem.now reduced.now }
     requires numbers { NumbersAreGiven problem.now reduced.now setting.now }
     requires readable { ParametersAreReadable C.can_read problem.now reduced.now setting.now }
-    ensures formed { IfOk result (λ f. (rules : Rules) → AreReduced rules problem.now reduced.now → AreFixed problem.now fixed.now → IsKept C.of_number C.number_of C.sum_gives C.change_gives C.parameter_gives rules problem.now setting.now f) }
-    ensures stop { IfErr result (λ e. (rules : Rules) → AreReduced rules problem.now reduced.now → AreFixed problem.now fixed.now → IsStop C.of_number C.number_of C.sum_gives C.change_gives C.parameter_gives rules problem.now setting.now e) }
+    ensures formed { IfOk result (λ f. (rules : Rules) → AreReduced rules problem.now reduced.now → AreFixed problem.now fixed.now
+        → IsKept C.of_number C.number_of C.sum_gives C.change_gives C.parameter_gives rules problem.now setting.now f) }
+    ensures stop { IfErr result (λ e. (rules : Rules) → AreReduced rules problem.now reduced.now → AreFixed problem.now fixed.now
+        → IsStop C.of_number C.number_of C.sum_gives C.change_gives C.parameter_gives rules problem.now setting.now e) }
     ensures steps { OnOk result (steps.new ≡ steps.old + length problem.now.tree) }
     ensures begun { steps.new ≤ steps.old + length problem.now.tree }
 {
@@ -75,8 +77,10 @@ fn all_nodes<C: Coef, L: Ledger>(
 ) -> Result<Formed<C>, FormStop>
     requires ready { IsReady C.can_read given.now.problem.now given.now.reduced.now given.now.fixed.now given.now.setting.now given.now.firsts.now }
     requires next { next ≡ variable_unknowns given.now.problem.now.variables }
-    ensures formed { IfOk result (IsMarkedKept C.of_number C.number_of C.sum_gives C.change_gives C.parameter_gives given.now.problem.now given.now.setting.now given.now.reduced.now given.now.fixed.now) }
-    ensures stop { IfErr result (IsMarkedStop C.of_number C.number_of C.sum_gives C.change_gives C.parameter_gives given.now.problem.now given.now.setting.now given.now.reduced.now given.now.fixed.now) }
+    ensures formed { IfOk result (IsMarkedKept C.of_number C.number_of C.sum_gives C.change_gives C.parameter_gives
+        given.now.problem.now given.now.setting.now given.now.reduced.now given.now.fixed.now) }
+    ensures stop { IfErr result (IsMarkedStop C.of_number C.number_of C.sum_gives C.change_gives C.parameter_gives
+        given.now.problem.now given.now.setting.now given.now.reduced.now given.now.fixed.now) }
     ensures steps { OnOk result (steps.new ≡ steps.old + length given.now.problem.now.tree) }
     ensures begun { steps.new ≤ steps.old + length given.now.problem.now.tree }
 {

@@ -105,7 +105,8 @@ fn value_at_point<C: Coef>(
     requires given { (n : Node) → IsNode given.now.problem.now.tree node.0 n → IsGiven n.call given.now.setting.now [] }
     requires point { point.now ≡ [] }
     ensures sides { IfOk result (λ x. sides_of x.shape ≡ sides_at given.now.problem.now.tree node.0) }
-    ensures value { ValueBy C.of_number result (ValueGives C.of_number C.number_of C.sum_gives C.change_gives C.parameter_gives given.now.problem.now given.now.setting.now (all_forms C.of_number args.now.standing.now) node.0) }
+    ensures value { ValueBy C.of_number result (ValueGives C.of_number C.number_of C.sum_gives C.change_gives C.parameter_gives given.now.problem.now given.now.setting.now
+        (all_forms C.of_number args.now.standing.now) node.0) }
 {
     let tree = &given.problem.tree;
     if let Some(array) = only_value(args) {
@@ -133,7 +134,8 @@ pub(crate) fn node_value<C: Coef>(
     requires sides { AreOfSides given.now.problem.now.tree args.now.standing.now (positions args.now.ids.now) }
     requires given { (n : Node) → IsNode given.now.problem.now.tree node.0 n → IsGiven n.call given.now.setting.now [] }
     ensures sides { IfOk result (λ x. sides_of x.shape ≡ sides_at given.now.problem.now.tree node.0) }
-    ensures value { ValueBy C.of_number result (ValueGives C.of_number C.number_of C.sum_gives C.change_gives C.parameter_gives given.now.problem.now given.now.setting.now (all_forms C.of_number args.now.standing.now) node.0) }
+    ensures value { ValueBy C.of_number result (ValueGives C.of_number C.number_of C.sum_gives C.change_gives C.parameter_gives given.now.problem.now given.now.setting.now
+        (all_forms C.of_number args.now.standing.now) node.0) }
 {
     let point = Point::empty(alloc);
     let value = value_at_point(alloc, given, node, args, &point);

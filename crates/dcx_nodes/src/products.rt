@@ -49,7 +49,8 @@ pub(crate) fn pairing_node<C: Coef>(
     requires ids { positions args.now.ids.now ≡ args_at given.now.problem.now.tree node.0 }
     requires before { length args.now.standing.now ≡ node.0 }
     ensures count { IfOk result (λ es. length es ≡ entries_of (sides_at given.now.problem.now.tree node.0)) }
-    ensures entries { IsFormed result (ReducedGives C.of_number C.number_of C.sum_gives C.change_gives C.parameter_gives given.now.problem.now given.now.setting.now given.now.reduced.now given.now.fixed.now (all_forms C.of_number args.now.standing.now) node.0) }
+    ensures entries { IsFormed result (ReducedGives C.of_number C.number_of C.sum_gives C.change_gives C.parameter_gives
+        given.now.problem.now given.now.setting.now given.now.reduced.now given.now.fixed.now (all_forms C.of_number args.now.standing.now) node.0) }
 {
     let tree = &given.problem.tree;
     let ids = args.ids;

@@ -37,7 +37,8 @@ use Rattle.dcx_operators.proofs.NearestPicks.{indexed_nearest, picked_array-near
 -- ---- nodes
 -- what is left once the shape of the node is known
 abbrev with_shape : Place → ℕ → List Pick → State → Option Shape → Result (ℕ × State) ElabFault
-with_shape place i ps s o = and_then (or_fault (ShapeClash place) o s) (λ (from : Shape). or_array_fault place (indexed from ps) >>= λ (call : Index). push place (calls.Linear (linears.Index call)) (i ∷ []))
+with_shape place i ps s o = and_then (or_fault (ShapeClash place) o s)
+    (λ (from : Shape). or_array_fault place (indexed from ps) >>= λ (call : Index). push place (calls.Linear (linears.Index call)) (i ∷ []))
 
 -- and once the call is
 abbrev with_call : Place → ℕ → State → Result Index ArrayFault → Result (ℕ × State) ElabFault
@@ -106,7 +107,8 @@ got qs (Ok x) = x.0
 got qs (Err e) = qs
 
 -- they pick, and numbers of 64 bits give the same
-pub picked_then : {A : Type 0} (place : Place) (o : Option (List Pick)) (qs : List Pick) (f : List Pick → Act A) (s : State) → or_fault (BadArgument place) (option_map (map nearest_pick) o) s ≡ Ok (qs, s)
+pub picked_then : {A : Type 0} (place : Place) (o : Option (List Pick)) (qs : List Pick) (f : List Pick → Act A) (s : State)
+    → or_fault (BadArgument place) (option_map (map nearest_pick) o) s ≡ Ok (qs, s)
     → ((ps : List Pick) → map nearest_pick ps ≡ qs → f (map nearest_pick ps) s ≡ f ps s) → and_then (or_fault (BadArgument place) o s) f ≡ f qs s
 picked_then place None qs f s h same = absurd cc
 picked_then place (Some ps) qs f s h same = let e : map nearest_pick ps ≡ qs = ap (got qs) h in sym (same ps e) ∙ ap (λ rs. f rs s) e
@@ -122,6 +124,7 @@ pub node_picked : (place : Place) (o : Option (List Pick)) (qs : List Pick) (i :
 node_picked place o qs i s h steps =
     picked_then place o qs (index_node place i) s h (λ ps e. index_node-nearest place i ps s (steps_back ps (subst (All HasStep) (sym e) steps)))
 
-pub list_picked : (place : Place) (o : Option (List Pick)) (qs : List Pick) (vs : List Value) (s : State) → or_fault (BadArgument place) (option_map (map nearest_pick) o) s ≡ Ok (qs, s) → length vs ≤ 20000
+pub list_picked : (place : Place) (o : Option (List Pick)) (qs : List Pick) (vs : List Value) (s : State)
+    → or_fault (BadArgument place) (option_map (map nearest_pick) o) s ≡ Ok (qs, s) → length vs ≤ 20000
     → and_then (or_fault (BadArgument place) o s) (index_list place vs) ≡ index_list place vs qs s
 list_picked place o qs vs s h few = picked_then place o qs (index_list place vs) s h (λ ps e. index_list-nearest place vs ps s few)

@@ -1,4 +1,4 @@
--- The lemmas.
+-- The lemmas on what indices and slices pick, also with their numbers brought into 64 bits.
 pub mod NearestSlices
 pub mod NearestPicks
 pub mod Indexed

@@ -116,9 +116,14 @@ taken_by_nearest : (from : Sides) (count : ℕ) (p q : Pick) → HasFewEntries f
 taken_by_nearest from count p q few h k =
     let rows = rows_few from few in
     let columns = columns_few from few in
-    ap (λ r. (unless Clash (nat_le count (rank_of from)) >> (r >>= λ xs. picked (cols_of from) (nearest_pick q) >>= λ ys. Ok (record { sides = kept_sides (nearest_pick p) (length xs) (nearest_pick q) (length ys); places = (crossed from [] xs ys).places })))) (picked_nearest (rows_of from) p rows.1 rows.0 h)
-    ∙ ap (λ c. (unless Clash (nat_le count (rank_of from)) >> (picked (rows_of from) p >>= λ xs. c >>= λ ys. Ok (record { sides = kept_sides (nearest_pick p) (length xs) (nearest_pick q) (length ys); places = (crossed from [] xs ys).places })))) (picked_nearest (cols_of from) q columns.1 columns.0 k)
-    ∙ ap (λ (kept : ℕ → ℕ → Sides). (unless Clash (nat_le count (rank_of from)) >> (picked (rows_of from) p >>= λ xs. picked (cols_of from) q >>= λ ys. Ok (record { sides = kept (length xs) (length ys); places = (crossed from [] xs ys).places })))) (λ i m n. kept_sides_nearest p q m n i)
+    ap (λ r. (unless Clash (nat_le count (rank_of from)) >> (r >>= λ xs. picked (cols_of from) (nearest_pick q)
+    >>= λ ys. Ok (record { sides = kept_sides (nearest_pick p) (length xs) (nearest_pick q) (length ys); places = (crossed from [] xs ys).places }))))
+    (picked_nearest (rows_of from) p rows.1 rows.0 h)
+    ∙ ap (λ c. (unless Clash (nat_le count (rank_of from)) >> (picked (rows_of from) p >>= λ xs. c
+    >>= λ ys. Ok (record { sides = kept_sides (nearest_pick p) (length xs) (nearest_pick q) (length ys); places = (crossed from [] xs ys).places }))))
+    (picked_nearest (cols_of from) q columns.1 columns.0 k)
+    ∙ ap (λ (kept : ℕ → ℕ → Sides). (unless Clash (nat_le count (rank_of from)) >> (picked (rows_of from) p >>= λ xs. picked (cols_of from) q
+    >>= λ ys. Ok (record { sides = kept (length xs) (length ys); places = (crossed from [] xs ys).places })))) (λ i m n. kept_sides_nearest p q m n i)
 
 taken_nearest : (from : Sides) (ps : List Pick) → HasFewEntries from → All HasStep ps → taken from (map nearest_pick ps) ≡ taken from ps
 taken_nearest from ps few h =

@@ -1,11 +1,12 @@
 -- A slice whose numbers are brought into 64 bits takes the same places of a side of an array.
-use Rattle.std.specs.Prelude.{◌≡◌, ◌↔◌, ℕ, zero, suc, ◌-◌, ◌<◌, ◌≤◌, ◌^◌, min, ℤ, pos, negsuc, neg_ℤ, ◌+ℤ◌, ◌-ℤ◌, ◌*ℤ◌, ◌<ℤ◌, ◌≤ℤ◌, List, length, slice_index, Option, Some, None, option_map}
-use Rattle.std.proofs.Common.{refl, sym, ap, ◌∙◌, subst, arith, inl, inr, suc-mul, zero-mul}
+use Rattle.std.specs.Prelude.{◌≡◌, ◌↔◌, ℕ, zero, suc, ◌-◌, ◌<◌, ◌≤◌, ◌^◌, min, ℤ, pos, negsuc, ◌+ℤ◌, ◌-ℤ◌, ◌*ℤ◌, ◌<ℤ◌, ◌≤ℤ◌, List, length, slice_index, Option, Some, None, option_map}
+use Rattle.std.proofs.Common.{refl, sym, ap, ◌∙◌, subst, arith, inl, inr, suc-mul}
 use Rattle.std.proofs.lemmas.Bool.{cases_lt}
 use Rattle.std.proofs.lemmas.Int.{ints, clamps}
 use Rattle.dcx_shape.specs.declared.slice.Slice.{Slice}
 use Rattle.dcx_shape.specs.Slice.{counted, clipped, end_of, start_for, stop_for, IsBefore, IsSlice}
 use Rattle.dcx_operators.specs.View.{nearest, nearest_slice}
+use Rattle.dcx_shape.proofs.Slices.{zero_times}
 
 -- ---- ends
 -- an end that is beyond 64 bits is clipped as the nearest number
@@ -13,7 +14,8 @@ clipped_nearest : (n : ℕ) (low high : ℤ) (i : ℤ) → n ≤ 20000 → negsu
 clipped_nearest n low high (pos k) few a b c d = omega (arith, ints, clamps)
 clipped_nearest n low high (negsuc k) few a b c d = omega (arith, ints, clamps)
 
-end_nearest : (n : ℕ) (low high default : ℤ) (i : Option ℤ) → n ≤ 20000 → negsuc 0 ≤ℤ low → low ≤ℤ pos 0 → low ≤ℤ high → high ≤ℤ pos n → end_of n low high default (option_map nearest i) ≡ end_of n low high default i
+end_nearest : (n : ℕ) (low high default : ℤ) (i : Option ℤ) → n ≤ 20000 → negsuc 0 ≤ℤ low → low ≤ℤ pos 0 → low ≤ℤ high → high ≤ℤ pos n
+    → end_of n low high default (option_map nearest i) ≡ end_of n low high default i
 end_nearest n low high default None few a b c d = refl
 end_nearest n low high default (Some i) few a b c d = clipped_nearest n low high i few a b c d
 
@@ -32,10 +34,6 @@ beyond_up a b n t j low high far before = absurd (omega (arith, ints, suc-mul j 
 
 beyond_down : (a b : ℤ) (n t j : ℕ) → a <ℤ pos n → negsuc 0 ≤ℤ b → n ≤ t → ¬ (b <ℤ (a +ℤ pos (suc j) *ℤ negsuc t))
 beyond_down a b n t j high low far before = absurd (omega (arith, ints, suc-mul j (suc t)))
-
-none_times : (z : ℤ) → pos 0 *ℤ z ≡ pos 0
-none_times (pos m) = ap pos (zero-mul m)
-none_times (negsuc m) = ap (λ x. neg_ℤ (pos x)) (zero-mul (suc m))
 
 -- a number that passes a test is that which stands beside it, and they pass it together
 abbrev Kept : (ℤ → Type 0) → ℤ → ℤ → Type 0
@@ -59,7 +57,7 @@ kept_up a b n t (suc j) few low high = elim (cases_lt 20000 t) [
 ]
 
 kept_down : (a b : ℤ) (n t j : ℕ) → n ≤ 20000 → a <ℤ pos n → negsuc 0 ≤ℤ b → Kept (λ z. b <ℤ z) (a +ℤ pos j *ℤ negsuc t) (a +ℤ pos j *ℤ nearest (negsuc t))
-kept_down a b n t zero few high low = kept_same (λ z. b <ℤ z) (a +ℤ pos 0 *ℤ negsuc t) (a +ℤ pos 0 *ℤ nearest (negsuc t)) (omega (arith, ints, none_times (negsuc t), none_times (nearest (negsuc t))))
+kept_down a b n t zero few high low = kept_same (λ z. b <ℤ z) (a +ℤ pos 0 *ℤ negsuc t) (a +ℤ pos 0 *ℤ nearest (negsuc t)) (omega (arith, ints, zero_times (negsuc t), zero_times (nearest (negsuc t))))
 kept_down a b n t (suc j) few high low = elim (cases_lt 20000 t) [
   | inl far ↦
       kept_none (λ z. b <ℤ z) (a +ℤ pos (suc j) *ℤ negsuc t) (a +ℤ pos (suc j) *ℤ nearest (negsuc t))

@@ -25,7 +25,8 @@ next_pick ps p (Some q) (Some qs) e =
     (ap Some (sym (append_assoc ps (nearest_pick q ∷ []) (map nearest_pick qs))))
 
 -- an index that picks
-pub picked_by-next : (ps : List Pick) (p : Pick) (xs : List code_evaluated.Evaluated) (i : ℕ) (x : code_evaluated.Evaluated) → i < length xs → x ≡ get_or xs i x → Some p ≡ option_map nearest_pick (pick_of (evaluated x))
+pub picked_by-next : (ps : List Pick) (p : Pick) (xs : List code_evaluated.Evaluated) (i : ℕ) (x : code_evaluated.Evaluated) → i < length xs → x ≡ get_or xs i x
+    → Some p ≡ option_map nearest_pick (pick_of (evaluated x))
     → behind ps (picked_by (map evaluated (drop i xs))) ≡ behind (ps ++ p ∷ []) (picked_by (map evaluated (drop (i + 1) xs)))
 picked_by-next ps p xs i x h is e =
     at_drop_more (λ ys. behind ps (picked_by (map evaluated ys))) xs i x h
@@ -42,7 +43,8 @@ picked_by-start ps xs e = rw e (by (picked_by (map evaluated xs)))
     by (Some qs) = refl
 
 -- at an index that picks nothing
-pub picked_by-none : (ps : List Pick) (xs : List code_evaluated.Evaluated) (i : ℕ) (x : code_evaluated.Evaluated) → i < length xs → x ≡ get_or xs i x → None ≡ option_map nearest_pick (pick_of (evaluated x))
+pub picked_by-none : (ps : List Pick) (xs : List code_evaluated.Evaluated) (i : ℕ) (x : code_evaluated.Evaluated) → i < length xs → x ≡ get_or xs i x
+    → None ≡ option_map nearest_pick (pick_of (evaluated x))
     → behind ps (picked_by (map evaluated (drop i xs))) ≡ None
 picked_by-none ps xs i x h is e =
     at_drop_more (λ ys. behind ps (picked_by (map evaluated ys))) xs i x h

@@ -5,7 +5,8 @@
 //!
 //! | what must hold | where |
 //! |---|---|
-//! | plain values give a plain value at once, lists are joined by `+` alone, and an expression takes what may stand for one beside it; all else is of a wrong kind | `beside` of `specs/Operators.antt` |
+//! | plain values give a plain value at once, lists are joined by `+` alone, and an expression takes what may stand for one beside it | `beside` of `specs/Operators.antt` |
+//! | all else is of a wrong kind | `beside` of `specs/Operators.antt` |
 //! | `a - b` is `a + (-b)`, and its promotions come behind the negation | `add_values` |
 //! | of two expressions a side of `*` must have one entry; `/` broadcasts, `@` has the shapes of a matrix product | `scale_values` |
 //! | a `+` before a value is the value itself, and of lists neither sign is taken | `sign_value` |

@@ -18,7 +18,8 @@ use Rattle.dcx_graph.specs.Program.{Program}
 use Rattle.dcx_cache.specs.Programs.{SessionGives, IsUnformed, ProgramStops}
 use Rattle.dcx_cache.specs.Stops.{program_stop}
 use Rattle.dcx_cache.proofs.OneEnd.{one_program, program_apart, same_program, unfit}
-use Rattle.dcx_outcomes.specs.Asking.{EndsAt, node_place, IsAskedOutcome, AreAskedOutcomes, IsRightAt, FindsRight, AreOneEnd}
+use Rattle.dcx_outcomes.specs.Asking.{EndsAt, node_place, IsAskedOutcome, AreAskedOutcomes, IsRightAt, FindsRight, WantsMemory, IsSameEnd, AreOneEnd}
+use Rattle.dcx_outcomes.specs.Outcomes.{stop_place}
 use Rattle.dcx_outcomes.proofs.More.{one_taken}
 
 -- ---- lists
@@ -96,12 +97,37 @@ are_right {F} {E} Gives end place p Right right settings os h =
     by s (Ok r) k = right s k.program r k.answers
     by s (Err stop) k = tt
 
--- settings have one list of outcomes, where a program has one answer
-pub are_one : {F E O : Type 0} (Gives : Problem → Pairs → Program Frac → Result F E → Type 0) (end : O → Result (Result F E) Stop) (place : O → Option Place) (p : Problem) (memory : E) (Same : F → F → Type 0) →
+-- where both ends are the same, so is the place
+same_place : {F E : Type 0} (p : Problem) (Same : F → F → Type 0) (x y : Result (Result F E) Stop) → IsSameEnd Same x y → node_place p x ≡ node_place p y
+same_place p Same (Ok (Ok a)) (Ok (Ok b)) h = refl
+same_place p Same (Ok (Ok a)) (Ok (Err t)) h = absurd h
+same_place p Same (Ok (Ok a)) (Err t) h = absurd h
+same_place p Same (Ok (Err s)) (Ok (Ok b)) h = absurd h
+same_place p Same (Ok (Err s)) (Ok (Err t)) h = refl
+same_place p Same (Ok (Err s)) (Err t) h = absurd h
+same_place p Same (Err s) (Ok (Ok b)) h = absurd h
+same_place p Same (Err s) (Ok (Err t)) h = absurd h
+same_place p Same (Err s) (Err t) h = ap (stop_place p) h
+
+-- what has the same numbers is the same
+pub same_end : {F E : Type 0} (x y : Result (Result F E) Stop) → IsSameEnd (λ (a b : F). a ≡ b) x y → x ≡ y
+same_end (Ok (Ok a)) (Ok (Ok b)) h = ap (λ z. Ok (Ok z)) h
+same_end (Ok (Ok a)) (Ok (Err t)) h = absurd h
+same_end (Ok (Ok a)) (Err t) h = absurd h
+same_end (Ok (Err s)) (Ok (Ok b)) h = absurd h
+same_end (Ok (Err s)) (Ok (Err t)) h = ap (λ z. Ok (Err z)) h
+same_end (Ok (Err s)) (Err t) h = absurd h
+same_end (Err s) (Ok (Ok b)) h = absurd h
+same_end (Err s) (Ok (Err t)) h = absurd h
+same_end (Err s) (Err t) h = ap Err h
+
+-- settings have one list of outcomes, where a program has one answer; `Alike` says what two outcomes with the same end and place are
+pub are_one : {F E O : Type 0} (Gives : Problem → Pairs → Program Frac → Result F E → Type 0) (end : O → Result (Result F E) Stop) (place : O → Option Place) (p : Problem) (memory : E) (Same : F → F → Type 0) (Alike : O → O → Type 0) →
     ((s : Pairs) (q : Program Frac) (x y : Result F E) → Gives p s q x → Gives p s q y → AreOneEnd memory Same (Ok x) (Ok y)) →
-    (settings : List Pairs) (os qs : List O) → AreAskedOutcomes Gives end place p settings os → AreAskedOutcomes Gives end place p settings qs → AllZip (λ o q. AreOneEnd memory Same (end o) (end q)) os qs
-are_one {F} {E} Gives end place p memory Same one settings os qs h k =
-    zip_both (IsAskedOutcome Gives end place p) (λ o q. AreOneEnd memory Same (end o) (end q)) (λ s o q x y. by s (end o) (end q) x.ends y.ends) settings os qs h k
+    ((o q : O) → IsSameEnd Same (end o) (end q) → place o ≡ place q → Alike o q) →
+    (settings : List Pairs) (os qs : List O) → AreAskedOutcomes Gives end place p settings os → AreAskedOutcomes Gives end place p settings qs → AllZip (λ o q. ¬ WantsMemory memory (end o) → ¬ WantsMemory memory (end q) → Alike o q) os qs
+are_one {F} {E} {O} Gives end place p memory Same Alike one alike settings os qs h k =
+    zip_both (IsAskedOutcome Gives end place p) (λ o q. ¬ WantsMemory memory (end o) → ¬ WantsMemory memory (end q) → Alike o q) (λ s o q x y n m. both o q x.placed y.placed (by s (end o) (end q) x.ends y.ends n m)) settings os qs h k
   where
     by : (s : Pairs) (x y : Result (Result F E) Stop) → EndsAt Gives p s x → EndsAt Gives p s y → AreOneEnd memory Same x y
     by s (Ok x) (Ok y) h k n m =
@@ -110,6 +136,9 @@ are_one {F} {E} Gives end place p memory Same one settings os qs h k =
     by s (Ok x) (Err e) h k n m = absurd (given_apart p s h.program e m h.fits h.gives k)
     by s (Err e) (Ok y) h k n m = absurd (given_apart p s k.program e n k.fits k.gives h)
     by s (Err e) (Err f) h k n m = same_stop p s e f n m h k
+
+    both : (o q : O) → place o ≡ node_place p (end o) → place q ≡ node_place p (end q) → IsSameEnd Same (end o) (end q) → Alike o q
+    both o q x y same = alike o q same (x ∙ same_place p Same (end o) (end q) same ∙ sym y)
 
 -- ---- answers
 -- what is found is right, and the setting fits

@@ -25,8 +25,9 @@ pub on_held : {A E : Type 0} (r : Result A E) (x : A) (P : Type 0) → r ≡ Ok 
 on_held r x P e h = subst (λ s. OnOk s P) e h
 
 -- those of the beginning, and those of the settings
-pub counts : (p q : Problem) (cached : Bool) (n old begun new : ℕ) → q ≡ p → (IsTrue cached → begun ≡ old + length p.tree) → (IsTrue cached ↔ HasMap p) → begun ≤ old + length p.tree → (HasMap q → new ≡ begun) →
-    new ≤ begun + n * length q.tree → Counts p n old new
+pub counts : (p q : Problem) (cached : Bool) (n old begun new : ℕ) → q ≡ p → (IsTrue cached → begun ≡ old + length p.tree) → (IsTrue cached ↔ HasMap p) → begun ≤ old + length p.tree
+    → (HasMap q → new ≡ begun)
+    → new ≤ begun + n * length q.tree → Counts p n old new
 counts p q cached n old begun new same counted exact few kept more = record {
   mapped = λ h. kept (subst (λ (z : Problem). HasMap z) (sym same) h) ∙ counted (exact.1 h);
   anew = within (subst (λ (z : Problem). new ≤ begun + n * length z.tree) same more);

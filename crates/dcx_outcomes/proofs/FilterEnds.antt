@@ -1,5 +1,8 @@
 -- What holds of the outcomes of settings at which constraints are filtered.
-use Rattle.std.proofs.Common.{ℕ, Result, Ok, Err, refl, ap₂}
+use Rattle.std.proofs.Common.{◌≡◌, ℕ, suc, List, [], ◌∷◌, Result, Ok, Err, is_some, refl, ap, ap₂}
+use Rattle.std.proofs.Props.{props}
+use Rattle.std.specs.List.{AllZip}
+use mathlib.Core.HLevel.{is_prop→PathP}
 use Rattle.dcx_frac.specs.declared.fraction.Frac.{Frac}
 use Rattle.dcx_point.specs.Pairs.{Pairs}
 use Rattle.dcx_tree.specs.declared.problem.Problem.{Problem}
@@ -7,24 +10,57 @@ use Rattle.dcx_tree.specs.Meaning.{setting_of}
 use Rattle.dcx_answer.specs.declared.filter_stop.FilterStop.{FilterStop}
 use Rattle.dcx_answer.specs.declared.filter_stop.FilterStop.TheVariants as filter
 use Rattle.dcx_answer.specs.declared.filtered.Filtered.{Filtered}
+use Rattle.dcx_answer.specs.declared.filtered.Filtered.TheVariants as found
+use Rattle.dcx_answer.specs.declared.filter_outcome.FilterEnd.{FilterEnd}
+use Rattle.dcx_answer.specs.declared.filter_outcome.FilterEnd.TheVariants as the
 use Rattle.dcx_answer.specs.declared.filter_outcome.FilterOutcome.{FilterOutcome}
+use Rattle.dcx_answer.specs.NodeStops.{filter_names_node}
 use Rattle.dcx_graph.specs.Program.{Program}
-use Rattle.dcx_iis.specs.Found.{IsRight}
+use Rattle.dcx_graph.specs.Answers.{IsSamePoint}
+use Rattle.dcx_iis.specs.Sets.{ConstraintSet, every_constraint, set_of}
+use Rattle.dcx_iis.specs.Steps.{IsReadIn, IsReadAt}
+use Rattle.dcx_iis.specs.Found.{IsRight, IsFound}
 use Rattle.dcx_iis.specs.Laws.{IsSameFiltered}
 use Rattle.dcx_iis.proofs.Ends.{found_or_stopped, stops_are_one}
 use Rattle.dcx_iis.proofs.OneFound.{found_is_one}
-use Rattle.dcx_outcomes.specs.Asking.{AreOneEnd}
+use Rattle.dcx_outcomes.specs.Asking.{IsSameEnd, AreOneEnd}
 use Rattle.dcx_outcomes.specs.Filters.{FilterGives, filter_end}
 use Rattle.dcx_outcomes.specs.FilterLaws.{FiltersAreRight, FiltersAreOne}
-use Rattle.dcx_outcomes.proofs.Asked.{are_right, are_one}
+use Rattle.dcx_outcomes.specs.Right.{IsPointFor}
+use Rattle.dcx_outcomes.proofs.Asked.{are_right, same_end, are_one}
+use Rattle.dcx_outcomes.proofs.Same.{same_point, same_multipliers}
 
 pub filters_are_right : FiltersAreRight
 filters_are_right p limit settings outcomes h =
     are_right (FilterGives limit) (λ (o : FilterOutcome). filter_end o.end) (λ (o : FilterOutcome). o.place) p (λ s. IsRight p (setting_of p s)) (λ s q r g. g.right) settings outcomes h
 
+-- ---- what is found
+point_for : (p : Problem) (q : Program Frac) (limit : ℕ) (set : ConstraintSet) (i : ℕ) (point : Pairs) → IsReadIn p q limit set i point → IsPointFor p point
+point_for p q limit set i point h = record { names = h.read.of_variables.names; shaped = h.read.of_variables.shaped }
+
+same_points : (p : Problem) (q : Program Frac) (limit : ℕ) (set other : ConstraintSet) (ms ns : List ℕ) (xs ys : List Pairs) → AllZip (IsReadAt p q limit set) ms xs → AllZip (IsReadAt p q limit other) ns ys → AllZip (IsSamePoint p) xs ys → xs ≡ ys
+same_points p q limit set other ms ns [] [] h k e = refl
+same_points p q limit set other ms ns [] (y ∷ ys) h k e = absurd e
+same_points p q limit set other ms ns (x ∷ xs) [] h k e = absurd e
+same_points p q limit set other [] ns (x ∷ xs) (y ∷ ys) h k e = absurd h
+same_points p q limit set other (m ∷ ms) [] (x ∷ xs) (y ∷ ys) h k e = absurd k
+same_points p q limit set other (m ∷ ms) (n ∷ ns) (x ∷ xs) (y ∷ ys) h k e =
+    ap₂ ◌∷◌ (same_point p x y (point_for p q limit set (suc m) x h.0) (point_for p q limit other (suc n) y k.0) e.0) (same_points p q limit set other ms ns xs ys h.1 k.1 e.1)
+
+same_filtered : (p : Problem) (s : Pairs) (q : Program Frac) (limit : ℕ) (a b : Filtered) → IsRight p (setting_of p s) a → IsRight p (setting_of p s) b → IsFound p q limit a → IsFound p q limit b → IsSameFiltered p a b → a ≡ b
+same_filtered p s q limit (found.Feasible x) (found.Feasible y) r t h k e =
+    ap found.Feasible (same_point p x y (point_for p q limit every_constraint 0 x h) (point_for p q limit every_constraint 0 y k) e)
+same_filtered p s q limit (found.Feasible x) (found.Infeasible ns es g ys) r t h k e = absurd e
+same_filtered p s q limit (found.Infeasible ms ds g xs) (found.Feasible y) r t h k e = absurd e
+same_filtered p s q limit (found.Infeasible ms ds g xs) (found.Infeasible ns es f ys) r t h k (members, numbers, gaps, points) =
+    let duals = same_multipliers p.constraints ds es r.shaped t.shaped numbers in
+    let all = same_points p q limit (set_of ms) (set_of ns) ms ns xs ys h.read k.read points in
+    λ i. found.Infeasible (members i) (duals i) (gaps i) (all i)
+
 -- a program is filtered to one thing, or stopped by one
-one_answer : (p : Problem) (limit : ℕ) (s : Pairs) (q : Program Frac) (x y : Result Filtered FilterStop) → FilterGives limit p s q x → FilterGives limit p s q y → AreOneEnd filter.Memory (IsSameFiltered p) (Ok x) (Ok y)
-one_answer p limit s q (Ok a) (Ok b) h k n m = found_is_one p (setting_of p s) q limit a b h.right.right k.right.right h.found k.found
+one_answer : (p : Problem) (limit : ℕ) (s : Pairs) (q : Program Frac) (x y : Result Filtered FilterStop) → FilterGives limit p s q x → FilterGives limit p s q y → AreOneEnd filter.Memory (λ (a b : Filtered). a ≡ b) (Ok x) (Ok y)
+one_answer p limit s q (Ok a) (Ok b) h k n m =
+    same_filtered p s q limit a b h.right.right k.right.right h.found k.found (found_is_one p (setting_of p s) q limit a b h.right.right k.right.right h.found k.found)
 one_answer p limit s q (Ok a) (Err (filter.Step step stop)) h k n m = found_or_stopped p (setting_of p s) q limit step a stop h.right.right h.found k.stops
 one_answer p limit s q (Ok a) (Err filter.Memory) h k n m = absurd (m refl)
 one_answer p limit s q (Err (filter.Step step stop)) (Ok b) h k n m = found_or_stopped p (setting_of p s) q limit step b stop k.right.right k.found h.stops
@@ -33,6 +69,27 @@ one_answer p limit s q (Err (filter.Step step stop)) (Err (filter.Step other als
     let one = stops_are_one p (setting_of p s) q limit step other stop also h.stops k.stops in ap₂ filter.Step one.0 one.1
 one_answer p limit s q (Err (filter.Step step stop)) (Err filter.Memory) h k n m = absurd (m refl)
 
+-- ---- outcomes
+same_told : (x y : FilterEnd) → filter_end x ≡ filter_end y → x ≡ y
+same_told (the.Filtered a) (the.Filtered b) e = let same : a ≡ b = cc in ap the.Filtered same
+same_told (the.Filtered a) (the.Filter t) e = absurd cc
+same_told (the.Filtered a) (the.Stop t) e = absurd cc
+same_told (the.Filter s) (the.Filtered b) e = absurd cc
+same_told (the.Filter s) (the.Filter t) e = let same : s ≡ t = cc in ap the.Filter same
+same_told (the.Filter s) (the.Stop t) e = absurd cc
+same_told (the.Stop s) (the.Filtered b) e = absurd cc
+same_told (the.Stop s) (the.Filter t) e = absurd cc
+same_told (the.Stop s) (the.Stop t) e = let same : s ≡ t = cc in ap the.Stop same
+
+same_outcome : (o q : FilterOutcome) → IsSameEnd (λ (a b : Filtered). a ≡ b) (filter_end o.end) (filter_end q.end) → o.place ≡ q.place → o ≡ q
+same_outcome o q h f =
+    let e : o.end ≡ q.end = same_told o.end q.end (same_end (filter_end o.end) (filter_end q.end) h) in
+    λ i. record {
+      end = e i;
+      place = f i;
+      placed = is_prop→PathP (λ j. is_some (f j) ≡ filter_names_node (e j)) (λ j. hlevel props) o.placed q.placed i;
+    }
+
 pub filters_are_one : FiltersAreOne
 filters_are_one p limit settings os qs h k =
-    are_one (FilterGives limit) (λ (o : FilterOutcome). filter_end o.end) (λ (o : FilterOutcome). o.place) p filter.Memory (IsSameFiltered p) (one_answer p limit) settings os qs h k
+    are_one (FilterGives limit) (λ (o : FilterOutcome). filter_end o.end) (λ (o : FilterOutcome). o.place) p filter.Memory (λ (a b : Filtered). a ≡ b) (λ (o q : FilterOutcome). o ≡ q) (one_answer p limit) same_outcome settings os qs h k

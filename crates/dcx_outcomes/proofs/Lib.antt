@@ -1,10 +1,12 @@
--- Lemmas of this crate.
+-- The lemmas by which the outcomes of settings are right, and one list.
 pub mod Named
 pub mod Placed
+pub mod Same
 pub mod Right
 pub mod OneOutcome
 pub mod More
 pub mod Warm
+pub mod Complete
 pub mod Counting
 pub mod Asked
 pub mod FilterEnds

@@ -1,5 +1,6 @@
--- One setting more.
-use Rattle.std.proofs.Common.{◌≡◌, ℕ, zero, suc, ◌+◌, ◌*◌, ◌<◌, ◌≤◌, Bool, true, false, cond, List, [], ◌∷◌, ◌++◌, length, take, get_or, Option, None, Some, Result, Ok, Err, refl, sym, ap, ◌∙◌, subst, add-one, arith}
+-- One setting more: what is told, found and counted of the settings so far, with it.
+use Rattle.std.proofs.Common.{◌≡◌, ℕ, zero, suc, ◌+◌, ◌*◌, ◌<◌, ◌≤◌, Bool, true, false, cond, List, [], ◌∷◌, ◌++◌, length, take}
+use Rattle.std.proofs.Common.{get_or, Option, None, Some, Result, Ok, Err, refl, sym, ap, ◌∙◌, subst, add-one, arith}
 use Rattle.std.specs.Prelude.{count_by, slice_get, IfErr}
 use Rattle.std.specs.Int.{from_bool}
 use Rattle.std.proofs.Math.Seq.{take-suc}
@@ -26,7 +27,8 @@ pub end_names : (warm : Bool) (p : Problem) (limit : ℕ) (s : Pairs) (before af
 end_names false p limit s before after stop h = names_nodes p s limit stop h.0
 end_names true p limit s before after stop h = names_nodes p s limit stop h.stops
 
-pub names_end : (warm : Bool) (p q : Problem) (limit : ℕ) (s : Pairs) (before after : Option (List ℕ)) (r : Result Warmed Stop) → q ≡ p → EndsFrom warm p limit s before r after → IfErr r (NamesNodes q)
+pub names_end : (warm : Bool) (p q : Problem) (limit : ℕ) (s : Pairs) (before after : Option (List ℕ)) (r : Result Warmed Stop) → q ≡ p → EndsFrom warm p limit s before r after
+    → IfErr r (NamesNodes q)
 names_end warm p q limit s before after (Ok w) same h = tt
 names_end warm p q limit s before after (Err stop) same h = subst (λ (z : Problem). NamesNodes z stop) (sym same) (end_names warm p limit s before after stop h)
 
@@ -45,15 +47,17 @@ count_more rs r =
     omega (arith, both, one, none)
 
 module _ (warm : Bool) (p : Problem) (limit : ℕ) where
-  end_more : (ss : List Pairs) (before : Option (List ℕ)) (rs : List (Result Warmed Stop)) (mid : Option (List ℕ)) (s : Pairs) (r : Result Warmed Stop) (after : Option (List ℕ)) → EndFrom warm p limit ss before rs mid →
-      EndsFrom warm p limit s mid r after → EndFrom warm p limit (ss ++ s ∷ []) before (rs ++ r ∷ []) after
+  end_more : (ss : List Pairs) (before : Option (List ℕ)) (rs : List (Result Warmed Stop)) (mid : Option (List ℕ)) (s : Pairs) (r : Result Warmed Stop) (after : Option (List ℕ))
+      → EndFrom warm p limit ss before rs mid
+      → EndsFrom warm p limit s mid r after → EndFrom warm p limit (ss ++ s ∷ []) before (rs ++ r ∷ []) after
   end_more [] before [] mid s r after h k = (after, subst (λ (x : Option (List ℕ)). EndsFrom warm p limit s x r after) h k, refl)
   end_more (t ∷ ss) before (q ∷ rs) mid s r after (next, e, h) k = (next, e, end_more ss next rs mid s r after h k)
   end_more [] before (q ∷ rs) mid s r after h k = absurd h
   end_more (t ∷ ss) before [] mid s r after h k = absurd h
 
-  told_from_more : (ss : List Pairs) (before : Option (List ℕ)) (os : List Outcome) (n : ℕ) (mid : Option (List ℕ)) (s : Pairs) (o : Outcome) (kept : Bool) (after : Option (List ℕ)) → AreToldFrom warm p limit ss before os n mid →
-      IsToldFrom warm p limit s mid o kept after → AreToldFrom warm p limit (ss ++ s ∷ []) before (os ++ o ∷ []) (n + cond kept 1 0) after
+  told_from_more : (ss : List Pairs) (before : Option (List ℕ)) (os : List Outcome) (n : ℕ) (mid : Option (List ℕ)) (s : Pairs) (o : Outcome) (kept : Bool) (after : Option (List ℕ))
+      → AreToldFrom warm p limit ss before os n mid
+      → IsToldFrom warm p limit s mid o kept after → AreToldFrom warm p limit (ss ++ s ∷ []) before (os ++ o ∷ []) (n + cond kept 1 0) after
   told_from_more ss before os n mid s o kept after h k = record {
     ends = h.ends ++ k.end ∷ [];
     end = end_more ss before h.ends mid s k.end after h.end k.ends;
@@ -62,13 +66,17 @@ module _ (warm : Bool) (p : Problem) (limit : ℕ) where
   }
 
   -- the outcome of the next setting
-  pub told_step : (settings : List Pairs) (before : Option (List ℕ)) (os : List Outcome) (n i : ℕ) (mid : Option (List ℕ)) (s : Pairs) (o : Outcome) (kept : Bool) (after : Option (List ℕ)) → i < length settings → s ≡ get_or settings i s →
-      AreToldFrom warm p limit (take i settings) before os n mid → IsToldFrom warm p limit s mid o kept after → AreToldFrom warm p limit (take (i + 1) settings) before (os ++ o ∷ []) (n + cond kept 1 0) after
+  pub told_step : (settings : List Pairs) (before : Option (List ℕ)) (os : List Outcome) (n i : ℕ) (mid : Option (List ℕ)) (s : Pairs) (o : Outcome) (kept : Bool) (after : Option (List ℕ))
+      → i < length settings → s ≡ get_or settings i s
+      → AreToldFrom warm p limit (take i settings) before os n mid → IsToldFrom warm p limit s mid o kept after
+      → AreToldFrom warm p limit (take (i + 1) settings) before (os ++ o ∷ []) (n + cond kept 1 0) after
   told_step settings before os n i mid s o kept after lt is h k =
-      subst (λ (z : List Pairs). AreToldFrom warm p limit z before (os ++ o ∷ []) (n + cond kept 1 0) after) (sym (one_taken settings i s lt is)) (told_from_more (take i settings) before os n mid s o kept after h k)
+      subst (λ (z : List Pairs). AreToldFrom warm p limit z before (os ++ o ∷ []) (n + cond kept 1 0) after) (sym (one_taken settings i s lt is))
+      (told_from_more (take i settings) before os n mid s o kept after h k)
 
 -- the items of the list that is grown, and its count
-pub items_of : (warm : Bool) (p : Problem) (limit : ℕ) (ss : List Pairs) (before : Option (List ℕ)) (os items : List Outcome) (m n : ℕ) (after : Option (List ℕ)) → items ≡ os → n ≡ m → AreToldFrom warm p limit ss before os m after → AreToldFrom warm p limit ss before items n after
+pub items_of : (warm : Bool) (p : Problem) (limit : ℕ) (ss : List Pairs) (before : Option (List ℕ)) (os items : List Outcome) (m n : ℕ) (after : Option (List ℕ)) → items ≡ os → n ≡ m
+    → AreToldFrom warm p limit ss before os m after → AreToldFrom warm p limit ss before items n after
 items_of warm p limit ss before os items m n after same also h =
     subst (λ (z : List Outcome). AreToldFrom warm p limit ss before z n after) (sym same) (subst (λ k. AreToldFrom warm p limit ss before os k after) (sym also) h)
 
@@ -89,7 +97,8 @@ told_none warm p limit before = record { ends = []; end = refl; told = tt; count
 -- ---- all settings
 -- without the columns
 module _ (p : Problem) (limit : ℕ) where
-  fresh_count : (ss : List Pairs) (before : Option (List ℕ)) (rs : List (Result Warmed Stop)) (after : Option (List ℕ)) (os : List Outcome) → EndFrom false p limit ss before rs after → AreTold p rs os → length os ≡ length ss
+  fresh_count : (ss : List Pairs) (before : Option (List ℕ)) (rs : List (Result Warmed Stop)) (after : Option (List ℕ)) (os : List Outcome) → EndFrom false p limit ss before rs after
+      → AreTold p rs os → length os ≡ length ss
   fresh_count [] before [] after [] h k = refl
   fresh_count [] before [] after (o ∷ os) h k = absurd k
   fresh_count [] before (r ∷ rs) after os h k = absurd h
@@ -97,8 +106,8 @@ module _ (p : Problem) (limit : ℕ) where
   fresh_count (s ∷ ss) before (r ∷ rs) after [] h k = absurd k
   fresh_count (s ∷ ss) before (r ∷ rs) after (o ∷ os) (mid, e, h) k = ap suc (fresh_count ss mid rs after os h k.1)
 
-  fresh_each : (ss : List Pairs) (before : Option (List ℕ)) (rs : List (Result Warmed Stop)) (after : Option (List ℕ)) (os : List Outcome) → EndFrom false p limit ss before rs after → AreTold p rs os →
-      (k : ℕ) (s : Pairs) (o : Outcome) → slice_get ss k ≡ Some s → slice_get os k ≡ Some o → IsOutcome p limit s o
+  fresh_each : (ss : List Pairs) (before : Option (List ℕ)) (rs : List (Result Warmed Stop)) (after : Option (List ℕ)) (os : List Outcome) → EndFrom false p limit ss before rs after → AreTold p rs os
+      → (k : ℕ) (s : Pairs) (o : Outcome) → slice_get ss k ≡ Some s → slice_get os k ≡ Some o → IsOutcome p limit s o
   fresh_each [] before rs after os h t k s o at here = absurd (none-some s at)
   fresh_each (u ∷ ss) before [] after os h t k s o at here = absurd h
   fresh_each (u ∷ ss) before (r ∷ rs) after [] h t k s o at here = absurd t
@@ -124,11 +133,13 @@ module _ (p : Problem) (limit : ℕ) where
   found_from true ss os n after h = (n, record { ends = h.ends; answers = warm_answers ss None h.ends after h.end; told = h.told; count = h.count }, refl)
 
 -- what a session found that began without columns
-pub found_all : (p q : Problem) (limit : ℕ) (warm : Bool) (ss : List Pairs) (before : Option (List ℕ)) (os found : List Outcome) (n : ℕ) (after : Option (List ℕ)) (count : Option ℕ) → q ≡ p → before ≡ None → AreToldFrom warm q limit ss before os n after → found ≡ os → count ≡ counted_where warm n →
-    AreFound warm p limit ss found count
+pub found_all : (p q : Problem) (limit : ℕ) (warm : Bool) (ss : List Pairs) (before : Option (List ℕ)) (os found : List Outcome) (n : ℕ) (after : Option (List ℕ)) (count : Option ℕ) → q ≡ p
+    → before ≡ None → AreToldFrom warm q limit ss before os n after → found ≡ os → count ≡ counted_where warm n
+    → AreFound warm p limit ss found count
 found_all p q limit warm ss before os found n after count same none h is counted =
     subst (λ (z : List Outcome). AreFound warm p limit ss z count) (sym is) (subst (λ (z : Option ℕ). AreFound warm p limit ss os z) (sym counted)
-    (found_from p limit warm ss os n after (subst (λ (z : Option (List ℕ)). AreToldFrom warm p limit ss z os n after) none (subst (λ (z : Problem). AreToldFrom warm z limit ss before os n after) same h))))
+    (found_from p limit warm ss os n after (subst (λ (z : Option (List ℕ)). AreToldFrom warm p limit ss z os n after) none
+    (subst (λ (z : Problem). AreToldFrom warm z limit ss before os n after) same h))))
 
 -- ---- steps
 pub steps_more : (i n start before after : ℕ) → before ≤ start + i * n → after ≤ before + n → after ≤ start + (i + 1) * n

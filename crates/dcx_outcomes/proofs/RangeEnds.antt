@@ -1,5 +1,7 @@
 -- What holds of the outcomes of settings at which a parameter's range is told.
-use Rattle.std.proofs.Common.{◌≡◌, ℕ, List, [], Option, Some, None, Result, Ok, Err, refl, ap, subst}
+use Rattle.std.proofs.Common.{◌≡◌, ℕ, List, [], Option, Some, None, Result, Ok, Err, is_some, refl, ap, subst}
+use Rattle.std.proofs.Props.{props}
+use mathlib.Core.HLevel.{is_prop→PathP}
 use Rattle.dcx_frac.specs.declared.fraction.Frac.{Frac}
 use Rattle.dcx_point.specs.Pairs.{Pairs}
 use Rattle.dcx_tree.specs.declared.problem.Problem.{Problem}
@@ -9,7 +11,10 @@ use Rattle.dcx_answer.specs.declared.not_ranged.NotRanged.{NotRanged}
 use Rattle.dcx_answer.specs.declared.ranged.Ranged.{Ranged}
 use Rattle.dcx_answer.specs.declared.range_stop.RangeStop.{RangeStop}
 use Rattle.dcx_answer.specs.declared.range_stop.RangeStop.TheVariants as range
+use Rattle.dcx_answer.specs.declared.range_outcome.RangeEnd.{RangeEnd}
+use Rattle.dcx_answer.specs.declared.range_outcome.RangeEnd.TheVariants as the
 use Rattle.dcx_answer.specs.declared.range_outcome.RangeOutcome.{RangeOutcome}
+use Rattle.dcx_answer.specs.NodeStops.{range_names_node}
 use Rattle.dcx_graph.specs.Program.{Program}
 use Rattle.dcx_graph.specs.Fixing.{FixGives}
 use Rattle.dcx_graph.proofs.OneWay.{one_affine}
@@ -20,10 +25,10 @@ use Rattle.dcx_right.specs.Ranges.{HoldsOn}
 use Rattle.dcx_range.specs.Laws.{AreOneRange}
 use Rattle.dcx_range.proofs.Named.{tells_once}
 use Rattle.dcx_range.proofs.OneRange.{ranges_are_one as one_range}
-use Rattle.dcx_outcomes.specs.Asking.{AreOneEnd}
+use Rattle.dcx_outcomes.specs.Asking.{IsSameEnd, AreOneEnd}
 use Rattle.dcx_outcomes.specs.Ranges.{IsKeptProgram, HasRange, LacksRange, TellsOf, range_end}
 use Rattle.dcx_outcomes.specs.RangeLaws.{RangeIsTold, RangesAreRight, RangesAreOne}
-use Rattle.dcx_outcomes.proofs.Asked.{are_right, are_one, right_there}
+use Rattle.dcx_outcomes.proofs.Asked.{are_right, same_end, are_one, right_there}
 
 -- ---- the program with affine coefficients
 same_ok : {A E : Type 0} (x y : A) → ◌≡◌ {A = Result A E} (Ok x) (Ok y) → x ≡ y
@@ -80,7 +85,8 @@ ranged_there p name q m h = subst (λ (z : Program ParamForm). IsRanged p z name
 -- ---- all settings
 pub ranges_are_right : RangesAreRight
 ranges_are_right p name limit settings outcomes h =
-    are_right (TellsOf name limit) (λ (o : RangeOutcome). range_end o.end) (λ (o : RangeOutcome). o.place) p (λ s. HoldsOn p (setting_of p s) name) (λ s q r g. right_there p s (HoldsOn p (setting_of p s) name) r g.fitting g.holds) settings outcomes h
+    are_right (TellsOf name limit) (λ (o : RangeOutcome). range_end o.end) (λ (o : RangeOutcome). o.place) p (λ s. HoldsOn p (setting_of p s) name)
+    (λ s q r g. right_there p s (HoldsOn p (setting_of p s) name) r g.fitting g.holds) settings outcomes h
 
 module _ (p : Problem) (name : List ℕ) (limit : ℕ) (s : Pairs) (q : Program Frac) where
   one_told : (x y : Result Ranged RangeStop) → TellsOf name limit p s q x → TellsOf name limit p s q y → AreOneRange x y
@@ -93,6 +99,27 @@ module _ (p : Problem) (name : List ℕ) (limit : ℕ) (s : Pairs) (q : Program 
   one_answer (Err e) (Ok b) h k n m = n (one_told (Err e) (Ok b) h k)
   one_answer (Err e) (Err f) h k n m = one_told (Err e) (Err f) h k n m
 
+-- ---- outcomes
+same_told : (x y : RangeEnd) → range_end x ≡ range_end y → x ≡ y
+same_told (the.Ranged a) (the.Ranged b) e = let same : a ≡ b = cc in ap the.Ranged same
+same_told (the.Ranged a) (the.Range t) e = absurd cc
+same_told (the.Ranged a) (the.Stop t) e = absurd cc
+same_told (the.Range s) (the.Ranged b) e = absurd cc
+same_told (the.Range s) (the.Range t) e = let same : s ≡ t = cc in ap the.Range same
+same_told (the.Range s) (the.Stop t) e = absurd cc
+same_told (the.Stop s) (the.Ranged b) e = absurd cc
+same_told (the.Stop s) (the.Range t) e = absurd cc
+same_told (the.Stop s) (the.Stop t) e = let same : s ≡ t = cc in ap the.Stop same
+
+same_outcome : (o q : RangeOutcome) → IsSameEnd (λ (a b : Ranged). a ≡ b) (range_end o.end) (range_end q.end) → o.place ≡ q.place → o ≡ q
+same_outcome o q h f =
+    let e : o.end ≡ q.end = same_told o.end q.end (same_end (range_end o.end) (range_end q.end) h) in
+    λ i. record {
+      end = e i;
+      place = f i;
+      placed = is_prop→PathP (λ j. is_some (f j) ≡ range_names_node (e j)) (λ j. hlevel props) o.placed q.placed i;
+    }
+
 pub ranges_are_one : RangesAreOne
 ranges_are_one p name limit settings os qs h k =
-    are_one (TellsOf name limit) (λ (o : RangeOutcome). range_end o.end) (λ (o : RangeOutcome). o.place) p range.Memory (λ (a b : Ranged). a ≡ b) (one_answer p name limit) settings os qs h k
+    are_one (TellsOf name limit) (λ (o : RangeOutcome). range_end o.end) (λ (o : RangeOutcome). o.place) p range.Memory (λ (a b : Ranged). a ≡ b) (λ (o q : RangeOutcome). o ≡ q) (one_answer p name limit) same_outcome settings os qs h k

@@ -1,6 +1,6 @@
 -- Each answer among the outcomes is right, and speaks of the problem.
 use Rattle.std.proofs.Common.{◌≡◌, ℕ, List, [], ◌∷◌, map, Ok, refl, ap₂, subst}
-use Rattle.std.specs.Prelude.{drop}
+use Rattle.std.specs.Prelude.{⊤, drop}
 use Rattle.dcx_frac.specs.declared.fraction.Frac.{Frac}
 use Rattle.dcx_shape.specs.Shape.{sides_of}
 use Rattle.dcx_atom.specs.declared.array.Array.{Array}
@@ -15,6 +15,7 @@ use Rattle.dcx_lp_answer.specs.declared.answer.RowNote.{RowNote}
 use Rattle.dcx_answer.specs.declared.answer.Answer.{Answer}
 use Rattle.dcx_answer.specs.declared.answer.Answer.TheVariants.{Optimal, Infeasible, Unbounded}
 use Rattle.dcx_answer.specs.declared.outcome.OutcomeEnd.{OutcomeEnd}
+use Rattle.dcx_answer.specs.declared.outcome.OutcomeEnd.TheVariants as the
 use Rattle.dcx_unknowns.specs.Layout.{constraint_rows}
 use Rattle.dcx_postsolve.specs.Duals.{AreDuals}
 use Rattle.dcx_graph.specs.Answers.{IsPointRead, IsRead}
@@ -39,6 +40,15 @@ pub speaks : (p : Problem) (kinds : List UnknownKind) (a : LpAnswer) (x : Answer
 speaks p kinds a (Optimal value point duals) (e, n, at, are) = (point_for p kinds a.columns point at, shaped a.status p.constraints a.rows duals are)
 speaks p kinds a (Infeasible duals gap) (e, n, are) = shaped a.status p.constraints a.rows duals are
 speaks p kinds a (Unbounded point ray bound slope) (e, b, s, at, along) = (point_for p kinds a.columns point at, point_for p kinds a.ray ray along)
+
+-- where a setting is answered, the answer does
+abbrev pub SpeaksEnd : Problem → OutcomeEnd → Type 0
+SpeaksEnd p (the.Answer a) = SpeaksOf p a
+SpeaksEnd p (the.Stop stop) = ⊤
+
+pub speaks_at : (p : Problem) (limit : ℕ) (s : Pairs) (x : OutcomeEnd) → Answers p s limit (end_of x) → SpeaksEnd p x
+speaks_at p limit s (the.Answer a) (q, solved, h) = speaks p q.kinds solved.answer a h.read
+speaks_at p limit s (the.Stop stop) h = tt
 
 right_at : (p : Problem) (limit : ℕ) (s : Pairs) (a : Answer) → IsAccepted p → Answers p s limit (Ok a) → IsRightAnswer p s a
 right_at p limit s a ok (q, solved, h) =

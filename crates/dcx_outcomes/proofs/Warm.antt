@@ -27,20 +27,20 @@ use Rattle.dcx_outcomes.specs.Outcomes.{end_of, IsOutcome}
 use Rattle.dcx_outcomes.specs.Right.{SpeaksOf, IsRightAnswer, AreRight}
 use Rattle.dcx_outcomes.specs.Warm.{end_in, is_kept, Tells, AreTold, AreFound}
 use Rattle.dcx_outcomes.specs.Laws.{WarmOutcomesAreRight, AgreesWithFresh, WarmOutcomesAgree, HadMemory, AreAlikeWarm, WarmOutcomesAreOne, AreOneFound}
-use Rattle.dcx_outcomes.proofs.Right.{speaks, outcomes_are_right}
-use Rattle.dcx_outcomes.proofs.OneOutcome.{outcomes_are_one}
+use Rattle.dcx_outcomes.proofs.Right.{SpeaksEnd, speaks, outcomes_are_right}
+use Rattle.dcx_outcomes.proofs.OneOutcome.{same_told, outcomes_are_one}
 
 -- ---- the outcome of a setting
 -- it tells how the setting ends, from what is kept before
-record IsWarmOutcome (p : Problem) (limit : ℕ) (s : Pairs) (o : Outcome) : Type 0 where
-  before : Option (List ℕ)
-  end : Result Warmed Stop
-  after : Option (List ℕ)
-  answers : WarmAnswers p s limit before end after
-  tells : Tells p end o
+pub record IsWarmOutcome (p : Problem) (limit : ℕ) (s : Pairs) (o : Outcome) : Type 0 where
+  pub before : Option (List ℕ)
+  pub end : Result Warmed Stop
+  pub after : Option (List ℕ)
+  pub answers : WarmAnswers p s limit before end after
+  pub tells : Tells p end o
 
 module _ (p : Problem) (limit : ℕ) where
-  warm_at : (before : Option (List ℕ)) (ss : List Pairs) (rs : List (Result Warmed Stop)) (os : List Outcome) → WarmAnswersAll p limit before ss rs → AreTold p rs os →
+  pub warm_at : (before : Option (List ℕ)) (ss : List Pairs) (rs : List (Result Warmed Stop)) (os : List Outcome) → WarmAnswersAll p limit before ss rs → AreTold p rs os →
       (k : ℕ) (s : Pairs) (o : Outcome) → slice_get ss k ≡ Some s → slice_get os k ≡ Some o → IsWarmOutcome p limit s o
   warm_at before [] rs os h t k s o at here = absurd (none-some s at)
   warm_at before (u ∷ ss) [] os h t k s o at here = absurd h
@@ -126,16 +126,29 @@ module _ (p : Problem) where
       by (the.Answer a) e = cc
       by (the.Stop found) e = cc
 
-  alike : (rs ss : List (Result Warmed Stop)) (os qs : List Outcome) → AreOneWarmEnds p rs ss → AreTold p rs os → AreTold p ss qs → AreAlikeWarm p os qs
-  alike [] [] [] [] h t u = tt
-  alike [] [] [] (q ∷ qs) h t u = absurd u
-  alike [] [] (o ∷ os) qs h t u = absurd t
-  alike [] (s ∷ ss) os qs h t u = absurd h
-  alike (r ∷ rs) [] os qs h t u = absurd h
-  alike (r ∷ rs) (s ∷ ss) [] qs h t u = absurd t
-  alike (r ∷ rs) (s ∷ ss) (o ∷ os) [] h t u = absurd u
-  alike (r ∷ rs) (s ∷ ss) (o ∷ os) (q ∷ qs) h t u =
-      (one_end r s o q h.0 t.0 u.0, λ m n. alike rs ss os qs (h.1 (with_memory r o t.0 m) (with_memory s q u.0 n)) t.1 u.1)
+  -- the answer of a setting speaks of the problem
+  speaks_told : (limit : ℕ) (s : Pairs) (before : Option (List ℕ)) (r : Result Warmed Stop) (after : Option (List ℕ)) (o : Outcome) → WarmAnswers p s limit before r after → Tells p r o → SpeaksEnd p o.end
+  speaks_told limit s before r after o h t = by o.end r t.end h
+    where
+      by : (x : OutcomeEnd) (y : Result Warmed Stop) → end_of x ≡ end_in y → WarmAnswers p s limit before y after → SpeaksEnd p x
+      by (the.Answer a) (Ok w) e (q, i, k) = let same : w.answer ≡ a = cc in subst (SpeaksOf p) same (speaks_by p limit s before w.kept q i w.answer k.answer)
+      by (the.Answer a) (Err stop) e k = absurd cc
+      by (the.Stop stop) y e k = tt
+
+  alike : (limit : ℕ) (before other : Option (List ℕ)) (settings : List Pairs) (rs ss : List (Result Warmed Stop)) (os qs : List Outcome) → WarmAnswersAll p limit before settings rs → WarmAnswersAll p limit other settings ss →
+      AreOneWarmEnds p rs ss → AreTold p rs os → AreTold p ss qs → AreAlikeWarm os qs
+  alike limit before other us [] [] [] [] x y h t u = tt
+  alike limit before other us [] [] [] (q ∷ qs) x y h t u = absurd u
+  alike limit before other us [] [] (o ∷ os) qs x y h t u = absurd t
+  alike limit before other us [] (s ∷ ss) os qs x y h t u = absurd h
+  alike limit before other us (r ∷ rs) [] os qs x y h t u = absurd h
+  alike limit before other us (r ∷ rs) (s ∷ ss) [] qs x y h t u = absurd t
+  alike limit before other us (r ∷ rs) (s ∷ ss) (o ∷ os) [] x y h t u = absurd u
+  alike limit before other [] (r ∷ rs) (s ∷ ss) (o ∷ os) (q ∷ qs) x y h t u = absurd x
+  alike limit before other (w ∷ us) (r ∷ rs) (s ∷ ss) (o ∷ os) (q ∷ qs) (after, x, xs) (later, y, ys) h t u = λ m n. (
+    same_told p o q (speaks_told limit w before r after o x t.0) (speaks_told limit w other s later q y u.0) t.0.placed u.0.placed (one_end r s o q h.0 t.0 u.0) m n,
+    alike limit after later us rs ss os qs xs ys (h.1 (with_memory r o t.0 m) (with_memory s q u.0 n)) t.1 u.1,
+  )
 
   same_kept : (r s : Result Warmed Stop) → AreOneWarmEnd p r s → EndsWithMemory r → EndsWithMemory s → is_kept r ≡ is_kept s
   same_kept (Ok v) (Ok w) h m n = h.0
@@ -160,7 +173,7 @@ pub warm_outcomes_are_one : WarmOutcomesAreOne
 warm_outcomes_are_one p limit settings os qs m n ok h k =
     let one = have_one_warm_ends p limit None settings h.ends k.ends ok h.answers k.answers in
     record {
-      alike = alike p h.ends k.ends os qs one h.told k.told;
+      alike = alike p limit None None settings h.ends k.ends os qs h.answers k.answers one h.told k.told;
       count = λ x y. h.count ∙ same_count p h.ends k.ends os qs one h.told k.told (recursion_from_All HadMemory os x) (recursion_from_All HadMemory qs y) ∙ sym k.count;
     }
 
@@ -169,8 +182,8 @@ pub found_are_right : (warm : Bool) (p : Problem) (limit : ℕ) (settings : List
 found_are_right false p limit settings outcomes count ok h = outcomes_are_right p limit settings outcomes ok h.0
 found_are_right true p limit settings outcomes count ok (n, h, is) = warm_outcomes_are_right p limit settings outcomes n ok h
 
-pub found_are_one : (warm : Bool) (p : Problem) (limit : ℕ) (settings : List Pairs) (os qs : List Outcome) (m n : Option ℕ) → IsAccepted p → AreFound warm p limit settings os m → AreFound warm p limit settings qs n → AreOneFound p os m qs n
+pub found_are_one : (warm : Bool) (p : Problem) (limit : ℕ) (settings : List Pairs) (os qs : List Outcome) (m n : Option ℕ) → IsAccepted p → AreFound warm p limit settings os m → AreFound warm p limit settings qs n → AreOneFound os m qs n
 found_are_one false p limit settings os qs m n ok h k =
-    subst (λ (x : Option ℕ). AreOneFound p os x qs n) (sym h.1) (subst (λ (y : Option ℕ). AreOneFound p os None qs y) (sym k.1) (outcomes_are_one p limit settings os qs ok h.0 k.0))
+    subst (λ (x : Option ℕ). AreOneFound os x qs n) (sym h.1) (subst (λ (y : Option ℕ). AreOneFound os None qs y) (sym k.1) (outcomes_are_one p limit settings os qs ok h.0 k.0))
 found_are_one true p limit settings os qs m n ok (a, h, is) (b, k, also) =
-    subst (λ (x : Option ℕ). AreOneFound p os x qs n) (sym is) (subst (λ (y : Option ℕ). AreOneFound p os (Some a) qs y) (sym also) (warm_outcomes_are_one p limit settings os qs a b ok h k))
+    subst (λ (x : Option ℕ). AreOneFound os x qs n) (sym is) (subst (λ (y : Option ℕ). AreOneFound os (Some a) qs y) (sym also) (warm_outcomes_are_one p limit settings os qs a b ok h k))

@@ -2,6 +2,7 @@
 use Rattle.std.proofs.Common.{◌≤◌, ℕ, [], length, Result, Ok, Err}
 use Rattle.std.specs.Prelude.{IfOk}
 use Rattle.dcx_frac.specs.declared.fraction.Frac.{Frac}
+use Rattle.dcx_frac.proofs.Parts.{value_injective}
 use Rattle.dcx_point.specs.Pairs.{Pairs}
 use Rattle.dcx_tree.specs.declared.problem.Problem.{Problem}
 use Rattle.dcx_answer.specs.declared.whole_outcome.WholeOutcome.{WholeOutcome}
@@ -17,8 +18,9 @@ use Rattle.dcx_branch.proofs.Enough.{programs_have_unknowns}
 use Rattle.dcx_branch.proofs.OneRun.{runs_are_one}
 use Rattle.dcx_outcomes.specs.Asking.{IsRightAt, AreOneEnd}
 use Rattle.dcx_outcomes.specs.Wholes.{most_nodes, WholeGives, whole_end}
-use Rattle.dcx_outcomes.specs.WholeLaws.{SpeaksOf, IsRightWhole, WholesAreRight, WholesAreOne}
+use Rattle.dcx_outcomes.specs.WholeLaws.{SpeaksOf, IsRightWhole, IsSameWhole, IsSameOutcome, WholesAreRight, WholesAreOne}
 use Rattle.dcx_outcomes.proofs.Asked.{are_right, are_one}
+use Rattle.dcx_outcomes.proofs.Same.{same_point}
 
 -- the unknowns of the variables are among those of a session's program
 pub unknowns_there : (p : Problem) (setting : Pairs) (r : Program Frac) → SessionGives p setting (Ok r) → variable_unknowns p.variables ≤ length r.kinds
@@ -38,13 +40,20 @@ pub wholes_are_right : WholesAreRight
 wholes_are_right p limit settings outcomes h =
     are_right (WholeGives limit) (λ (o : WholeOutcome). whole_end o.end) (λ (o : WholeOutcome). o.place) p (IsRightWhole p) (right_whole p limit) settings outcomes h
 
+-- ---- one list
+same_whole : (p : Problem) (a b : WholeAnswer) → SpeaksOf p a → SpeaksOf p b → IsSameAnswer p a b → IsSameWhole a b
+same_whole p (answer.Optimal n x tree nodes) (answer.Optimal m y shown count) h k (number, point, run) = (value_injective n m number, same_point p x y h k point, run)
+same_whole p (answer.Optimal n x tree nodes) (answer.Infeasible shown count) h k e = absurd e
+same_whole p (answer.Infeasible tree nodes) (answer.Optimal m y shown count) h k e = absurd e
+same_whole p (answer.Infeasible tree nodes) (answer.Infeasible shown count) h k e = e
+
 -- a run over a program has one end
-one_answer : (p : Problem) (limit : ℕ) (s : Pairs) (q : Program Frac) (x y : Result WholeAnswer BranchStop) → WholeGives limit p s q x → WholeGives limit p s q y → AreOneEnd branch.Memory (IsSameAnswer p) (Ok x) (Ok y)
-one_answer p limit s q (Ok a) (Ok b) h k n m = runs_are_one p q limit most_nodes (Ok a) (Ok b) h.ends k.ends
+one_answer : (p : Problem) (limit : ℕ) (s : Pairs) (q : Program Frac) (x y : Result WholeAnswer BranchStop) → WholeGives limit p s q x → WholeGives limit p s q y → AreOneEnd branch.Memory IsSameWhole (Ok x) (Ok y)
+one_answer p limit s q (Ok a) (Ok b) h k n m = same_whole p a b (speaks p q limit a h.ends) (speaks p q limit b k.ends) (runs_are_one p q limit most_nodes (Ok a) (Ok b) h.ends k.ends)
 one_answer p limit s q (Ok a) (Err e) h k n m = m (runs_are_one p q limit most_nodes (Ok a) (Err e) h.ends k.ends)
 one_answer p limit s q (Err e) (Ok b) h k n m = n (runs_are_one p q limit most_nodes (Err e) (Ok b) h.ends k.ends)
 one_answer p limit s q (Err e) (Err f) h k n m = runs_are_one p q limit most_nodes (Err e) (Err f) h.ends k.ends n m
 
 pub wholes_are_one : WholesAreOne
 wholes_are_one p limit settings os qs h k =
-    are_one (WholeGives limit) (λ (o : WholeOutcome). whole_end o.end) (λ (o : WholeOutcome). o.place) p branch.Memory (IsSameAnswer p) (one_answer p limit) settings os qs h k
+    are_one (WholeGives limit) (λ (o : WholeOutcome). whole_end o.end) (λ (o : WholeOutcome). o.place) p branch.Memory IsSameWhole IsSameOutcome (one_answer p limit) (λ o q e f. record { end = e; place = f }) settings os qs h k

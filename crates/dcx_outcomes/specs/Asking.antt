@@ -32,7 +32,8 @@ node_place p (Ok answer) = None
 node_place p (Err stop) = stop_place p stop
 
 -- the outcome of a setting, which tells how it ends and that place
-pub record IsAskedOutcome {A O : Type 0} (Gives : Problem → Pairs → Program Frac → A → Type 0) (end : O → Result A Stop) (place : O → Option Place) (p : Problem) (setting : Pairs) (o : O) : Type 0 where
+pub record IsAskedOutcome {A O : Type 0} (Gives : Problem → Pairs → Program Frac → A → Type 0) (end : O → Result A Stop) (place : O → Option Place) (p : Problem) (setting : Pairs)
+    (o : O) : Type 0 where
   pub ends : EndsAt Gives p setting (end o)
   pub placed : place o ≡ node_place p (end o)
 

@@ -1,5 +1,6 @@
 -- What holds of all outcomes.
 use Rattle.std.specs.Prelude.{◌≡◌, ◌≢◌, ⊤, ℕ, List, [], ◌∷◌, All, Option, Some, None, Result, Ok, Err, slice_get}
+use Rattle.std.specs.List.{AllZip}
 use Rattle.dcx_point.specs.Pairs.{Pairs}
 use Rattle.dcx_tree.specs.declared.problem.Problem.{Problem}
 use Rattle.dcx_tree.specs.Meaning.{IsAccepted}
@@ -8,7 +9,7 @@ use Rattle.dcx_answer.specs.declared.stop.Stop.{Stop}
 use Rattle.dcx_answer.specs.declared.stop.Stop.TheVariants as why
 use Rattle.dcx_answer.specs.declared.outcome.Outcome.{Outcome}
 use Rattle.dcx_answer.specs.declared.outcome.OutcomeEnd.TheVariants as the
-use Rattle.dcx_cache.specs.Laws.{AreOneEnd, Agree}
+use Rattle.dcx_cache.specs.Laws.{Agree}
 use Rattle.dcx_outcomes.specs.Outcomes.{end_of, AreOutcomes}
 use Rattle.dcx_outcomes.specs.Right.{AreRight}
 use Rattle.dcx_outcomes.specs.Warm.{AreWarmOutcomes}
@@ -17,16 +18,17 @@ use Rattle.dcx_outcomes.specs.Warm.{AreWarmOutcomes}
 abbrev pub OutcomesAreRight : Type 0
 OutcomesAreRight = (p : Problem) (limit : ℕ) (settings : List Pairs) (outcomes : List Outcome) → IsAccepted p → AreOutcomes p limit settings outcomes → AreRight p settings outcomes
 
--- the outcomes are the same one after the other; want of memory is free
-abbrev pub AreAlike : Problem → List Outcome → List Outcome → Type 0
-AreAlike p [] [] = ⊤
-AreAlike p (o ∷ os) (q ∷ qs) = AreOneEnd p (end_of o.end) (end_of q.end) × AreAlike p os qs
-AreAlike p [] (q ∷ qs) = ⊥
-AreAlike p (o ∷ os) [] = ⊥
+-- memory did not run out at the setting
+abbrev pub HadMemory : Outcome → Type 0
+HadMemory o = o.end ≢ the.Stop why.Memory
+
+-- the outcomes are the same one after the other, with all their numbers; want of memory is free
+abbrev pub AreAlike : List Outcome → List Outcome → Type 0
+AreAlike os qs = AllZip (λ o q. HadMemory o → HadMemory q → o ≡ q) os qs
 
 -- settings of an accepted problem have one list of outcomes
 abbrev pub OutcomesAreOne : Type 0
-OutcomesAreOne = (p : Problem) (limit : ℕ) (settings : List Pairs) (os qs : List Outcome) → IsAccepted p → AreOutcomes p limit settings os → AreOutcomes p limit settings qs → AreAlike p os qs
+OutcomesAreOne = (p : Problem) (limit : ℕ) (settings : List Pairs) (os qs : List Outcome) → IsAccepted p → AreOutcomes p limit settings os → AreOutcomes p limit settings qs → AreAlike os qs
 
 -- ---- warm outcomes
 -- each answer among them is right
@@ -46,30 +48,26 @@ abbrev pub WarmOutcomesAgree : Type 0
 WarmOutcomesAgree = (p : Problem) (limit : ℕ) (settings : List Pairs) (os : List Outcome) (kept : ℕ) (qs : List Outcome) → IsAccepted p → AreWarmOutcomes p limit settings os kept → AreOutcomes p limit settings qs →
     (k : ℕ) (o q : Outcome) → slice_get os k ≡ Some o → slice_get qs k ≡ Some q → AgreesWithFresh (end_of o.end) (end_of q.end)
 
--- memory did not run out at the setting
-abbrev pub HadMemory : Outcome → Type 0
-HadMemory o = o.end ≢ the.Stop why.Memory
-
 -- they are the same one after the other, until memory runs out at a setting: from there on other columns may be kept
-abbrev pub AreAlikeWarm : Problem → List Outcome → List Outcome → Type 0
-AreAlikeWarm p [] [] = ⊤
-AreAlikeWarm p (o ∷ os) (q ∷ qs) = AreOneEnd p (end_of o.end) (end_of q.end) × (HadMemory o → HadMemory q → AreAlikeWarm p os qs)
-AreAlikeWarm p [] (q ∷ qs) = ⊥
-AreAlikeWarm p (o ∷ os) [] = ⊥
+abbrev pub AreAlikeWarm : List Outcome → List Outcome → Type 0
+AreAlikeWarm [] [] = ⊤
+AreAlikeWarm (o ∷ os) (q ∷ qs) = HadMemory o → HadMemory q → (o ≡ q) × AreAlikeWarm os qs
+AreAlikeWarm [] (q ∷ qs) = ⊥
+AreAlikeWarm (o ∷ os) [] = ⊥
 
 -- and so is how many are answered from kept columns, where memory ran out nowhere
-pub record AreOneWarm (p : Problem) (os : List Outcome) (m : ℕ) (qs : List Outcome) (n : ℕ) : Type 0 where
-  pub alike : AreAlikeWarm p os qs
+pub record AreOneWarm (os : List Outcome) (m : ℕ) (qs : List Outcome) (n : ℕ) : Type 0 where
+  pub alike : AreAlikeWarm os qs
   pub count : All HadMemory os → All HadMemory qs → m ≡ n
 
 -- settings of an accepted problem have one list of warm outcomes, and one count
 abbrev pub WarmOutcomesAreOne : Type 0
-WarmOutcomesAreOne = (p : Problem) (limit : ℕ) (settings : List Pairs) (os qs : List Outcome) (m n : ℕ) → IsAccepted p → AreWarmOutcomes p limit settings os m → AreWarmOutcomes p limit settings qs n → AreOneWarm p os m qs n
+WarmOutcomesAreOne = (p : Problem) (limit : ℕ) (settings : List Pairs) (os qs : List Outcome) (m n : ℕ) → IsAccepted p → AreWarmOutcomes p limit settings os m → AreWarmOutcomes p limit settings qs n → AreOneWarm os m qs n
 
 -- ---- warm or not
 -- the same outcomes, and as many warm ones
-abbrev pub AreOneFound : Problem → List Outcome → Option ℕ → List Outcome → Option ℕ → Type 0
-AreOneFound p os None qs None = AreAlike p os qs
-AreOneFound p os (Some m) qs (Some n) = AreOneWarm p os m qs n
-AreOneFound p os None qs (Some n) = ⊥
-AreOneFound p os (Some m) qs None = ⊥
+abbrev pub AreOneFound : List Outcome → Option ℕ → List Outcome → Option ℕ → Type 0
+AreOneFound os None qs None = AreAlike os qs
+AreOneFound os (Some m) qs (Some n) = AreOneWarm os m qs n
+AreOneFound os None qs (Some n) = ⊥
+AreOneFound os (Some m) qs None = ⊥

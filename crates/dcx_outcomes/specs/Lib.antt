@@ -1,4 +1,4 @@
--- What contracts cite.
+-- What contracts cite: the outcomes of settings, fresh, warm, whole, filtered or ranged, and what is right of them.
 pub mod Outcomes
 pub mod Warm
 pub mod Right
@@ -10,3 +10,4 @@ pub mod Wholes
 pub mod WholeLaws
 pub mod Ranges
 pub mod RangeLaws
+pub mod Complete

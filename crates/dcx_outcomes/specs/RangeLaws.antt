@@ -5,11 +5,10 @@ use Rattle.dcx_point.specs.Pairs.{Pairs}
 use Rattle.dcx_tree.specs.declared.problem.Problem.{Problem}
 use Rattle.dcx_tree.specs.Meaning.{setting_of}
 use Rattle.dcx_answer.specs.declared.not_ranged.NotRanged.{NotRanged}
-use Rattle.dcx_answer.specs.declared.ranged.Ranged.{Ranged}
 use Rattle.dcx_answer.specs.declared.range_stop.RangeStop.TheVariants as range
 use Rattle.dcx_answer.specs.declared.range_outcome.RangeOutcome.{RangeOutcome}
 use Rattle.dcx_right.specs.Ranges.{HoldsOn}
-use Rattle.dcx_outcomes.specs.Asking.{FindsRight, AreOneEnd}
+use Rattle.dcx_outcomes.specs.Asking.{FindsRight, WantsMemory}
 use Rattle.dcx_outcomes.specs.Ranges.{HasRange, LacksRange, range_end, AreRangeOutcomes}
 
 -- ---- whether a parameter has a range
@@ -24,12 +23,18 @@ abbrev pub AreRightRanges : Problem → List ℕ → List Pairs → List RangeOu
 AreRightRanges p name settings outcomes = AllZip (λ s o. FindsRight p s (HoldsOn p (setting_of p s) name) (range_end o.end)) settings outcomes
 
 abbrev pub RangesAreRight : Type 0
-RangesAreRight = (p : Problem) (name : List ℕ) (limit : ℕ) (settings : List Pairs) (outcomes : List RangeOutcome) → AreRangeOutcomes p name limit settings outcomes → AreRightRanges p name settings outcomes
+RangesAreRight = (p : Problem) (name : List ℕ) (limit : ℕ) (settings : List Pairs) (outcomes : List RangeOutcome) → AreRangeOutcomes p name limit settings outcomes
+    → AreRightRanges p name settings outcomes
 
--- the same is told, or the same stops, one after the other; want of memory is free
+-- memory did not run out at the setting
+abbrev pub HadMemory : RangeOutcome → Type 0
+HadMemory o = ¬ WantsMemory range.Memory (range_end o.end)
+
+-- the outcomes are the same one after the other, with all their numbers; want of memory is free
 abbrev pub AreAlikeRanges : List RangeOutcome → List RangeOutcome → Type 0
-AreAlikeRanges os qs = AllZip (λ o q. AreOneEnd range.Memory (λ (a b : Ranged). a ≡ b) (range_end o.end) (range_end q.end)) os qs
+AreAlikeRanges os qs = AllZip (λ o q. HadMemory o → HadMemory q → o ≡ q) os qs
 
 -- settings have one list of outcomes
 abbrev pub RangesAreOne : Type 0
-RangesAreOne = (p : Problem) (name : List ℕ) (limit : ℕ) (settings : List Pairs) (os qs : List RangeOutcome) → AreRangeOutcomes p name limit settings os → AreRangeOutcomes p name limit settings qs → AreAlikeRanges os qs
+RangesAreOne = (p : Problem) (name : List ℕ) (limit : ℕ) (settings : List Pairs) (os qs : List RangeOutcome) → AreRangeOutcomes p name limit settings os → AreRangeOutcomes p name limit settings qs
+    → AreAlikeRanges os qs

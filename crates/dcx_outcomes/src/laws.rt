@@ -1,4 +1,5 @@
 //! What holds of all outcomes. There is no code: each clause is a statement about all of them.
+ghost use Rattle.dcx_outcomes.specs.Complete.{OutcomesAreComplete};
 ghost use Rattle.dcx_outcomes.specs.FilterLaws.{FiltersAreRight, FiltersAreOne};
 ghost use Rattle.dcx_outcomes.specs.RangeLaws.{RangeIsTold, RangesAreRight, RangesAreOne};
 ghost use Rattle.dcx_outcomes.specs.Laws.{OutcomesAreRight, OutcomesAreOne, WarmOutcomesAreRight, WarmOutcomesAgree, WarmOutcomesAreOne};
@@ -9,7 +10,7 @@ pub fn outcomes_are_right()
     ensures { OutcomesAreRight }
 {}
 
-/// Settings of an accepted problem have one list of outcomes; want of memory is free.
+/// Settings of an accepted problem have one list of outcomes, with all their numbers; want of memory is free.
 pub fn outcomes_are_one()
     ensures { OutcomesAreOne }
 {}
@@ -64,4 +65,10 @@ pub fn ranges_are_right()
 /// Settings have one list of what is told of a parameter's range, or of its stops; want of memory is free.
 pub fn ranges_are_one()
     ensures { RangesAreOne }
+{}
+
+/// Where a setting fits, has its program, comes to the end of the run within the limit and has no multiplier that passes 128 bits, it is
+/// answered, warm or not, or memory runs out there.
+pub fn outcomes_are_complete()
+    ensures { OutcomesAreComplete }
 {}

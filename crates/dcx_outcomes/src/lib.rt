@@ -5,7 +5,8 @@
 //! | an outcome has a place exactly where its stop names a node | `Outcome`, `FilterOutcome`, `RangeOutcome`, `WholeOutcome`, `names_node` of `specs/NodeStops.antt` |
 //! | there is one outcome for each setting, in order: the session's answer, or its stop with the place of the node that it names | `outcomes`, `specs/Outcomes.antt`: `AreOutcomes` |
 //! | each answer among them is right for the problem at its setting, which fits; its points have an array of its shape for each variable, in order, and its multipliers the shapes of the constraints | `laws::outcomes_are_right`, `specs/Right.antt`: `IsRightAnswer` |
-//! | settings have one list of outcomes; want of memory is free | `laws::outcomes_are_one` |
+//! | settings have one list of outcomes, with all their numbers; want of memory is free | `laws::outcomes_are_one` |
+//! | each setting that nothing stops is answered, warm or not, or memory runs out there | `laws::outcomes_are_complete`, `specs/Complete.antt`: `NothingStops` |
 //! | where it is wanted, each setting is answered from the columns that the settings before it left, where that can be, and those that are answered so are counted | `outcomes`, `specs/Warm.antt`: `AreWarmOutcomes` |
 //! | a warm answer is right too; it has the status and the value of the fresh one whenever both answer, and a warm stop is the fresh one's | `laws::warm_outcomes_are_right`, `laws::warm_outcomes_agree` |
 //! | settings have one list of warm outcomes and one count of them, until memory runs out at a setting | `laws::warm_outcomes_are_one` |

@@ -1,32 +1,22 @@
 -- Lines give one list of settings, and so does the trial.
-use Rattle.std.proofs.Common.{◌≡◌, ℕ, List, [], ◌∷◌, length, map, refl, sym, ap, ap₂, subst, codes, pos, ◌∙◌}
-use Rattle.std.proofs.Props.{props}
-use mathlib.Core.HLevel.{is_prop→PathP}
+use Rattle.std.proofs.Common.{◌≡◌, ℕ, List, [], ◌∷◌, map, refl, sym, ap, ap₂, subst, codes, pos, ◌∙◌}
 use Rattle.dcx_math.specs.Rational.{ℚ, whole}
 use Rattle.dcx_frac.specs.declared.fraction.Frac.{Frac}
 use Rattle.dcx_frac.specs.Frac.{value}
 use Rattle.dcx_frac.proofs.Parts.{value_injective}
-use Rattle.dcx_shape.specs.Shape.{sides_of}
-use Rattle.dcx_shape.specs.Sides.{entries_of}
 use Rattle.dcx_atom.specs.declared.array.Array.{Array}
 use Rattle.dcx_point.specs.Pairs.{Pairs, with_array}
 use Rattle.dcx_settings.specs.declared.settings.SettingItem.{SettingItem}
-use Rattle.dcx_settings.proofs.OneList.{one_shape}
+use Rattle.dcx_shape.proofs.OneShape.{shape_from_sides}
 use Rattle.dcx_overlay.specs.Settings.{LaidOver, AreLaidOver, IsTrialSetting}
 use Rattle.dcx_overlay.specs.Laws.{SettingsAreOne}
-
-same_array : (a b : Array) → a.shape ≡ b.shape → a.entries ≡ b.entries → a ≡ b
-same_array a b s e = λ i. record {
-  shape = s i;
-  entries = e i;
-  full = is_prop→PathP (λ j. length (e j) ≡ entries_of (sides_of (s j))) (λ j. hlevel props) a.full b.full i;
-}
+use Rattle.dcx_atom.proofs.OneArray.{array_from_parts}
 
 -- ---- lines
 one_laid : (s : Pairs) (items : List SettingItem) (t u : Pairs) → LaidOver s items t → LaidOver s items u → t ≡ u
 one_laid s [] t u h k = h ∙ sym k
 one_laid s (x ∷ xs) t u (a, n, h) (b, m, k) =
-    let same = same_array a b (n.shaped ∙ sym m.shaped) (n.numbered ∙ sym m.numbered) in
+    let same = array_from_parts a b (n.shaped ∙ sym m.shaped) (n.numbered ∙ sym m.numbered) in
     one_laid (with_array s x.name a) xs t u h (subst (λ (c : Array). LaidOver (with_array s x.name c) xs u) (sym same) k)
 
 all_laid : (s : Pairs) (lines : List (List SettingItem)) (ts us : List Pairs) → AreLaidOver s lines ts → AreLaidOver s lines us → ts ≡ us
@@ -50,7 +40,7 @@ one_number q (x ∷ w ∷ xs) (y ∷ ys) e f = absurd cc
 
 one_trial : (s : Pairs) (n : ℕ) (t u : Pairs) → IsTrialSetting s n t → IsTrialSetting s n u → t ≡ u
 one_trial s n t u (a, h, e) (b, k, f) =
-    e ∙ ap (with_array s (codes "q")) (same_array a b (one_shape a.shape b.shape (h.scalar ∙ sym k.scalar)) (one_number (whole (pos n)) a.entries b.entries h.number k.number)) ∙ sym f
+    e ∙ ap (with_array s (codes "q")) (array_from_parts a b (shape_from_sides a.shape b.shape (h.scalar ∙ sym k.scalar)) (one_number (whole (pos n)) a.entries b.entries h.number k.number)) ∙ sym f
 
 pub settings_are_one : SettingsAreOne
 settings_are_one = record {

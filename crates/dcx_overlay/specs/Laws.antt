@@ -1,4 +1,4 @@
--- What holds of all settings.
+-- The law of settings: lines give one list of them, and so does the trial.
 use Rattle.std.specs.Prelude.{◌≡◌, List}
 use Rattle.dcx_point.specs.Pairs.{Pairs}
 use Rattle.dcx_settings.specs.declared.settings.SettingItem.{SettingItem}

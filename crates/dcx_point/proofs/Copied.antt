@@ -28,7 +28,8 @@ not_some f None h = refl
 not_some f (Some x) h = absurd (h x refl)
 
 -- each name that is there has its array
-pub no_array : {X : Type 0} (ps : Pairs) (i : ℕ) → AreDistinct ps → (f : X → Array) (o : Option X) (name : List ℕ) → Some name ≡ slice_get (names_of ps) i → option_map f o ≡ array_of ps name → ((x : X) → o ≡ Some x → ⊥) → ⊥
+pub no_array : {X : Type 0} (ps : Pairs) (i : ℕ) → AreDistinct ps → (f : X → Array) (o : Option X) (name : List ℕ) → Some name ≡ slice_get (names_of ps) i
+    → option_map f o ≡ array_of ps name → ((x : X) → o ≡ Some x → ⊥) → ⊥
 no_array ps i distinct f o name named valued none =
     let (x, at) = pair_at ps i name (sym named) in
     none-some x (sym (not_some f o none) ∙ valued ∙ array_at ps i (name, x) distinct at)
@@ -38,7 +39,8 @@ pub no_name : {X : Type 0} (ps : Pairs) (i : ℕ) → (f : X → List ℕ) (o : 
 no_name ps i f o lt named none = name_there ps i lt (sym named ∙ not_some f o none)
 
 -- one more pair
-pub pair_more : (ps before after : Pairs) (i : ℕ) → AreDistinct ps → before ≡ take i ps → (name key : List ℕ) (a b : Array) → Some name ≡ slice_get (names_of ps) i → Some a ≡ array_of ps name → key ≡ name → b ≡ a → after ≡ with_array before key b → after ≡ take (i + 1) ps
+pub pair_more : (ps before after : Pairs) (i : ℕ) → AreDistinct ps → before ≡ take i ps → (name key : List ℕ) (a b : Array) → Some name ≡ slice_get (names_of ps) i
+    → Some a ≡ array_of ps name → key ≡ name → b ≡ a → after ≡ with_array before key b → after ≡ take (i + 1) ps
 pair_more ps before after i distinct was name key a b named valued k e puts =
     let (x, at) = pair_at ps i name (sym named) in
     let same : a ≡ x = same_Some a x (valued ∙ array_at ps i (name, x) distinct at) in

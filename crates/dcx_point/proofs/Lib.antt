@@ -1,4 +1,4 @@
--- The lemmas.
+-- The lemmas on puts, on the names of pairs, and on pairs that are copied.
 pub mod Puts
 pub mod Names
 pub mod Copied

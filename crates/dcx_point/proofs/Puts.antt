@@ -45,7 +45,8 @@ pub present : (pairs : Pairs) (name : List ℕ) (array : Array) → IsSome (arra
 present [] name array h = absurd (true≢false (sym h))
 present (p ∷ ps) name array h = by (present ps name array) (same_name name p.0) refl
   where
-    by : (IsSome (array_of ps name) → names_of (with_array ps name array) ≡ names_of ps) → (t : Bool) → same_name name p.0 ≡ t → names_of (cond t ((p.0, array) ∷ ps) (p ∷ with_array ps name array)) ≡ names_of (p ∷ ps)
+    by : (IsSome (array_of ps name) → names_of (with_array ps name array) ≡ names_of ps) → (t : Bool) → same_name name p.0 ≡ t
+        → names_of (cond t ((p.0, array) ∷ ps) (p ∷ with_array ps name array)) ≡ names_of (p ∷ ps)
     by rest true e = refl
     by rest false e = ap (λ r. p.0 ∷ r) (rest (rw e at h))
 
@@ -53,7 +54,8 @@ pub absent : (pairs : Pairs) (name : List ℕ) (array : Array) → array_of pair
 absent [] name array h = refl
 absent (p ∷ ps) name array h = by (absent ps name array) (same_name name p.0) refl
   where
-    by : (array_of ps name ≡ None → with_array ps name array ≡ ps ++ (name, array) ∷ []) → (t : Bool) → same_name name p.0 ≡ t → cond t ((p.0, array) ∷ ps) (p ∷ with_array ps name array) ≡ (p ∷ ps) ++ (name, array) ∷ []
+    by : (array_of ps name ≡ None → with_array ps name array ≡ ps ++ (name, array) ∷ []) → (t : Bool) → same_name name p.0 ≡ t
+        → cond t ((p.0, array) ∷ ps) (p ∷ with_array ps name array) ≡ (p ∷ ps) ++ (name, array) ∷ []
     by rest true e = let g = rw e at h in cc
     by rest false e = ap (λ r. p ∷ r) (rest (rw e at h))
 

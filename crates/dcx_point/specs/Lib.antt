@@ -1,3 +1,3 @@
--- What the contracts of this crate cite.
+-- What contracts cite: arrays under names, and what a put does to them.
 pub mod Pairs
 pub mod Laws

@@ -8,4 +8,5 @@ use Rattle.dcx_postsolve.specs.Laws.{ArraysArePoints}
 pub arrays_are_points : ArraysArePoints
 arrays_are_points p us given is = λ k v at e b.
     sym (is.numbers k v at e)
-    ∙ ap (λ name. given_by given name e) (sym (get_or_from_slice_get (map (λ (w : Variable). w.name) p.variables) k v.name [] (slice_get-map (λ (w : Variable). w.name) p.variables k ∙ ap (option_map (λ (w : Variable). w.name)) at)))
+    ∙ ap (λ name. given_by given name e)
+    (sym (get_or_from_slice_get (map (λ (w : Variable). w.name) p.variables) k v.name [] (slice_get-map (λ (w : Variable). w.name) p.variables k ∙ ap (option_map (λ (w : Variable). w.name)) at)))

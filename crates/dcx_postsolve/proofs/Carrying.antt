@@ -96,8 +96,9 @@ keeps_alike convex.Symmetric sides x y square same h = λ i j e.
 keeps_alike convex.Diag sides x y square same h = λ i j e ne. sym (same (row_place sides i j) (place_below false sides i j e)) ∙ h i j e ne
 
 -- ---- multipliers
-weighed_same : (gap : problems.Constraint → ℕ → ℚ) (cs : List problems.Constraint) (m n : Multipliers) → ((k : ℕ) (c : problems.Constraint) → slice_get cs k ≡ Some c → (j : ℕ) → j < c.size → m k j ≡ n k j) →
-    weighed gap cs m ≡ weighed gap cs n
+weighed_same : (gap : problems.Constraint → ℕ → ℚ) (cs : List problems.Constraint) (m n : Multipliers)
+    → ((k : ℕ) (c : problems.Constraint) → slice_get cs k ≡ Some c → (j : ℕ) → j < c.size → m k j ≡ n k j)
+    → weighed gap cs m ≡ weighed gap cs n
 weighed_same gap [] m n same = refl
 weighed_same gap (c ∷ cs) m n same =
     ap₂ (λ a b. a +ℚ b) (rat_sum_below-same c.size (λ j. m 0 j *ℚ gap c j) (λ j. n 0 j *ℚ gap c j) (λ j l. ap (λ z. z *ℚ gap c j) (same 0 c refl j l)))
@@ -108,7 +109,8 @@ module _ (p : Problem) (s : Setting) where
   pub domain_alike : (x y : Point) → AreAlike p.variables x y → IsInDomain p x → IsInDomain p y
   domain_alike x y alike dom =
       to_domain p y (λ k v at.
-      let here : IsSquareFor (demanded v) (sides_in v) = subst (λ (w : Variable). IsSquareFor (demanded w) (sides_in w)) (get_or_from_slice_get p.variables k v v at) (p.squares k v (slice_get_within p.variables k v at)) in
+      let here : IsSquareFor (demanded v) (sides_in v) =
+      subst (λ (w : Variable). IsSquareFor (demanded w) (sides_in w)) (get_or_from_slice_get p.variables k v v at) (p.squares k v (slice_get_within p.variables k v at)) in
       keeps_alike (variable_attribute v.whole v.attribute) (sides_in v) (x k) (y k) (square_as v.whole v.attribute (sides_in v) here) (alike k v at) (to_variables p x dom k v at))
 
   pub objective_alike : (x y : Point) → AreAlike p.variables x y → objective_at p s x ≡ objective_at p s y

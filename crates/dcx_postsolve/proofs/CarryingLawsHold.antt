@@ -1,5 +1,5 @@
--- The law holds.
-use Rattle.std.proofs.Common.{◌≡◌, ℕ, zero, suc, ◌+◌, ◌<◌, arith, Bool, if◌then◌else◌, List, [], ◌∷◌, length, map, Some, option_map, slice_get, refl, sym, ap, ap₂, ◌∙◌, subst, pos, zero-add}
+-- A right answer of the linear program is right for the reduced program: the law's proof.
+use Rattle.std.proofs.Common.{◌≡◌, ℕ, zero, ◌+◌, ◌<◌, Bool, if◌then◌else◌, length, map, Some, option_map, slice_get, refl, sym, ap, ap₂, ◌∙◌, subst, pos, zero-add}
 use Rattle.std.specs.Prelude.{nat_lt}
 use Rattle.std.proofs.lemmas.Bool.{lt-ltb}
 use Rattle.std.proofs.lemmas.Option.{slice_get-map}
@@ -13,11 +13,7 @@ use Rattle.dcx_linear.specs.Rows.{RowAt, LinearProgram, IsSolution, StandsTo, Ha
 use Rattle.dcx_postsolve.specs.Programs.{gap_rows, bound_row, IsProgramOf, multipliers_of}
 use Rattle.dcx_postsolve.specs.CarryingLaws.{ProgramsCarryOver}
 use Rattle.dcx_postsolve.proofs.Rows.{AllFrom, all_left, all_right, IsSigned, gaps_hold, gaps_signed, combined_append, combined_gaps, combined_bounds}
-
-some_before : {A : Type 0} (xs : List A) (k : ℕ) → k < length xs → (x : A) × (slice_get xs k ≡ Some x)
-some_before [] k b = absurd (omega (arith, b))
-some_before (x ∷ xs) zero b = (x, refl)
-some_before (x ∷ xs) (suc k) b = some_before xs k (omega (arith, b))
+use Rattle.dcx_math.proofs.Lists.{element_at}
 
 module _ (l : LinearProgram) (p : Problem) (r : Reduced) (is : IsProgramOf l p r) where
   -- what holds of each row of the program holds of those of constraints, and of those beside them
@@ -50,7 +46,7 @@ module _ (l : LinearProgram) (p : Problem) (r : Reduced) (is : IsProgramOf l p r
 
   -- at least 0
   row_there : (k : ℕ) → k < length r.rows → (row : Unknowns → ℚ) × (slice_get r.rows k ≡ Some row)
-  row_there k b = some_before r.rows k b
+  row_there k b = element_at r.rows k b
 
   weights_signed : (m : ℕ → ℚ) → HaveSigns l m → (k : ℕ) → IsNonnegative (weight m k)
   weights_signed m h k =
@@ -70,7 +66,8 @@ module _ (l : LinearProgram) (p : Problem) (r : Reduced) (is : IsProgramOf l p r
       ap (λ rows. combined_from m 0 rows u) is.rows
       ∙ combined_append m u 0 (gap_rows r.forms p.constraints) (map bound_row r.rows)
       ∙ ap₂ ◌+ℚ◌ (combined_gaps m u r.forms 0 p.constraints)
-      (ap (λ n. combined_from m n (map bound_row r.rows) u) (zero-add (length (gap_rows r.forms p.constraints))) ∙ combined_bounds m u (length (gap_rows r.forms p.constraints)) r.rows (weight m) (weight_is m))
+      (ap (λ n. combined_from m n (map bound_row r.rows) u) (zero-add (length (gap_rows r.forms p.constraints)))
+      ∙ combined_bounds m u (length (gap_rows r.forms p.constraints)) r.rows (weight m) (weight_is m))
 
   -- ---- the three kinds of answers
   optimal : (v : ℚ) (x : Unknowns) (m : ℕ → ℚ) → IsOptimal l v x m → IsRightOptimal p r v x (multipliers_of p m) (weight m)

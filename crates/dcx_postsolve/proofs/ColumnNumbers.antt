@@ -29,7 +29,8 @@ module _ (kinds : List UnknownKind) (i : ℕ) (d : UnknownKind) (lt : i < length
       (next + columns_for (get_or kinds i d) ≤ n) × ((next + columns_for (get_or kinds i d)) + sum_by columns_for (drop (i + 1) kinds) ≤ n)
   columns_there next n h =
       let kind = get_or kinds i d in
-      let total : sum_by columns_for (drop i kinds) ≡ columns_for kind + sum_by columns_for (drop (i + 1) kinds) = ap (sum_by columns_for) rest_is ∙ sum_by-cons columns_for kind (drop (i + 1) kinds) in
+      let total : sum_by columns_for (drop i kinds) ≡ columns_for kind + sum_by columns_for (drop (i + 1) kinds) = ap (sum_by columns_for) rest_is
+      ∙ sum_by-cons columns_for kind (drop (i + 1) kinds) in
       (omega (arith, total, h), omega (arith, total, h))
 
   module _ (zs : List ℚ) (next : ℕ) where
@@ -37,8 +38,9 @@ module _ (kinds : List UnknownKind) (i : ℕ) (d : UnknownKind) (lt : i < length
     sided_there h = subst (AreOneSidedFrom zs next) rest_is h
 
     -- one more number
-    pub number_next : (xs ys : List Frac) (x : Frac) (all : List ℚ) → value x ≡ unknown_number zs next (get_or kinds i d) → ys ≡ xs ++ x ∷ [] → map value xs ++ numbers_from zs next (drop i kinds) ≡ all →
-        map value ys ++ numbers_from zs (next + columns_for (get_or kinds i d)) (drop (i + 1) kinds) ≡ all
+    pub number_next : (xs ys : List Frac) (x : Frac) (all : List ℚ) → value x ≡ unknown_number zs next (get_or kinds i d) → ys ≡ xs ++ x ∷ []
+        → map value xs ++ numbers_from zs next (drop i kinds) ≡ all
+        → map value ys ++ numbers_from zs (next + columns_for (get_or kinds i d)) (drop (i + 1) kinds) ≡ all
     number_next xs ys x all here pushed before =
         let rest = numbers_from zs (next + columns_for (get_or kinds i d)) (drop (i + 1) kinds) in
         ap (λ l. map value l ++ rest) pushed ∙ ap (λ l. l ++ rest) (map-append value xs (x ∷ [])) ∙ append_assoc (map value xs) (value x ∷ []) rest

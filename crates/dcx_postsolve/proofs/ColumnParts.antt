@@ -1,5 +1,6 @@
 -- What the columns of a program stand for: the unknowns that are read from them, one after the other.
-use Rattle.std.proofs.Common.{◌≡◌, ◌≢◌, ℕ, zero, suc, ◌+◌, ◌<◌, ◌≤◌, Bool, true, false, if◌then◌else◌, List, [], ◌∷◌, ◌++◌, length, map, refl, sym, ap, ap₂, ◌∙◌, subst, add-zero, zero-add, ◌⊎◌, arith, pos}
+use Rattle.std.proofs.Common.{◌≡◌, ◌≢◌, ℕ, zero, suc, ◌+◌, ◌<◌, ◌≤◌, Bool, true, false, if◌then◌else◌, List, [], ◌∷◌, ◌++◌}
+use Rattle.std.proofs.Common.{length, map, refl, sym, ap, ap₂, ◌∙◌, subst, add-zero, zero-add, ◌⊎◌, arith, pos}
 use Rattle.std.proofs.lemmas.Bool.{eq-eqb, ne_eqb}
 use Rattle.std.proofs.lemmas.List.{length-append, append_assoc, get_or_append_left}
 use Rattle.dcx_math.specs.Rational.{ℚ, whole, ◌+ℚ◌, ◌-ℚ◌, neg_ℚ}
@@ -203,7 +204,8 @@ module _ (rows : GivenRows) (q : Program) (zs : List ℚ) (made : IsMade rows q)
   are_sided sided =
       sided_from (kind_at q.columns) (length q.columns) zs sided 0 0 rows.kinds (record {
         within = (let within = front_within in omega (arith, within));
-        same = λ i l. ap (kind_at q.columns) (zero-add i) ∙ ap (λ ks. kind_at ks i) columns_in_front ∙ get_or_append_left front (marked_from Slack 0 slacks ++ marked_from Artificial 0 artificials) (Unknown 0 false) i l;
+        same = λ i l. ap (kind_at q.columns) (zero-add i) ∙ ap (λ ks. kind_at ks i) columns_in_front
+            ∙ get_or_append_left front (marked_from Slack 0 slacks ++ marked_from Artificial 0 artificials) (Unknown 0 false) i l;
       })
 
   pub columns_tell : ColumnsTellUnknowns rows q zs

@@ -27,7 +27,8 @@ use Rattle.dcx_postsolve.proofs.DualSteps.{passing_behind, passing_front, rows_i
 
 -- ---- entry by entry
 -- an entry of the first array
-entry_of : (status : LpStatus) (c : Constraint) (notes : List RowNote) (x : Array) → IsDual status c notes x → (j : ℕ) (y : Frac) → slice_get x.entries j ≡ Some y → IsRowMultiplier status c.kind notes j (number_at x.entries j)
+entry_of : (status : LpStatus) (c : Constraint) (notes : List RowNote) (x : Array) → IsDual status c notes x → (j : ℕ) (y : Frac) → slice_get x.entries j ≡ Some y
+    → IsRowMultiplier status c.kind notes j (number_at x.entries j)
 entry_of status c notes x is j y at =
     let f = multiplier_of status (row_kind c.kind) in
     let ok : Frac → Result Frac Passes = λ z. Ok z in
@@ -42,11 +43,13 @@ element (x ∷ xs) zero l = (x, refl)
 element (x ∷ xs) (suc j) l = element xs j (omega arith)
 
 -- the rows of the rest stand behind those of the first
-behind_first : (status : LpStatus) (c : Constraint) (n : ℕ) (notes : List RowNote) (row : ℕ) (m : ℚ) → IsRowMultiplier status c.kind (drop n notes) row m → IsRowMultiplier status c.kind notes (n + row) m
+behind_first : (status : LpStatus) (c : Constraint) (n : ℕ) (notes : List RowNote) (row : ℕ) (m : ℚ) → IsRowMultiplier status c.kind (drop n notes) row m
+    → IsRowMultiplier status c.kind notes (n + row) m
 behind_first status c n notes row m h = record { note = h.note; noted = sym (behind n notes row) ∙ h.noted; number = h.number; formed = h.formed; is = h.is }
 
-pub row_multiplier : (status : LpStatus) (cs : List Constraint) (notes : List RowNote) (ds : List Array) → AreDuals status cs notes ds → (k : ℕ) (c : Constraint) → slice_get cs k ≡ Some c → (j : ℕ) → j < constraint_rows c →
-    IsRowMultiplier status c.kind notes (first_row cs k + j) (multipliers_in ds k j)
+pub row_multiplier : (status : LpStatus) (cs : List Constraint) (notes : List RowNote) (ds : List Array) → AreDuals status cs notes ds → (k : ℕ) (c : Constraint) → slice_get cs k ≡ Some c → (j : ℕ)
+    → j < constraint_rows c
+    → IsRowMultiplier status c.kind notes (first_row cs k + j) (multipliers_in ds k j)
 row_multiplier status [] notes ds are k c at j l = absurd (none-some c at)
 row_multiplier status (b ∷ cs) notes [] are k c at j l = absurd are
 row_multiplier status (b ∷ cs) notes (x ∷ ds) are zero c at j l =
@@ -68,13 +71,15 @@ right_multiplier kinds a cs d slacks are k c at j l =
     h.is ∙ formed_is_right kinds a (first_row cs k + j) h.note (row_kind c.kind) h.number h.noted (slacks k c at j l) h.formed
 
 -- ---- one list
-same_lists : (status : LpStatus) (cs : List Constraint) (notes : List RowNote) (d e : List Array) → AreDuals status cs notes d → AreDuals status cs notes e → map (λ x. x.entries) d ≡ map (λ x. x.entries) e
+same_lists : (status : LpStatus) (cs : List Constraint) (notes : List RowNote) (d e : List Array) → AreDuals status cs notes d → AreDuals status cs notes e
+    → map (λ x. x.entries) d ≡ map (λ x. x.entries) e
 same_lists status [] notes [] [] h k = refl
 same_lists status [] notes [] (y ∷ e) h k = absurd k
 same_lists status [] notes (x ∷ d) e h k = absurd h
 same_lists status (c ∷ cs) notes [] e h k = absurd h
 same_lists status (c ∷ cs) notes (x ∷ d) [] h k = absurd k
-same_lists status (c ∷ cs) notes (x ∷ d) (y ∷ e) h k = ap₂ ◌∷◌ (same_formed Passes x.entries y.entries (h.0.numbers ∙ sym k.0.numbers)) (same_lists status cs (drop (constraint_rows c) notes) d e h.1 k.1)
+same_lists status (c ∷ cs) notes (x ∷ d) (y ∷ e) h k =
+    ap₂ ◌∷◌ (same_formed Passes x.entries y.entries (h.0.numbers ∙ sym k.0.numbers)) (same_lists status cs (drop (constraint_rows c) notes) d e h.1 k.1)
 
 none_from : (status : LpStatus) (cs : List Constraint) (notes : List RowNote) (i : ℕ) (d : List Array) → AreDuals status cs notes d → passing_from i (all_multipliers status cs notes) ≡ None
 none_from status [] notes i [] h = refl
@@ -96,7 +101,8 @@ formed_or_not [] i = inl ([], refl)
 formed_or_not (Err passes ∷ rs) i = inr (i, passes, refl)
 formed_or_not (Ok x ∷ rs) i = elim (formed_or_not rs (suc i)) [ inl h ↦ inl (x ∷ h.0, ap (λ l. Ok x ∷ l) h.1) | inr p ↦ inr p ]
 
-either_of : (status : LpStatus) (cs : List Constraint) (notes : List RowNote) (i : ℕ) → sum_by constraint_rows cs ≤ length notes → ((d : List Array) × AreDuals status cs notes d) ⊎ Passing (all_multipliers status cs notes) i
+either_of : (status : LpStatus) (cs : List Constraint) (notes : List RowNote) (i : ℕ) → sum_by constraint_rows cs ≤ length notes
+    → ((d : List Array) × AreDuals status cs notes d) ⊎ Passing (all_multipliers status cs notes) i
 either_of status [] notes i h = inl ([], tt)
 either_of status (c ∷ cs) notes i h = by (λ k. either_of status cs (drop n notes) k behind_rows) (formed_or_not here i)
   where
@@ -116,12 +122,14 @@ either_of status (c ∷ cs) notes i h = by (λ k. either_of status cs (drop n no
     behind_rows = omega (arith, length-drop n notes, total)
 
     count : (f : Formed here) → length f.0 ≡ entries_of (sides_of c.shape)
-    count f = let ok : Frac → Result Frac Passes = λ z. Ok z in sym (length-map f.0 ok) ∙ ap length f.1 ∙ length-map (take n notes) (multiplier_of status (row_kind c.kind)) ∙ length-take-le n notes (omega (arith, total))
+    count f = let ok : Frac → Result Frac Passes = λ z. Ok z in sym (length-map f.0 ok) ∙ ap length f.1 ∙ length-map (take n notes) (multiplier_of status (row_kind c.kind))
+        ∙ length-take-le n notes (omega (arith, total))
 
     array : Formed here → Array
     array f = record { shape = c.shape; entries = f.0; full = count f }
 
-    by : ((k : ℕ) → ((d : List Array) × AreDuals status cs (drop n notes) d) ⊎ Passing rest k) → Formed here ⊎ Passing here i → ((d : List Array) × AreDuals status (c ∷ cs) notes d) ⊎ Passing (here ++ rest) i
+    by : ((k : ℕ) → ((d : List Array) × AreDuals status cs (drop n notes) d) ⊎ Passing rest k) → Formed here ⊎ Passing here i
+        → ((d : List Array) × AreDuals status (c ∷ cs) notes d) ⊎ Passing (here ++ rest) i
     by others (inr p) = inr (p.0, p.1, passing_front i here rest (p.0, p.1) p.2)
     by others (inl h) = elim (others (i + length h.0)) [
       | inl r ↦ inl (array h ∷ r.0, (record { shape = refl; numbers = h.1 }, r.1))

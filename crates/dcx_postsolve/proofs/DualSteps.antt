@@ -44,29 +44,36 @@ module _ (status : LpStatus) (cs : List Constraint) (notes : List RowNote) (i ne
   -- the rows of the constraint are there, and those behind them
   pub rows_there : (n : ℕ) → next + sum_by constraint_rows (drop i cs) ≤ n → (next + constraint_rows c ≤ n) × ((next + constraint_rows c) + sum_by constraint_rows (drop (i + 1) cs) ≤ n)
   rows_there n h =
-      let total : sum_by constraint_rows (drop i cs) ≡ constraint_rows c + sum_by constraint_rows (drop (i + 1) cs) = ap (sum_by constraint_rows) rest_is ∙ sum_by-cons constraint_rows c (drop (i + 1) cs) in
+      let total : sum_by constraint_rows (drop i cs) ≡ constraint_rows c + sum_by constraint_rows (drop (i + 1) cs) = ap (sum_by constraint_rows) rest_is
+      ∙ sum_by-cons constraint_rows c (drop (i + 1) cs) in
       (omega (arith, total, h), omega (arith, total, h))
 
   all_are : all_multipliers status (drop i cs) (drop next notes) ≡ row_multipliers status c (drop next notes) ++ all_multipliers status (drop (i + 1) cs) (drop (next + constraint_rows c) notes)
-  all_are = ap (λ l. all_multipliers status l (drop next notes)) rest_is ∙ ap (λ l. row_multipliers status c (drop next notes) ++ all_multipliers status (drop (i + 1) cs) l) (drop-drop (constraint_rows c) next notes)
+  all_are = ap (λ l. all_multipliers status l (drop next notes)) rest_is
+      ∙ ap (λ l. row_multipliers status c (drop next notes) ++ all_multipliers status (drop (i + 1) cs) l) (drop-drop (constraint_rows c) next notes)
 
   -- the first that passes here is the first of all
   pub stops_here : (all : List (Result Frac Passes)) (e : MultiplierStop) → passing_from next (all_multipliers status (drop i cs) (drop next notes)) ≡ passing_from 0 all →
       StopsAt e (passing_from next (row_multipliers status c (drop next notes))) → StopsAt e (passing_from 0 all)
-  stops_here all e same h = subst (StopsAt e) (ap (passing_from next) (sym all_are) ∙ same) (stops_front next (row_multipliers status c (drop next notes)) (all_multipliers status (drop (i + 1) cs) (drop (next + constraint_rows c) notes)) e h)
+  stops_here all e same h =
+      subst (StopsAt e) (ap (passing_from next) (sym all_are) ∙ same) (stops_front next (row_multipliers status c (drop next notes))
+      (all_multipliers status (drop (i + 1) cs) (drop (next + constraint_rows c) notes)) e h)
 
   module _ (before after : List Array) (adds : AddsDual status c (drop next notes) before after) where
-    pub passing_next : passing_from (next + constraint_rows c) (all_multipliers status (drop (i + 1) cs) (drop (next + constraint_rows c) notes)) ≡ passing_from next (all_multipliers status (drop i cs) (drop next notes))
+    pub passing_next : passing_from (next + constraint_rows c) (all_multipliers status (drop (i + 1) cs) (drop (next + constraint_rows c) notes))
+        ≡ passing_from next (all_multipliers status (drop i cs) (drop next notes))
     passing_next =
         let x = adds.array in
         let rest = all_multipliers status (drop (i + 1) cs) (drop (next + constraint_rows c) notes) in
-        sym (ap (passing_from next) (all_are ∙ ap (λ l. l ++ rest) (sym adds.is.numbers)) ∙ passing_behind next x.entries rest ∙ ap (λ n. passing_from (next + n) rest) (rows_in status c (drop next notes) x adds.is))
+        sym (ap (passing_from next) (all_are ∙ ap (λ l. l ++ rest) (sym adds.is.numbers)) ∙ passing_behind next x.entries rest
+        ∙ ap (λ n. passing_from (next + n) rest) (rows_in status c (drop next notes) x adds.is))
 
     pub duals_next : ((es : List Array) → AreDuals status (drop i cs) (drop next notes) es → AreDuals status cs notes (before ++ es)) →
         (es : List Array) → AreDuals status (drop (i + 1) cs) (drop (next + constraint_rows c) notes) es → AreDuals status cs notes (after ++ es)
     duals_next made es are =
         let x = adds.array in
-        let behind : AreDuals status (drop (i + 1) cs) (drop (constraint_rows c) (drop next notes)) es = subst (λ l. AreDuals status (drop (i + 1) cs) l es) (sym (drop-drop (constraint_rows c) next notes)) are in
+        let behind : AreDuals status (drop (i + 1) cs) (drop (constraint_rows c) (drop next notes)) es =
+        subst (λ l. AreDuals status (drop (i + 1) cs) l es) (sym (drop-drop (constraint_rows c) next notes)) are in
         let here : AreDuals status (drop i cs) (drop next notes) (x ∷ es) = subst (λ l. AreDuals status l (drop next notes) (x ∷ es)) (sym rest_is) (adds.is, behind) in
         let joined : before ++ x ∷ es ≡ after ++ es = sym (append_assoc before (x ∷ []) es) ∙ ap (λ l. l ++ es) (sym adds.added) in
         subst (AreDuals status cs notes) joined (made (x ∷ es) here)

@@ -36,9 +36,6 @@ pub record IsFront (vs : List Variable) (us : List Frac) (k : ℕ) (point : Pair
   pub names : names_of point ≡ map (λ v. v.name) (take k vs)
   pub arrays : (i : ℕ) (v : Variable) → i < k → IsVariable vs i v → HasArrayFrom us (first_unknown vs i) v point
 
-pub front_none : (vs : List Variable) (us : List Frac) → IsFront vs us 0 []
-front_none vs us = record { names = refl; arrays = λ i v l. absurd (omega (arith, l)) }
-
 -- a name that none of the pairs has
 unnamed : (pairs : Pairs) (name : List ℕ) → ((i : ℕ) (n : List ℕ) → slice_get (names_of pairs) i ≡ Some n → name ≢ n) → array_of pairs name ≡ None
 unnamed [] name h = refl

@@ -37,7 +37,8 @@ module _ (P : ℕ → RowAt → Type 0) where
   all_below i zero f h j b = absurd (omega arith)
   all_below i (suc n) f h j b =
       ⊎_elim (λ l. all_below i n f (all_left i (list_below n f) (f n ∷ []) h) j l)
-      (λ e. subst (λ k. P (i + k) (f k)) (sym e) (subst (λ k. P k (f n)) (add-zero (i + length (list_below n f)) ∙ ap (λ k. i + k) (length-list_below n f)) (all_right i (list_below n f) (f n ∷ []) h 0 (f n) refl)))
+      (λ e. subst (λ k. P (i + k) (f k)) (sym e) (subst (λ k. P k (f n)) (add-zero (i + length (list_below n f)) ∙ ap (λ k. i + k) (length-list_below n f))
+      (all_right i (list_below n f) (f n ∷ []) h 0 (f n) refl)))
       (below_or_last j n b)
 
 -- ---- of the rows of constraints
@@ -59,7 +60,8 @@ module _ (forms : Unknowns → ℕ → Numbers) where
   gaps_hold u i [] h k c e j b = absurd (none-some c e)
   gaps_hold u i (d ∷ cs) h zero c e j b =
       subst (λ (y : Constraint). j < y.size → Holds y.relation (gap_of (forms u) y j)) (same_Some d c e)
-      (λ l. holds_as d.relation (gap_of (forms u) d j) (all_below (λ n r. StandsTo r.kind (r.number u)) i d.size (gap_row forms d) (all_left (λ n r. StandsTo r.kind (r.number u)) i (list_below d.size (gap_row forms d)) (gap_rows forms cs) h) j l)) b
+      (λ l. holds_as d.relation (gap_of (forms u) d j) (all_below (λ n r. StandsTo r.kind (r.number u)) i d.size (gap_row forms d)
+      (all_left (λ n r. StandsTo r.kind (r.number u)) i (list_below d.size (gap_row forms d)) (gap_rows forms cs) h) j l)) b
   gaps_hold u i (d ∷ cs) h (suc k) c e j b =
       gaps_hold u (i + length (list_below d.size (gap_row forms d))) cs (all_right (λ n r. StandsTo r.kind (r.number u)) i (list_below d.size (gap_row forms d)) (gap_rows forms cs) h) k c e j b
 
@@ -71,7 +73,8 @@ module _ (forms : Unknowns → ℕ → Numbers) where
       (λ l. multiplies_as d.relation (m (i + j)) (all_below (IsSigned m) i d.size (gap_row forms d) (all_left (IsSigned m) i (list_below d.size (gap_row forms d)) (gap_rows forms cs) h) j l)) b
   gaps_signed m i (d ∷ cs) h (suc k) c e j b =
       gaps_signed m (i + d.size) cs
-      (subst (λ n. AllFrom (IsSigned m) (i + n) (gap_rows forms cs)) (length-list_below d.size (gap_row forms d)) (all_right (IsSigned m) i (list_below d.size (gap_row forms d)) (gap_rows forms cs) h)) k c e j b
+      (subst (λ n. AllFrom (IsSigned m) (i + n) (gap_rows forms cs)) (length-list_below d.size (gap_row forms d))
+      (all_right (IsSigned m) i (list_below d.size (gap_row forms d)) (gap_rows forms cs) h)) k c e j b
 
 -- ---- sums of multipliers times rows
 module _ (m : ℕ → ℚ) (u : Unknowns) where

@@ -1,4 +1,4 @@
--- The main statements, as the clauses of the laws say them.
+-- The law that right answers of the linear program are right for the reduced program.
 use Rattle.std.specs.Prelude.{ℕ}
 use Rattle.dcx_math.specs.Rational.{ℚ}
 use Rattle.dcx_convex.specs.Problems.{Problem}

@@ -1,4 +1,4 @@
--- The main statements, as the clauses of the laws say them.
+-- The laws of what is read from columns and rows: unknowns, points, multipliers, and answers at the same of them.
 use Rattle.std.specs.Prelude.{◌≡◌, ◌≤◌, ◌⊎◌, ℕ, ◌+◌, ◌<◌, List, map, length, Some, None, sum_by, slice_get}
 use Rattle.dcx_math.specs.Rational.{ℚ}
 use Rattle.dcx_math.specs.Sums.{rat_at}
@@ -61,7 +61,8 @@ DualsAreMultipliers = (status : LpStatus) (constraints : List Constraint) (notes
 
 -- of the rows of constraints these columns have slacks for the inequalities, and for no others
 abbrev pub HaveSlacks : List ColumnKind → List Constraint → Type 0
-HaveSlacks kinds constraints = (k : ℕ) (c : Constraint) → slice_get constraints k ≡ Some c → (j : ℕ) → j < constraint_rows c → is_inequality kinds (first_row constraints k + j) ≡ is_at_most (row_kind c.kind)
+HaveSlacks kinds constraints = (k : ℕ) (c : Constraint) → slice_get constraints k ≡ Some c → (j : ℕ) → j < constraint_rows c
+    → is_inequality kinds (first_row constraints k + j) ≡ is_at_most (row_kind c.kind)
 
 abbrev pub DualsAreRight : Type 0
 DualsAreRight = (kinds : List ColumnKind) (a : LpAnswer) (constraints : List Constraint) (d : List Array) → HaveSlacks kinds constraints → AreDuals a.status constraints a.rows d →

@@ -1,4 +1,4 @@
--- What the contracts of this crate cite.
+-- What contracts cite: the numbers of unknowns, points and multipliers that are read from an answer's columns and rows.
 pub mod Numbers
 pub mod Points
 pub mod Duals

@@ -1,2 +1,2 @@
--- The lemmas.
+-- The lemmas on which unknowns the rows of a case reach to.
 pub mod Widths

@@ -97,7 +97,8 @@ module _ (q : Program) (u : Table) (end : IsEnded (first_tableau q).rows (first_
     moved_other j l n = at_moved j ∙ nothing_moved t _ _ ((reading.column j l).other n) (direction_other j n)
 
     -- a basic column moves by its row's change, over its entry
-    pub moved_basic : (i : ℕ) → i < length q.rows → basic q u end i < length q.columns → rat_at moved (basic q u end i) ≡ whole (right_at u i) /ℚ whole (entry_at u i (basic q u end i)) +ℚ t *ℚ step q u end h i
+    pub moved_basic : (i : ℕ) → i < length q.rows → basic q u end i < length q.columns
+        → rat_at moved (basic q u end i) ≡ whole (right_at u i) /ℚ whole (entry_at u i (basic q u end i)) +ℚ t *ℚ step q u end h i
     unfolding basic
     moved_basic i l b =
         let r = rows_are q u end in
@@ -111,7 +112,8 @@ module _ (q : Program) (u : Table) (end : IsEnded (first_tableau q).rows (first_
           rat_dot-along (wholes (entries_at q.rows i)) (numbers a.columns) t (direction q u end h)
           ∙ ap₂ (λ p d. p +ℚ t *ℚ d) (solution.rows i l) (row_moves q u end h i l)
 
-      pub moved_cost : (v : ℚ) → v *ℚ whole q.objective.lead ≡ whole q.objective.right -ℚ rat_dot (wholes q.objective.entries) (numbers a.columns) → cost_at_columns q.objective moved ≡ v +ℚ t *ℚ rate q u end h
+      pub moved_cost : (v : ℚ) → v *ℚ whole q.objective.lead ≡ whole q.objective.right -ℚ rat_dot (wholes q.objective.entries) (numbers a.columns)
+          → cost_at_columns q.objective moved ≡ v +ℚ t *ℚ rate q u end h
       unfolding moved
       moved_cost v e =
           ap (λ d. (whole q.objective.right -ℚ d) /ℚ whole q.objective.lead)

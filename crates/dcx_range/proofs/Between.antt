@@ -1,5 +1,6 @@
 -- Between the ends that the rows give stand the values that each row allows, and no others.
-use Rattle.std.proofs.Common.{◌≡◌, ◌≢◌, ℕ, zero, suc, ◌+◌, ◌<◌, ◌≤◌, ◌^◌, Bool, true, false, T, List, [], ◌∷◌, Option, Some, None, Ok, refl, sym, ap, ◌∙◌, subst, arith, pos, unsigned_abs, ◌⊎◌, inl, inr}
+use Rattle.std.proofs.Common.{◌≡◌, ◌≢◌, ℕ, zero, suc, ◌+◌, ◌<◌, ◌≤◌, ◌^◌, Bool, true, false, T, List, [], ◌∷◌, Option, Some}
+use Rattle.std.proofs.Common.{None, Ok, refl, sym, ap, ◌∙◌, subst, arith, pos, unsigned_abs, ◌⊎◌, inl, inr}
 use Rattle.std.specs.Prelude.{nat_le, if◌then◌else◌}
 use Rattle.std.proofs.lemmas.Bool.{cases_eq}
 use Rattle.std.proofs.lemmas.Bool.Decides.{nat_tests}
@@ -203,7 +204,8 @@ module _ (t : Table) (i : ℕ) (s : IsSettled t i) (at d : Frac) (e f : Ends) (v
   plain_low n h = record { low = h; artificial = λ l. absurd (omega (arith, n, l)) }
 
   -- ---- from the ends with those of the row
-  end_in : (x : Frac) → basic_at t.basis i < t.plain → value d ≢ whole (pos 0) → zero_of at right d ≡ Ok x → (b : Bool) → rat_le (value d) (value zero_frac) ≡ b → Within (if b then up_to x e else from_on x e) v → Holds
+  end_in : (x : Frac) → basic_at t.basis i < t.plain → value d ≢ whole (pos 0) → zero_of at right d ≡ Ok x → (b : Bool) → rat_le (value d) (value zero_frac) ≡ b
+      → Within (if b then up_to x e else from_on x e) v → Holds
   unfolding Holds
   end_in x l n g true p b =
       let w = up_in x e v b in
@@ -235,22 +237,27 @@ module _ (t : Table) (i : ℕ) (s : IsSettled t i) (at d : Frac) (e f : Ends) (v
   row_in g b = by_in (rat_eq (value d) (whole (pos 0))) (nat_le t.plain (basic_at t.basis i)) refl refl g b
 
   -- ---- and back
-  end_out : (x : Frac) → value d ≢ whole (pos 0) → zero_of at right d ≡ Ok x → Within e v → IsAllowed t i (value at) (value d) v → (b : Bool) → rat_le (value d) (value zero_frac) ≡ b → Within (if b then up_to x e else from_on x e) v
+  end_out : (x : Frac) → value d ≢ whole (pos 0) → zero_of at right d ≡ Ok x → Within e v → IsAllowed t i (value at) (value d) v → (b : Bool) → rat_le (value d) (value zero_frac) ≡ b
+      → Within (if b then up_to x e else from_on x e) v
   end_out x n g w h true p =
       let m = moved x n g in
-      up_out x e v w (subst (λ z. v ≤ℚ z) (sym m.1) (*ℚ-≤ℚ_cancel (negative_of d p n) (turned_from_low (value at) m.0 v (value d) (subst (λ z. whole (pos 0) ≤ℚ (z +ℚ (v -ℚ value at) *ℚ value d)) (sym m.2) h.low))))
+      up_out x e v w (subst (λ z. v ≤ℚ z) (sym m.1) (*ℚ-≤ℚ_cancel (negative_of d p n)
+      (turned_from_low (value at) m.0 v (value d) (subst (λ z. whole (pos 0) ≤ℚ (z +ℚ (v -ℚ value at) *ℚ value d)) (sym m.2) h.low))))
   end_out x n g w h false p =
       let m = moved x n g in
-      from_out x e v w (subst (λ z. z ≤ℚ v) (sym m.1) (*ℚ-≤ℚ_cancel (positive_of d p) (from_low (value at) m.0 v (value d) (subst (λ z. whole (pos 0) ≤ℚ (z +ℚ (v -ℚ value at) *ℚ value d)) (sym m.2) h.low))))
+      from_out x e v w (subst (λ z. z ≤ℚ v) (sym m.1) (*ℚ-≤ℚ_cancel (positive_of d p)
+      (from_low (value at) m.0 v (value d) (subst (λ z. whole (pos 0) ≤ℚ (z +ℚ (v -ℚ value at) *ℚ value d)) (sym m.2) h.low))))
 
-  by_out : (z a : Bool) → rat_eq (value d) (whole (pos 0)) ≡ z → nat_le t.plain (basic_at t.basis i) ≡ a → ends_by t i at d e z a ≡ Ok f → Within e v → IsAllowed t i (value at) (value d) v → Within f v
+  by_out : (z a : Bool) → rat_eq (value d) (whole (pos 0)) ≡ z → nat_le t.plain (basic_at t.basis i) ≡ a → ends_by t i at d e z a ≡ Ok f → Within e v → IsAllowed t i (value at) (value d) v
+      → Within f v
   unfolding right
   by_out true a p q g w h = let same : e ≡ f = cc in subst (λ (x : Ends). Within x v) same w
   by_out false true p q g w h =
       let same : up_to at (from_on at e) ≡ f = cc in
       let l = below t.plain (basic_at t.basis i) q in
       let here : v ≡ value at = together v (value at)
-      (either (v -ℚ value at) (value d) (*ℚ-zero_factor (v -ℚ value at) (value d) (moved_zero (whole (right_at t i)) (v -ℚ value at) (value d) (s.artificial l) (h.artificial l))) (not_zero (value d) p)) in
+      (either (v -ℚ value at) (value d) (*ℚ-zero_factor (v -ℚ value at) (value d) (moved_zero (whole (right_at t i)) (v -ℚ value at) (value d) (s.artificial l) (h.artificial l)))
+      (not_zero (value d) p)) in
       subst (λ (x : Ends). Within x v) same (up_out at (from_on at e) v (from_out at e v w (≤ℚ-from_≡ (sym here))) (≤ℚ-from_≡ here))
   by_out false false p q g w h =
       let x = both_formed (zero_of at right d) (λ y. Ok (with_end d y e)) f g in
@@ -262,7 +269,8 @@ module _ (t : Table) (i : ℕ) (s : IsSettled t i) (at d : Frac) (e f : Ends) (v
   row_out g w h = by_out (rat_eq (value d) (whole (pos 0))) (nat_le t.plain (basic_at t.basis i)) refl refl g w h
 
 -- ---- all rows
-module _ (t : Table) (hs : List Rate) (at : Frac) (count : ℕ) (settled : (j : ℕ) → j < count → IsSettled t j) (c : ℕ → ℚ) (exact : (j : ℕ) (d : Frac) → j < count → change_at t j hs ≡ Ok d → value d ≡ c j) (v : ℚ) where
+module _ (t : Table) (hs : List Rate) (at : Frac) (count : ℕ) (settled : (j : ℕ) → j < count → IsSettled t j) (c : ℕ → ℚ)
+    (exact : (j : ℕ) (d : Frac) → j < count → change_at t j hs ≡ Ok d → value d ≡ c j) (v : ℚ) where
   -- the next row is done, and then the others
   parted : (i n : ℕ) (e f : Ends) → ends_from t hs at i (suc n) e ≡ Ok f → (d : Frac) × (change_at t i hs ≡ Ok d) × ((g : Ends) × (row_ends t i at d e ≡ Ok g) × (ends_from t hs at (suc i) n g ≡ Ok f))
   parted i n e f q =
@@ -282,7 +290,8 @@ module _ (t : Table) (hs : List Rate) (at : Frac) (count : ℕ) (settled : (j : 
       let row = row_in t i (settled i low) at p.0 e p.2.0 v p.2.1 rest.0 in
       (row.0, λ j h k. by j h k (cases_eq i j) (allowed_as i p.0 low p.1 row.1) rest.1)
     where
-      by : (j : ℕ) → i ≤ j → j < i + suc n → (i ≡ j) ⊎ (i ≢ j) → IsAllowed t i (value at) (c i) v → ((m : ℕ) → suc i ≤ m → m < suc i + n → IsAllowed t m (value at) (c m) v) → IsAllowed t j (value at) (c j) v
+      by : (j : ℕ) → i ≤ j → j < i + suc n → (i ≡ j) ⊎ (i ≢ j) → IsAllowed t i (value at) (c i) v → ((m : ℕ) → suc i ≤ m → m < suc i + n → IsAllowed t m (value at) (c m) v)
+          → IsAllowed t j (value at) (c j) v
       by j h k (inl same) here later = subst (λ m. IsAllowed t m (value at) (c m) v) same here
       by j h k (inr other) here later = later j (omega (arith, h, other)) (omega (arith, k))
 

@@ -23,7 +23,8 @@ use Rattle.dcx_range.specs.declared.ends.Ends.{Ends}
 use Rattle.dcx_range.specs.Operations.{factors_at, change_at, from_on, up_to, with_end, zero_of, ends_by, row_ends, next_ends, ends_from, slope_of}
 
 -- ---- the change of a row
-pub change_next : (t : Table) (i : ℕ) (sum : Frac) (hs : List Rate) (n : ℕ) (h : Rate) (entry : Frac) (r : Result Frac Passes) → n < length hs → h ≡ get_or hs n h → entry ≡ frac_at (whole (entry_at t i h.column)) → r ≡ added_product sum (h.change, entry)
+pub change_next : (t : Table) (i : ℕ) (sum : Frac) (hs : List Rate) (n : ℕ) (h : Rate) (entry : Frac) (r : Result Frac Passes) → n < length hs → h ≡ get_or hs n h
+    → entry ≡ frac_at (whole (entry_at t i h.column)) → r ≡ added_product sum (h.change, entry)
     → products_from sum (map (factors_at t i) (drop n hs)) ≡ and_then r (λ x. products_from x (map (factors_at t i) (drop (n + 1) hs)))
 change_next t i sum hs n h entry r l is e p =
     ap (λ ys. products_from sum (map (factors_at t i) ys)) (drop_at hs n h l is)
@@ -46,19 +47,22 @@ module _ (t : Table) (i : ℕ) (at change : Frac) (e : Ends) where
   pub ends_artificial : rat_eq (value change) (whole (pos 0)) ≡ false → t.plain ≤ basic_at t.basis i → row_ends t i at change e ≡ Ok (up_to at (from_on at e))
   ends_artificial z h = ap₂ (ends_by t i at change e) z (at_most t.plain (basic_at t.basis i) h)
 
-  pub ends_plain : (right : Frac) (r : Result Frac Passes) → rat_eq (value change) (whole (pos 0)) ≡ false → basic_at t.basis i < t.plain → right ≡ frac_at (whole (entry_at t i (t.columns + 2))) → r ≡ zero_of at right change
+  pub ends_plain : (right : Frac) (r : Result Frac Passes) → rat_eq (value change) (whole (pos 0)) ≡ false → basic_at t.basis i < t.plain → right ≡ frac_at (whole (entry_at t i (t.columns + 2)))
+      → r ≡ zero_of at right change
       → row_ends t i at change e ≡ and_then r (λ x. Ok (with_end change x e))
   ends_plain right r z h f p =
       ap₂ (ends_by t i at change e) z (above t.plain (basic_at t.basis i) h)
       ∙ ap (λ q. and_then q (λ x. Ok (with_end change x e))) (ap (λ y. zero_of at y change) (sym f) ∙ sym p)
 
 -- ---- the ends of all rows
-pub ends_next : (t : Table) (hs : List Rate) (at : Frac) (i n m : ℕ) (e : Ends) (r : Result Ends Passes) → n ≡ suc m → r ≡ next_ends t hs at i e → ends_from t hs at i n e ≡ and_then r (λ f. ends_from t hs at (i + 1) m f)
+pub ends_next : (t : Table) (hs : List Rate) (at : Frac) (i n m : ℕ) (e : Ends) (r : Result Ends Passes) → n ≡ suc m → r ≡ next_ends t hs at i e
+    → ends_from t hs at i n e ≡ and_then r (λ f. ends_from t hs at (i + 1) m f)
 ends_next t hs at i n m e r left is =
     ap (λ k. ends_from t hs at i k e) left ∙ ap₂ (λ x j. and_then x (λ f. ends_from t hs at j m f)) (sym is) (sym (add-one i))
 
 -- ---- the slope
-pub slope_steps : (t : Table) (hs : List Rate) (i : ℕ) (coefficient : Frac) (r : Result Frac Passes) (d lead : Frac) (q : Result Frac Passes) → r ≡ change_at t i hs → r ≡ Ok d → lead ≡ frac_at (whole (entry_at t i t.columns)) → q ≡ quotient_of d lead
+pub slope_steps : (t : Table) (hs : List Rate) (i : ℕ) (coefficient : Frac) (r : Result Frac Passes) (d lead : Frac) (q : Result Frac Passes) → r ≡ change_at t i hs → r ≡ Ok d
+    → lead ≡ frac_at (whole (entry_at t i t.columns)) → q ≡ quotient_of d lead
     → slope_of t hs i coefficient ≡ and_then q (λ y. sum_of y coefficient)
 slope_steps t hs i coefficient r d lead q e f l p =
     ap (λ z. and_then z (λ x. and_then (quotient_of x (frac_at (whole (entry_at t i t.columns)))) (λ y. sum_of y coefficient))) (sym e ∙ f)

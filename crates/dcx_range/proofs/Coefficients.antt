@@ -1,5 +1,6 @@
 -- The coefficient of a parameter, term by term, and the changes of rows, one by one.
-use Rattle.std.proofs.Common.{◌≡◌, ◌≢◌, ℕ, ◌+◌, ◌<◌, ◌≤◌, List, [], ◌∷◌, ◌++◌, length, drop, get_or, Result, Ok, Err, refl, sym, ap, ap₂, ◌∙◌, append_assoc, append-nil, eq-eqb, subst, arith, ◌⊎◌, inl, inr}
+use Rattle.std.proofs.Common.{◌≡◌, ◌≢◌, ℕ, ◌+◌, ◌<◌, ◌≤◌, List, [], ◌∷◌, ◌++◌, length, drop, get_or, Result, Ok, Err, refl, sym}
+use Rattle.std.proofs.Common.{ap, ap₂, ◌∙◌, append_assoc, append-nil, eq-eqb, subst, arith, ◌⊎◌, inl, inr}
 use Rattle.std.specs.Prelude.{nat_eq, if◌then◌else◌}
 use Rattle.std.proofs.lemmas.Bool.{ne_eqb}
 use Rattle.std.proofs.lemmas.Bool.{cases_eq}
@@ -19,7 +20,8 @@ use Rattle.dcx_range.specs.Coefficients.{coefficient_in, coefficient_of}
 use Rattle.dcx_range.specs.Operations.{opposite, turned, kept_rate, rate_of, rates_of}
 
 -- the term at a place, or what the terms behind it have
-next : (k : ℕ) (ts : List ParamTerm) (i : ℕ) (t : ParamTerm) → i < length ts → t ≡ get_or ts i t → coefficient_in k (drop i ts) ≡ (if nat_eq t.position k then t.coefficient else coefficient_in k (drop (i + 1) ts))
+next : (k : ℕ) (ts : List ParamTerm) (i : ℕ) (t : ParamTerm) → i < length ts → t ≡ get_or ts i t
+    → coefficient_in k (drop i ts) ≡ (if nat_eq t.position k then t.coefficient else coefficient_in k (drop (i + 1) ts))
 next k ts i t lt is = ap (coefficient_in k) (drop_at ts i t lt is)
 
 pub found : (k : ℕ) (ts : List ParamTerm) (i : ℕ) (t : ParamTerm) → i < length ts → t ≡ get_or ts i t → t.position ≡ k → coefficient_in k (drop i ts) ≡ t.coefficient
@@ -42,7 +44,8 @@ one_more : (done : List Rate) (h : Rate) (r : Result (List Rate) Passes) → and
 one_more done h (Ok hs) = ap Ok (sym (append_assoc done (h ∷ []) hs))
 one_more done h (Err passes) = refl
 
-module _ (k : ℕ) (rows : List (Row ParamForm)) (ints : List IntRow) (i : ℕ) (row : Row ParamForm) (int : IntRow) (l : i < length rows) (m : i < length ints) (is : row ≡ get_or rows i row) (js : int ≡ get_or ints i int) where
+module _ (k : ℕ) (rows : List (Row ParamForm)) (ints : List IntRow) (i : ℕ) (row : Row ParamForm) (int : IntRow) (l : i < length rows) (m : i < length ints) (is : row ≡ get_or rows i row)
+    (js : int ≡ get_or ints i int) where
   next_rate : rates_of k (drop i rows) (drop i ints) ≡ and_then (rate_of k row.form.constant int) (λ h. and_then (rates_of k (drop (i + 1) rows) (drop (i + 1) ints)) (λ hs. Ok (h ∷ hs)))
   next_rate = ap₂ (rates_of k) (drop_at rows i row l is) (drop_at ints i int m js)
 
@@ -55,11 +58,13 @@ module _ (k : ℕ) (rows : List (Row ParamForm)) (ints : List IntRow) (i : ℕ) 
   pub rate_passes : (done : List Rate) (passes : Passes) → rate_of k row.form.constant int ≡ Err passes → and_then (rates_of k (drop i rows) (drop i ints)) (λ hs. Ok (done ++ hs)) ≡ Err passes
   rate_passes done passes e = ap (λ r. and_then r (λ hs. Ok (done ++ hs))) (next_rate ∙ ap (λ r. and_then r (λ x. and_then (rates_of k (drop (i + 1) rows) (drop (i + 1) ints)) (λ hs. Ok (x ∷ hs)))) e)
 
-pub all_done : (k : ℕ) (rows : List (Row ParamForm)) (ints : List IntRow) (i : ℕ) (done : List Rate) → length rows ≤ i → and_then (rates_of k (drop i rows) (drop i ints)) (λ hs. Ok (done ++ hs)) ≡ Ok done
+pub all_done : (k : ℕ) (rows : List (Row ParamForm)) (ints : List IntRow) (i : ℕ) (done : List Rate) → length rows ≤ i
+    → and_then (rates_of k (drop i rows) (drop i ints)) (λ hs. Ok (done ++ hs)) ≡ Ok done
 all_done k rows ints i done h = ap (λ rs. and_then (rates_of k rs (drop i ints)) (λ hs. Ok (done ++ hs))) (drop_all i rows h) ∙ ap Ok (append-nil done)
 
 -- ---- in the constants so far, and in one more, entries rise
-pub rising_more : (rows : List (Row ParamForm)) (i : ℕ) (row : Row ParamForm) → row ≡ get_or rows i row → HoldsTerms row.form.constant.terms → ((k : ℕ) (d : Row ParamForm) → k < i → HoldsTerms (get_or rows k d).form.constant.terms)
+pub rising_more : (rows : List (Row ParamForm)) (i : ℕ) (row : Row ParamForm) → row ≡ get_or rows i row → HoldsTerms row.form.constant.terms
+    → ((k : ℕ) (d : Row ParamForm) → k < i → HoldsTerms (get_or rows k d).form.constant.terms)
     → i < length rows → (k : ℕ) (d : Row ParamForm) → k < i + 1 → HoldsTerms (get_or rows k d).form.constant.terms
 rising_more rows i row is here before low k d l = by (cases_eq k i)
   where

@@ -148,10 +148,13 @@ module _ (q : Program) (u : Table) (end : IsEnded (first_tableau q).rows (first_
         let l = delta_length in
         solves_last (first_tableau q).rows (first_tableau q) start u end delta rate phase_rate (whole (pos 0)) (l ∙ sym c)
         (λ i b. ap (λ d. d +ℚ whole (entry_at u i (u.columns + 2)) *ℚ whole (pos 0)) (delta_row i (omega (arith, r, b))) ∙ none_left (change i) (whole (entry_at u i (u.columns + 2))))
-        (ap (λ d. (d +ℚ whole (lead_at u (objective_row u)) *ℚ rate) +ℚ whole (entry_at u (objective_row u) (u.columns + 2)) *ℚ whole (pos 0)) (delta_cost (objective_row u) (omega (arith, r)) objective_low)
-        ∙ cost_left (change (objective_row u)) (whole (lead_at u (objective_row u))) rate (whole (entry_at u (objective_row u) (u.columns + 2))) (over_lead (change (objective_row u)) (lead_at u (objective_row u)) is_readable.lead))
+        (ap (λ d. (d +ℚ whole (lead_at u (objective_row u)) *ℚ rate) +ℚ whole (entry_at u (objective_row u) (u.columns + 2)) *ℚ whole (pos 0))
+        (delta_cost (objective_row u) (omega (arith, r)) objective_low)
+        ∙ cost_left (change (objective_row u)) (whole (lead_at u (objective_row u))) rate (whole (entry_at u (objective_row u) (u.columns + 2)))
+        (over_lead (change (objective_row u)) (lead_at u (objective_row u)) is_readable.lead))
         (ap (λ d. (d +ℚ whole (lead_at u (phase_row u)) *ℚ phase_rate) +ℚ whole (entry_at u (phase_row u) (u.columns + 2)) *ℚ whole (pos 0)) (delta_cost (phase_row u) phase_high phase_low)
-        ∙ cost_left (change (phase_row u)) (whole (lead_at u (phase_row u))) phase_rate (whole (entry_at u (phase_row u) (u.columns + 2))) (over_lead (change (phase_row u)) (lead_at u (phase_row u)) is_readable.phase_lead))
+        ∙ cost_left (change (phase_row u)) (whole (lead_at u (phase_row u))) phase_rate (whole (entry_at u (phase_row u) (u.columns + 2)))
+        (over_lead (change (phase_row u)) (lead_at u (phase_row u)) is_readable.phase_lead))
 
     delta_first : SolvesRational (first_tableau q).rows (full delta rate phase_rate (whole (pos 0)))
     delta_first = solves_rational u.rows (first_tableau q).rows end.tableau.only _ delta_last

@@ -1,5 +1,6 @@
 -- What the operations of a range form is exact.
-use Rattle.std.proofs.Common.{◌≡◌, ℕ, zero, suc, ◌<◌, ◌≤◌, ◌^◌, Bool, true, false, List, [], ◌∷◌, length, map, Some, Result, Ok, Err, IfOk, slice_get, refl, sym, ap, ap₂, ◌∙◌, subst, arith, unsigned_abs}
+use Rattle.std.proofs.Common.{◌≡◌, ℕ, zero, suc, ◌<◌, ◌≤◌, ◌^◌, Bool, true, false, List, [], ◌∷◌, length, map, Some, Result, Ok}
+use Rattle.std.proofs.Common.{Err, IfOk, slice_get, refl, sym, ap, ap₂, ◌∙◌, subst, arith, unsigned_abs}
 use Rattle.std.specs.List.{All}
 use Rattle.std.proofs.lemmas.List.Elements.{All-cons, All-nil}
 use Rattle.std.proofs.lemmas.Option.{none-some, same_Some}
@@ -45,7 +46,8 @@ turned_product : (b : Bool) (f c : ℚ) → turned_if b f *ℚ neg_ℚ c ≡ tur
 turned_product true f c = ring (f ∷ c ∷ []) (search reads depth 30) tt
 turned_product false f c = refl
 
-pub rate_value : (k : ℕ) (constant : ParamForm) (int : IntRow) (h : Rate) → rate_of k constant int ≡ Ok h → (h.column ≡ int.basic) × (value h.change ≡ turned_if int.negated (value int.factor *ℚ neg_ℚ (value (coefficient_of k constant))))
+pub rate_value : (k : ℕ) (constant : ParamForm) (int : IntRow) (h : Rate) → rate_of k constant int ≡ Ok h
+    → (h.column ≡ int.basic) × (value h.change ≡ turned_if int.negated (value int.factor *ℚ neg_ℚ (value (coefficient_of k constant))))
 rate_value k constant int h e =
     let f = turned int.negated int.factor in
     let g = opposite (coefficient_of k constant) in
@@ -72,7 +74,8 @@ module _ (k : ℕ) where
       ap length d ∙ ap suc (rates_length rows ints b.0 b.1 (omega (arith, l)))
 
   -- the change of each row is that of its row and its integer row
-  pub rate_at : (rows : List (Row ParamForm)) (ints : List IntRow) (hs : List Rate) → rates_of k rows ints ≡ Ok hs → (i : ℕ) (row : Row ParamForm) (int : IntRow) (h : Rate) → slice_get rows i ≡ Some row → slice_get ints i ≡ Some int → slice_get hs i ≡ Some h
+  pub rate_at : (rows : List (Row ParamForm)) (ints : List IntRow) (hs : List Rate) → rates_of k rows ints ≡ Ok hs → (i : ℕ) (row : Row ParamForm) (int : IntRow) (h : Rate)
+      → slice_get rows i ≡ Some row → slice_get ints i ≡ Some int → slice_get hs i ≡ Some h
       → rate_of k row.form.constant int ≡ Ok h
   rate_at [] ints hs e i row int h r s t = absurd (none-some row r)
   rate_at (x ∷ rows) [] hs e i row int h r s t = absurd (none-some int s)
@@ -81,7 +84,8 @@ module _ (k : ℕ) where
       let b = both_formed (rates_of k rows ints) (λ rest. Ok (a.0 ∷ rest)) hs a.2 in
       let last = b.2 in
       let d : hs ≡ a.0 ∷ b.0 = cc in
-      ap₂ (λ (z : Row ParamForm) (w : IntRow). rate_of k z.form.constant w) (sym (same_Some x row r)) (sym (same_Some y int s)) ∙ a.1 ∙ ap Ok (same_Some a.0 h (sym (ap (λ (zs : List Rate). slice_get zs 0) d) ∙ t))
+      ap₂ (λ (z : Row ParamForm) (w : IntRow). rate_of k z.form.constant w) (sym (same_Some x row r)) (sym (same_Some y int s)) ∙ a.1
+      ∙ ap Ok (same_Some a.0 h (sym (ap (λ (zs : List Rate). slice_get zs 0) d) ∙ t))
   rate_at (x ∷ rows) (y ∷ ints) hs e (suc i) row int h r s t =
       let a = both_formed (rate_of k x.form.constant y) (λ z. and_then (rates_of k rows ints) (λ rest. Ok (z ∷ rest))) hs e in
       let b = both_formed (rates_of k rows ints) (λ rest. Ok (a.0 ∷ rest)) hs a.2 in
@@ -90,7 +94,8 @@ module _ (k : ℕ) where
       rate_at rows ints b.0 b.1 i row int h r s (sym (ap (λ (zs : List Rate). slice_get zs (suc i)) d) ∙ t)
 
   -- their columns are the first basic columns of the rows
-  pub rates_low : (n : ℕ) (rows : List (Row ParamForm)) (ints : List IntRow) (hs : List Rate) → rates_of k rows ints ≡ Ok hs → ((i : ℕ) (int : IntRow) → slice_get ints i ≡ Some int → int.basic < n) → All (λ h. h.column < n) hs
+  pub rates_low : (n : ℕ) (rows : List (Row ParamForm)) (ints : List IntRow) (hs : List Rate) → rates_of k rows ints ≡ Ok hs → ((i : ℕ) (int : IntRow) → slice_get ints i ≡ Some int → int.basic < n)
+      → All (λ h. h.column < n) hs
   rates_low n [] ints hs e low = let d : [] ≡ hs = cc in subst (All (λ (h : Rate). h.column < n)) d (All-nil (λ (h : Rate). h.column < n))
   rates_low n (x ∷ rows) [] hs e low = let d : [] ≡ hs = cc in subst (All (λ (h : Rate). h.column < n)) d (All-nil (λ (h : Rate). h.column < n))
   rates_low n (x ∷ rows) (y ∷ ints) hs e low =
@@ -99,7 +104,8 @@ module _ (k : ℕ) where
       let last = b.2 in
       let d : a.0 ∷ b.0 ≡ hs = cc in
       subst (All (λ (h : Rate). h.column < n)) d
-      (All-cons (λ (h : Rate). h.column < n) a.0 b.0 (subst (λ j. j < n) (sym (rate_value k x.form.constant y a.0 a.1).0) (low 0 y refl)) (rates_low n rows ints b.0 b.1 (λ i int s. low (suc i) int s)))
+      (All-cons (λ (h : Rate). h.column < n) a.0 b.0 (subst (λ j. j < n) (sym (rate_value k x.form.constant y a.0 a.1).0) (low 0 y refl))
+      (rates_low n rows ints b.0 b.1 (λ i int s. low (suc i) int s)))
 
 -- ---- the change of a row of a tableau
 -- a sum over items, by their places
@@ -135,7 +141,8 @@ slope_value t hs i coefficient s small e =
       a.0,
       a.1,
       holds_of (sum_of b.0 coefficient) (λ z. value z ≡ value b.0 +ℚ value coefficient) s (sum_of_is b.0 coefficient).exact b.2
-          ∙ ap (λ z. z +ℚ value coefficient) (holds_of (quotient_of a.0 lead) (λ z. value z ≡ value a.0 /ℚ value lead) b.0 (quotient_of_is a.0 lead).exact b.1 ∙ ap (λ z. value a.0 /ℚ z) (value-whole (entry_at t i t.columns) small)),
+          ∙ ap (λ z. z +ℚ value coefficient) (holds_of (quotient_of a.0 lead) (λ z. value z ≡ value a.0 /ℚ value lead) b.0 (quotient_of_is a.0 lead).exact b.1
+          ∙ ap (λ z. value a.0 /ℚ z) (value-whole (entry_at t i t.columns) small)),
     )
 
 pub constant_value : (number slope at c : Frac) → constant_of number slope at ≡ Ok c → value c ≡ value number -ℚ value slope *ℚ value at

@@ -39,7 +39,8 @@ sum_ones : {A : Type 0} (f : A → ℕ) (xs : List A) → ((x : A) → f x ≡ 1
 sum_ones f [] h = refl
 sum_ones f (x ∷ xs) h = let a = sum_by-cons f x xs in let b = h x in let c = sum_ones f xs h in omega (arith, a, b, c)
 
-sum_alike : {A B : Type 0} (f : A → ℕ) (g : B → ℕ) (xs : List A) (ys : List B) → length xs ≡ length ys → ((i : ℕ) (x : A) (y : B) → slice_get xs i ≡ Some x → slice_get ys i ≡ Some y → f x ≡ g y) → sum_by f xs ≡ sum_by g ys
+sum_alike : {A B : Type 0} (f : A → ℕ) (g : B → ℕ) (xs : List A) (ys : List B) → length xs ≡ length ys → ((i : ℕ) (x : A) (y : B) → slice_get xs i ≡ Some x → slice_get ys i ≡ Some y → f x ≡ g y)
+    → sum_by f xs ≡ sum_by g ys
 sum_alike f g [] [] l h = refl
 sum_alike f g [] (y ∷ ys) l h = absurd (omega (arith, l))
 sum_alike f g (x ∷ xs) [] l h = absurd (omega (arith, l))
@@ -74,12 +75,14 @@ module _ (p : Problem) (unread : Pairs) (q : Program ParamForm) (reduces : Reduc
   counted : length graph ≡ rows_counted p.tree (is_reduced Parametrized p) (length p.tree)
   unfolding graph
   counted =
-      graph-counted form_of_number number_of_form sum_gives_form change_gives_form (λ position name entry given f. IsEntryForm position name entry f) Parametrized p unread reduces.nodes.table reduces.nodes.formed
+      graph-counted form_of_number number_of_form sum_gives_form change_gives_form
+      (λ position name entry given f. IsEntryForm position name entry f) Parametrized p unread reduces.nodes.table reduces.nodes.formed
 
   rows_few : length q.rows ≤ 600
   unfolding graph
   rows_few =
-      let a = rows-length form_of_number number_of_form sum_gives_form change_gives_form p (table_forms reduces.nodes.table) (graph_rows form_of_number reduces.nodes.table) (unknown_kinds Parametrized p) q reduces.program in
+      let a = rows-length form_of_number number_of_form sum_gives_form change_gives_form p (table_forms reduces.nodes.table) (graph_rows form_of_number reduces.nodes.table)
+      (unknown_kinds Parametrized p) q reduces.program in
       let b = entries-length 0 p.constraints in
       let c = counted in
       let few = reduces.nodes.few.few_rows in

@@ -80,10 +80,12 @@ module _ (p : Problem) (setting : Pairs) (arrays : HaveArrays p setting) where
     rows_count = sym (length-map r.rows solutions.row_at) ∙ ap length rows_are ∙ length-map q.rows (row_at form_value (setting_of p setting))
 
     pub row_kinds : map (λ (x : Row Frac). x.kind) r.rows ≡ map (λ (x : Row ParamForm). x.kind) q.rows
-    row_kinds = sym (map-map solutions.row_at (λ (x : RowAt). x.kind) r.rows) ∙ ap (map (λ (x : RowAt). x.kind)) rows_are ∙ map-map (row_at form_value (setting_of p setting)) (λ (x : RowAt). x.kind) q.rows
+    row_kinds = sym (map-map solutions.row_at (λ (x : RowAt). x.kind) r.rows) ∙ ap (map (λ (x : RowAt). x.kind)) rows_are
+        ∙ map-map (row_at form_value (setting_of p setting)) (λ (x : RowAt). x.kind) q.rows
 
     -- the constant of a row is its number there
-    pub constant_same : (i : ℕ) (row : Row ParamForm) (fixed : Row Frac) → slice_get q.rows i ≡ Some row → slice_get r.rows i ≡ Some fixed → value fixed.form.constant ≡ form_value row.form.constant (setting_of p setting)
+    pub constant_same : (i : ℕ) (row : Row ParamForm) (fixed : Row Frac) → slice_get q.rows i ≡ Some row → slice_get r.rows i ≡ Some fixed
+        → value fixed.form.constant ≡ form_value row.form.constant (setting_of p setting)
     constant_same i row fixed e f =
         let same : solutions.row_at fixed ≡ row_at form_value (setting_of p setting) row =
         same_Some (solutions.row_at fixed) (row_at form_value (setting_of p setting) row)
@@ -94,7 +96,8 @@ module _ (p : Problem) (setting : Pairs) (arrays : HaveArrays p setting) where
         ∙ at_zeros (form_value row.form.constant (setting_of p setting)) (λ (t : FormTerm ParamForm). form_value t.coefficient (setting_of p setting)) row.form.terms
 
   -- ---- and at another that differs by one number
-  module _ (q : Program ParamForm) (known : IsKnownProgram p q) (r : Program Frac) (put : FixGives setting q (Ok r)) (k : ℕ) (parameter : Parameter) (there : slice_get p.parameters k ≡ Some parameter) (scalar : sides_of parameter.shape ≡ Scalar)
+  module _ (q : Program ParamForm) (known : IsKnownProgram p q) (r : Program Frac) (put : FixGives setting q (Ok r)) (k : ℕ) (parameter : Parameter)
+      (there : slice_get p.parameters k ≡ Some parameter) (scalar : sides_of parameter.shape ≡ Scalar)
       (free : scales k q ≡ false) (sparse : All (λ row. HoldsTerms row.form.constant.terms) q.rows) (sparse_cost : HoldsTerms q.objective.constant.terms)
       (t : Parameters) (differ : DifferAt k (setting_of p setting) t) where
     scalar_term : (x : ParamTerm) → IsKnownTerm p x → x.position ≡ k → x.entry ≡ 0
@@ -108,22 +111,26 @@ module _ (p : Problem) (setting : Pairs) (arrays : HaveArrays p setting) where
     scalar_at : (c : ParamForm) → IsKnownNumber p c → IsScalarAt k c.terms
     scalar_at c h = λ i d b e. scalar_term (get_or c.terms i d) (h i d b) e
 
-    row_moves : (i : ℕ) (row : Row ParamForm) → slice_get q.rows i ≡ Some row → (x : Unknowns) → linear_value form_value row.form x t ≡ linear_value form_value row.form x (setting_of p setting) +ℚ coefficient_at k q.rows i *ℚ moved (setting_of p setting) t k differ
+    row_moves : (i : ℕ) (row : Row ParamForm) → slice_get q.rows i ≡ Some row → (x : Unknowns)
+        → linear_value form_value row.form x t ≡ linear_value form_value row.form x (setting_of p setting) +ℚ coefficient_at k q.rows i *ℚ moved (setting_of p setting) t k differ
     row_moves i row e x =
         let b = slice_get_within q.rows i row e in
         let at = get_or_from_slice_get q.rows i row row e in
         let holds = subst (λ (z : Row ParamForm). HoldsTerms z.form.constant.terms) at (sparse i row b) in
-        let none = subst (λ (z : Row ParamForm). scales_unknown k z.form ≡ false) at (none_at (λ (z : Row ParamForm). scales_unknown k z.form) q.rows (or_parts (scales_row k q.rows) (scales_unknown k q.objective) free).0 i row b) in
+        let none = subst (λ (z : Row ParamForm). scales_unknown k z.form
+        ≡ false) at (none_at (λ (z : Row ParamForm). scales_unknown k z.form) q.rows (or_parts (scales_row k q.rows) (scales_unknown k q.objective) free).0 i row b) in
         form_moves (setting_of p setting) t k differ row.form x holds (scalar_at row.form.constant (known.rows i row e).0) none
         ∙ ap (λ c. linear_value form_value row.form x (setting_of p setting) +ℚ c *ℚ moved (setting_of p setting) t k differ) (sym (coefficient_is k q.rows i row e))
 
-    objective_moves : (x : Unknowns) → linear_value form_value q.objective x t ≡ linear_value form_value q.objective x (setting_of p setting) +ℚ value (coefficient_of k q.objective.constant) *ℚ moved (setting_of p setting) t k differ
+    objective_moves : (x : Unknowns) → linear_value form_value q.objective x t
+        ≡ linear_value form_value q.objective x (setting_of p setting) +ℚ value (coefficient_of k q.objective.constant) *ℚ moved (setting_of p setting) t k differ
     objective_moves x =
         form_moves (setting_of p setting) t k differ q.objective x sparse_cost (scalar_at q.objective.constant known.objective.0)
         (or_parts (scales_row k q.rows) (scales_unknown k q.objective) free).1
 
     -- the constant of row i moves with it
-    pub constant_moves : (i : ℕ) (row : Row ParamForm) → slice_get q.rows i ≡ Some row → form_value row.form.constant t ≡ form_value row.form.constant (setting_of p setting) +ℚ coefficient_at k q.rows i *ℚ moved (setting_of p setting) t k differ
+    pub constant_moves : (i : ℕ) (row : Row ParamForm) → slice_get q.rows i ≡ Some row
+        → form_value row.form.constant t ≡ form_value row.form.constant (setting_of p setting) +ℚ coefficient_at k q.rows i *ℚ moved (setting_of p setting) t k differ
     constant_moves i row e =
         let holds = subst (λ (z : Row ParamForm). HoldsTerms z.form.constant.terms) (get_or_from_slice_get q.rows i row row e) (sparse i row (slice_get_within q.rows i row e)) in
         number_moves (setting_of p setting) t k differ row.form.constant holds (scalar_at row.form.constant (known.rows i row e).0)
@@ -143,7 +150,8 @@ module _ (p : Problem) (setting : Pairs) (arrays : HaveArrays p setting) where
                 ap (λ (z : RowAt). z.number x) (sym n.2) ∙ row_moves i n.0 n.1 x ∙ ap (λ y. y +ℚ coefficient_at k q.rows i *ℚ moved (setting_of p setting) t k differ)
                 (ap (λ (z : Row ParamForm). linear_value form_value z.form x (setting_of p setting)) same ∙ ap (λ (z : RowAt). z.number x) o.2),
           );
-      objective = λ x. objective_moves x ∙ ap (λ y. y +ℚ value (coefficient_of k q.objective.constant) *ℚ moved (setting_of p setting) t k differ) (sym (form_same p setting arrays (setting_of p setting) q.objective r.objective x known.objective (on_row _ (form_at setting q.objective) r.objective put.0.1)));
+      objective = λ x. objective_moves x ∙ ap (λ y. y +ℚ value (coefficient_of k q.objective.constant) *ℚ moved (setting_of p setting) t k differ)
+          (sym (form_same p setting arrays (setting_of p setting) q.objective r.objective x known.objective (on_row _ (form_at setting q.objective) r.objective put.0.1)));
     }
 
     -- an optimal answer of the moved program is one of the problem

@@ -1,4 +1,4 @@
--- The lemmas.
+-- The lemmas by which the last basis stays feasible and optimal within a parameter's range, and no farther.
 pub mod Named
 pub mod Coefficients
 pub mod Changes

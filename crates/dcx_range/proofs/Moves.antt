@@ -8,13 +8,13 @@ use Rattle.dcx_math.specs.Rational.{ℚ, whole, ◌+ℚ◌, ◌-ℚ◌, ◌*ℚ�
 use Rattle.dcx_math.specs.Sums.{rat_sum_by}
 use Rattle.dcx_math.proofs.Ring.{ring, reads}
 use Rattle.dcx_math.proofs.Sums.{rat_sum_by-same}
+use Rattle.dcx_math.specs.Rising.{IsRising}
 use Rattle.dcx_frac.specs.Frac.{value}
 use Rattle.dcx_atom.proofs.FormedSums.{value-zero_frac}
 use Rattle.dcx_linear.specs.declared.param_term.ParamTerm.{ParamTerm}
 use Rattle.dcx_linear.specs.declared.param_form.ParamForm.{ParamForm}
 use Rattle.dcx_linear.specs.declared.form.Form.{Form}
 use Rattle.dcx_linear.specs.Parameters.{Parameters}
-use Rattle.dcx_linear.specs.Terms.{IsRising}
 use Rattle.dcx_linear.specs.ParamTerms.{key_of, HoldsTerms, term_value}
 use Rattle.dcx_linear.specs.ParamForms.{form_value}
 use Rattle.dcx_linear.specs.FormTerms.{Unknowns, unknown_value}
@@ -64,7 +64,8 @@ module _ (s t : Parameters) (k : ℕ) (differ : DifferAt k s t) where
   sum_moves [] rising zero = moved_none moved ∙ ap (λ y. whole (pos 0) +ℚ y *ℚ moved) (sym value-zero_frac)
   sum_moves (x ∷ ts) rising zero = by (x.position == k) refl (sum_moves ts rising.1 (All-tail (λ y. y.position ≡ k → y.entry ≡ 0) x ts zero))
     where
-      by : (b : Bool) → (x.position == k) ≡ b → rat_sum_by (term_value t) ts ≡ rat_sum_by (term_value s) ts +ℚ value (coefficient_in k ts) *ℚ moved → term_value t x +ℚ rat_sum_by (term_value t) ts ≡ (term_value s x +ℚ rat_sum_by (term_value s) ts) +ℚ value (if b then x.coefficient else coefficient_in k ts) *ℚ moved
+      by : (b : Bool) → (x.position == k) ≡ b → rat_sum_by (term_value t) ts ≡ rat_sum_by (term_value s) ts +ℚ value (coefficient_in k ts) *ℚ moved
+          → term_value t x +ℚ rat_sum_by (term_value t) ts ≡ (term_value s x +ℚ rat_sum_by (term_value s) ts) +ℚ value (if b then x.coefficient else coefficient_in k ts) *ℚ moved
       by true e rest =
           let p = eqb-true x.position k e in
           let z = All-head (λ y. y.position ≡ k → y.entry ≡ 0) x ts zero p in
@@ -77,7 +78,8 @@ module _ (s t : Parameters) (k : ℕ) (differ : DifferAt k s t) where
 
   -- an affine number moves by the parameter's coefficient
   pub number_moves : (f : ParamForm) → HoldsTerms f.terms → IsScalarAt k f.terms → form_value f t ≡ form_value f s +ℚ value (coefficient_of k f) *ℚ moved
-  number_moves f holds zero = ap (λ y. value f.constant +ℚ y) (sum_moves f.terms holds.rising zero) ∙ moved_later (value f.constant) (rat_sum_by (term_value s) f.terms) (value (coefficient_of k f)) moved
+  number_moves f holds zero = ap (λ y. value f.constant +ℚ y) (sum_moves f.terms holds.rising zero)
+      ∙ moved_later (value f.constant) (rat_sum_by (term_value s) f.terms) (value (coefficient_of k f)) moved
 
   -- or stays, where it doesn't list it
   pub number_stays : (f : ParamForm) → lists k f ≡ false → form_value f t ≡ form_value f s
@@ -91,5 +93,6 @@ module _ (s t : Parameters) (k : ℕ) (differ : DifferAt k s t) where
   form_moves f x holds zero free =
       ap₂ ◌+ℚ◌ (number_moves f.constant holds zero)
       (rat_sum_by-same (unknown_value form_value x t) (unknown_value form_value x s) f.terms
-      (All-weaker (λ y. lists k y.coefficient ≡ false) (λ y. unknown_value form_value x t y ≡ unknown_value form_value x s y) (λ y e. ap (λ z. z *ℚ x y.unknown) (number_stays y.coefficient e)) f.terms (none_at (λ y. lists k y.coefficient) f.terms free)))
+      (All-weaker (λ y. lists k y.coefficient ≡ false) (λ y. unknown_value form_value x t y ≡ unknown_value form_value x s y)
+      (λ y e. ap (λ z. z *ℚ x y.unknown) (number_stays y.coefficient e)) f.terms (none_at (λ y. lists k y.coefficient) f.terms free)))
       ∙ moved_front (form_value f.constant s) (rat_sum_by (unknown_value form_value x s) f.terms) (value (coefficient_of k f.constant)) moved

@@ -117,10 +117,16 @@ module _ (p : Problem) (setting : Pairs) (name : List ℕ) (arrays : HaveArrays 
       subst (λ z. HasArray setting name z) n.scalar (subst (λ z. HasArray setting z (sides_of n.parameter.shape)) (name_is p.parameters name n.at n.parameter n.named.place n.named.there) has)
 
   -- what is read of both
-  pub is_asked : (k : ℕ) (q : Parameter) (array : Array) (x : Frac) → place_of p.parameters name ≡ Some k → slice_get p.parameters k ≡ Some q → array_of setting name ≡ Some array → slice_get array.entries 0 ≡ Some x
+  pub is_asked : (k : ℕ) (q : Parameter) (array : Array) (x : Frac) → place_of p.parameters name ≡ Some k → slice_get p.parameters k ≡ Some q → array_of setting name ≡ Some array
+      → slice_get array.entries 0 ≡ Some x
       → (a : Asked) → a.position ≡ k → a.attribute ≡ q.attribute → a.at ≡ x → IsAsked p setting name a
   is_asked k q array x e f g h a position attribute at = record {
-    number = record { at = k; parameter = q; named = record { place = e; there = f }; scalar = ap (λ (z : Parameter). sides_of z.shape) (same_parameter p.parameters k n.at q n.parameter (same_place p name k n.at e n.named.place) f n.named.there) ∙ n.scalar };
+    number = record {
+      at = k;
+      parameter = q;
+      named = record { place = e; there = f };
+      scalar = ap (λ (z : Parameter). sides_of z.shape) (same_parameter p.parameters k n.at q n.parameter (same_place p name k n.at e n.named.place) f n.named.there) ∙ n.scalar;
+    };
     position = position;
     attribute = attribute;
     at_is = ap (option_and_then (array_entry 0)) g ∙ h ∙ ap Some (sym at);

@@ -72,17 +72,21 @@ module _ (rows : GivenRows) (q : Program) (known : HasKinds rows) (made : IsMade
     shown = subst (λ s. IsRightForRowsAs s rows q a) reading.status (shown_of rows q known scaled a (subst (λ s. IsRightAs s q a) (sym reading.status) answer))
 
     module _ (c : ℕ → ℚ) (b d : ℚ) (other : LinearProgram) (is : IsMoved (linear_program rows) other c b d) (keeps : IsKept q u ended (right_change q u ended a reading c) d) where
-      row_is : (i : ℕ) (f : RowFacts rows q known scaled i) → row_at_columns q i (moved q u ended (right_change q u ended a reading c) a reading d) ≡ turned_if f.ints.negated (value f.ints.factor *ℚ neg_ℚ (value f.row.form.constant +ℚ c i *ℚ d))
+      row_is : (i : ℕ) (f : RowFacts rows q known scaled i) → row_at_columns q i (moved q u ended (right_change q u ended a reading c) a reading d)
+          ≡ turned_if f.ints.negated (value f.ints.factor *ℚ neg_ℚ (value f.row.form.constant +ℚ c i *ℚ d))
       unfolding right_change
       row_is i f =
           moved_row q u ended (right_change q u ended a reading c) a reading d answer.solution i (slice_get_within q.rows i f.ints f.ints_is)
           ∙ ap₂ (λ r k. r +ℚ d *ℚ k) (ap whole (mapped_at right_of q.rows i f.ints (pos 0) f.ints_is) ∙ f.scaled.right)
-          (ap₂ (λ t k. turned_if t (k *ℚ neg_ℚ (c i))) (mapped_at is_negated q.rows i f.ints false f.ints_is) (sym (rat_at-get_or (map row_factor q.rows) i) ∙ mapped_at row_factor q.rows i f.ints (whole (pos 0)) f.ints_is))
+          (ap₂ (λ t k. turned_if t (k *ℚ neg_ℚ (c i))) (mapped_at is_negated q.rows i f.ints false f.ints_is)
+          (sym (rat_at-get_or (map row_factor q.rows) i) ∙ mapped_at row_factor q.rows i f.ints (whole (pos 0)) f.ints_is))
           ∙ both_turned f.ints.negated (value f.ints.factor) (value f.row.form.constant) (c i) d
 
-      stands : (i : ℕ) (f : RowFacts rows q known scaled i) → StandsTo f.row.kind (form_number f.row.form (unknowns_at q.columns (moved q u ended (right_change q u ended a reading c) a reading d)) +ℚ c i *ℚ d)
+      stands : (i : ℕ) (f : RowFacts rows q known scaled i) → StandsTo f.row.kind
+          (form_number f.row.form (unknowns_at q.columns (moved q u ended (right_change q u ended a reading c) a reading d)) +ℚ c i *ℚ d)
       stands i f =
-          moved_holds rows q known scaled (moved q u ended (right_change q u ended a reading c) a reading d) (moved_low q u ended (right_change q u ended a reading c) d a reading keeps) (moved_none q u ended (right_change q u ended a reading c) d a reading keeps)
+          moved_holds rows q known scaled (moved q u ended (right_change q u ended a reading c) a reading d) (moved_low q u ended (right_change q u ended a reading c) d a reading keeps)
+          (moved_none q u ended (right_change q u ended a reading c) d a reading keeps)
           i f (c i *ℚ d) (row_is i f)
 
       solves : rows_of.IsSolution other (unknowns_at q.columns (moved q u ended (right_change q u ended a reading c) a reading d))
@@ -94,24 +98,31 @@ module _ (rows : GivenRows) (q : Program) (known : HasKinds rows) (made : IsMade
             let o = unmapped_at row_at rows.rows i r.0 r.1 in
             let f = facts_of rows q known scaled i o.0 o.1 in
             let m = is.rows i r.0 s r.1 e in
-            by s.kind (s.number (unknowns_at q.columns (moved q u ended (right_change q u ended a reading c) a reading d))) (o.0).kind (form_number (o.0).form (unknowns_at q.columns (moved q u ended (right_change q u ended a reading c) a reading d))) i (m.0 ∙ ap (λ (z : RowAt). z.kind) (sym o.2)) (m.1 (unknowns_at q.columns (moved q u ended (right_change q u ended a reading c) a reading d)) ∙ ap (λ (z : RowAt). z.number (unknowns_at q.columns (moved q u ended (right_change q u ended a reading c) a reading d)) +ℚ c i *ℚ d) (sym o.2)) (stands i f);
+            by s.kind (s.number (unknowns_at q.columns (moved q u ended (right_change q u ended a reading c) a reading d)))
+            (o.0).kind (form_number (o.0).form (unknowns_at q.columns (moved q u ended (right_change q u ended a reading c) a reading d))) i (m.0 ∙ ap (λ (z : RowAt). z.kind) (sym o.2))
+            (m.1 (unknowns_at q.columns (moved q u ended (right_change q u ended a reading c) a reading d))
+            ∙ ap (λ (z : RowAt). z.number (unknowns_at q.columns (moved q u ended (right_change q u ended a reading c) a reading d)) +ℚ c i *ℚ d) (sym o.2)) (stands i f);
       }
         where
           by : (k : RowKind) (y : ℚ) (l : RowKind) (z : ℚ) (i : ℕ) → k ≡ l → y ≡ z +ℚ c i *ℚ d → StandsTo l (z +ℚ c i *ℚ d) → StandsTo k y
           by k y l z i e g w = subst (λ v. StandsTo k v) (sym g) (subst (λ v. StandsTo v (z +ℚ c i *ℚ d)) (sym e) w)
 
-      attained : other.objective (unknowns_at q.columns (moved q u ended (right_change q u ended a reading c) a reading d)) ≡ value a.number +ℚ (rate q u ended (right_change q u ended a reading c) +ℚ b) *ℚ d
+      attained : other.objective (unknowns_at q.columns (moved q u ended (right_change q u ended a reading c) a reading d))
+          ≡ value a.number +ℚ (rate q u ended (right_change q u ended a reading c) +ℚ b) *ℚ d
       attained =
           is.objective _
           ∙ ap (λ y. y +ℚ b *ℚ d)
           (sym (cost_is rows q known scaled (moved q u ended (right_change q u ended a reading c) a reading d))
           ∙ moved_cost q u ended (right_change q u ended a reading c) a reading d answer.solution (value a.number)
-          (ap (λ y. y *ℚ whole q.objective.lead) (sym answer.attained) ∙ /ℚ-*ℚ (whole q.objective.right -ℚ rat_dot (wholes q.objective.entries) (numbers a.columns)) (whole q.objective.lead) (lead_some_of q.objective.lead q.form.cost.lead)))
+          (ap (λ y. y *ℚ whole q.objective.lead) (sym answer.attained)
+          ∙ /ℚ-*ℚ (whole q.objective.right -ℚ rat_dot (wholes q.objective.entries) (numbers a.columns)) (whole q.objective.lead) (lead_some_of q.objective.lead q.form.cost.lead)))
           ∙ on_line (value a.number) d (rate q u ended (right_change q u ended a reading c)) b
 
       -- the moved program is optimal at the moved columns, with the same multipliers
-      pub stays_optimal : rows_of.IsOptimal other (value a.number +ℚ (rate q u ended (right_change q u ended a reading c) +ℚ b) *ℚ d) (unknowns_at q.columns (moved q u ended (right_change q u ended a reading c) a reading d)) (multiplier_at q.columns a)
+      pub stays_optimal : rows_of.IsOptimal other (value a.number +ℚ (rate q u ended (right_change q u ended a reading c) +ℚ b) *ℚ d)
+          (unknowns_at q.columns (moved q u ended (right_change q u ended a reading c) a reading d)) (multiplier_at q.columns a)
       stays_optimal =
-          moved_optimal (linear_program rows) other c b d is (value a.number) (rate q u ended (right_change q u ended a reading c)) (unknowns_at q.columns (numbers a.columns)) _ (multiplier_at q.columns a) shown
+          moved_optimal (linear_program rows) other c b d is (value a.number) (rate q u ended (right_change q u ended a reading c))
+          (unknowns_at q.columns (numbers a.columns)) _ (multiplier_at q.columns a) shown
           (ap (λ k. rat_sum_below k (λ i. multiplier_at q.columns a i *ℚ c i)) (length-map rows.rows row_at ∙ sym scaled.count) ∙ rate_is q u ended a reading c)
           solves attained

@@ -67,7 +67,8 @@ module _ (q : Program) where
   unfolding Kind
   kind_of k o = o.kind
 
-  slack_sign : (k : ℕ) → k < length q.rows → (o : Own q.columns k) → Kind k o → is_inequality q.columns k ≡ true → entry (entries_at q.rows k) o.column ≡ (if is_negated_at q.rows k then negsuc 0 else pos 1)
+  slack_sign : (k : ℕ) → k < length q.rows → (o : Own q.columns k) → Kind k o → is_inequality q.columns k ≡ true
+      → entry (entries_at q.rows k) o.column ≡ (if is_negated_at q.rows k then negsuc 0 else pos 1)
   unfolding Kind
   slack_sign k h o (inl e) t = sign_slack q k h o e.0
   slack_sign k h o (inr e) t = let f = sym t ∙ e.1 in cc
@@ -102,10 +103,13 @@ module _ (q : Program) where
     unfolding excess rest
     excess_solves =
         solves_first q excess (whole (pos 0)) rest (whole (pos 0)) excess_length
-        (λ i l. ap (λ d. d +ℚ whole (right_side_at q.rows i) *ℚ whole (pos 0)) (dot_less q (entries_at q.rows i) signed (own_column q) h (first q) ∙ ap₂ (λ a b. a +ℚ whole (negsuc 0) *ℚ b) (at_own i l) (at_first q i h l)) ∙ none_left (h i) (whole (right_side_at q.rows i)))
+        (λ i l. ap (λ d. d +ℚ whole (right_side_at q.rows i) *ℚ whole (pos 0))
+        (dot_less q (entries_at q.rows i) signed (own_column q) h (first q) ∙ ap₂ (λ a b. a +ℚ whole (negsuc 0) *ℚ b) (at_own i l) (at_first q i h l))
+        ∙ none_left (h i) (whole (right_side_at q.rows i)))
         (ap (λ d. (d +ℚ whole q.objective.lead *ℚ whole (pos 0)) +ℚ whole q.objective.right *ℚ whole (pos 0))
         (dot_less q q.objective.entries signed (own_column q) h (first q)
-        ∙ ap₂ (λ a b. a +ℚ whole (negsuc 0) *ℚ b) (no_sum (length q.rows) _ (λ k l. zero_right (signed k) _ (ap whole (own_cost_zero q k l)))) (no_sum (length q.rows) _ (λ k l. zero_right (h k) _ (ap whole (placing.first_cost q k l)))))
+        ∙ ap₂ (λ a b. a +ℚ whole (negsuc 0) *ℚ b) (no_sum (length q.rows) _ (λ k l. zero_right (signed k) _ (ap whole (own_cost_zero q k l))))
+        (no_sum (length q.rows) _ (λ k l. zero_right (h k) _ (ap whole (placing.first_cost q k l)))))
         ∙ costs_nothing (whole q.objective.lead) (whole q.objective.right))
         (made_up (rat_dot (wholes q.phase.entries) excess) (whole q.phase.right) q.phase.lead q.form.sum.lead)
 
@@ -117,7 +121,8 @@ module _ (q : Program) where
           let c = columns_are q u end in
           let l = excess_length in
           same_sums _ _ (whole (lead_at u (objective_row u))) (whole (right_at u (objective_row u)))
-          (ap (λ d. (d +ℚ whole (lead_at u (objective_row u)) *ℚ whole (pos 0)) +ℚ whole (right_at u (objective_row u)) *ℚ whole (pos 0)) (sym (dot_less q (row_at u.rows (objective_row u)) signed (own_column q) h (first q)))
+          (ap (λ d. (d +ℚ whole (lead_at u (objective_row u)) *ℚ whole (pos 0)) +ℚ whole (right_at u (objective_row u)) *ℚ whole (pos 0))
+          (sym (dot_less q (row_at u.rows (objective_row u)) signed (own_column q) h (first q)))
           ∙ sym (at_cost_of (first_tableau q).rows (first_tableau q) (start q u end) u end excess (whole (pos 0)) rest (whole (pos 0)) (l ∙ sym c))
           ∙ solves_rational (first_tableau q).rows u.rows end.tableau.holds _ excess_solves (objective_row u) (objective_low q u end))
 
@@ -132,7 +137,8 @@ module _ (q : Program) where
     no_offset status.Infeasible e b = cc
     no_offset status.Unbounded e b = cc
 
-    product_is : (k : ℕ) → k < length q.rows → multiplier_at q.columns a k *ℚ c k ≡ signed right_change k *ℚ (whole (entry_at u (objective_row u) (own_column q k)) /ℚ whole (lead_at u (objective_row u)))
+    product_is : (k : ℕ) → k < length q.rows → multiplier_at q.columns a k *ℚ c k
+        ≡ signed right_change k *ℚ (whole (entry_at u (objective_row u) (own_column q k)) /ℚ whole (lead_at u (objective_row u)))
     unfolding signed sign right_change
     product_is k h =
         let o = own_column_is q k h in

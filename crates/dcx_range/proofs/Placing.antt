@@ -55,7 +55,8 @@ module _ (q : Program) where
   unfoldable pub less : (ℕ → ℚ) → (ℕ → ℕ) → (ℕ → ℚ) → (ℕ → ℕ) → List ℚ
   less f own g other = rat_added (put f own) (rat_scaled (whole (negsuc 0)) (put g other))
 
-  pub less_length : (f : ℕ → ℚ) (own : ℕ → ℕ) (g : ℕ → ℚ) (other : ℕ → ℕ) → ((k : ℕ) → k < length q.rows → own k < length q.columns) → ((k : ℕ) → k < length q.rows → other k < length q.columns) → length (less f own g other) ≡ length q.columns
+  pub less_length : (f : ℕ → ℚ) (own : ℕ → ℕ) (g : ℕ → ℚ) (other : ℕ → ℕ) → ((k : ℕ) → k < length q.rows → own k < length q.columns) → ((k : ℕ) → k < length q.rows → other k < length q.columns)
+      → length (less f own g other) ≡ length q.columns
   unfolding less
   less_length f own g other h k =
       let a = put_length f own h in
@@ -64,7 +65,8 @@ module _ (q : Program) where
       length_added (put f own) (rat_scaled (whole (negsuc 0)) (put g other)) (omega (arith, a, b, c)) ∙ a
 
   pub dot_less : (row : Row) (f : ℕ → ℚ) (own : ℕ → ℕ) (g : ℕ → ℚ) (other : ℕ → ℕ)
-      → rat_dot (wholes row) (less f own g other) ≡ rat_sum_below (length q.rows) (λ k. f k *ℚ whole (entry row (own k))) +ℚ whole (negsuc 0) *ℚ rat_sum_below (length q.rows) (λ k. g k *ℚ whole (entry row (other k)))
+      → rat_dot (wholes row) (less f own g other) ≡ rat_sum_below (length q.rows) (λ k. f k *ℚ whole (entry row (own k)))
+      +ℚ whole (negsuc 0) *ℚ rat_sum_below (length q.rows) (λ k. g k *ℚ whole (entry row (other k)))
   unfolding less
   dot_less row f own g other =
       rat_dot-added_right (wholes row) (put f own) (rat_scaled (whole (negsuc 0)) (put g other))

@@ -99,7 +99,8 @@ of_run limit given few (solves.Wide site) h = tt
 of_run limit given few (solves.PivotLimit count) h = tt
 of_run limit given few solves.Memory h = tt
 
-pub stop_told : (p : Problem) (m : Program ParamForm) (r : Program Frac) (setting : Pairs) (name : List ℕ) (limit : ℕ) (stop : SolveStop) (e : RangeStop) → Stops limit (rows_of r) stop → IsToldAs stop e → RangeGives p m r setting name limit (Err e)
+pub stop_told : (p : Problem) (m : Program ParamForm) (r : Program Frac) (setting : Pairs) (name : List ℕ) (limit : ℕ) (stop : SolveStop) (e : RangeStop) → Stops limit (rows_of r) stop
+    → IsToldAs stop e → RangeGives p m r setting name limit (Err e)
 stop_told p m r setting name limit (solves.TooLarge rows columns) e h is = absurd is
 stop_told p m r setting name limit (solves.Wide site) e h is = subst (λ (z : RangeStop). RangeGives p m r setting name limit (Err z)) (sym is) h
 stop_told p m r setting name limit (solves.PivotLimit count) e h is = subst (λ (z : RangeStop). RangeGives p m r setting name limit (Err z)) (sym is) h
@@ -118,11 +119,13 @@ module _ (p : Problem) (setting : Pairs) (name : List ℕ) (m : Program ParamFor
     carries_over : CarriesOver p (setting_of p setting) (linear_program (rows_of r))
     carries_over =
         answers_carry_over Parametrized p (setting_of p setting) (linear_program (rows_of r)) map.dpp.1 fits.fits
-        (fixed_are_reductions Parametrized p setting m r (setting_of p setting) (affine_are_known p map.unread m map.reduces) fits.shaped put (affine_are_reductions p map.unread m map.dpp map.reduces (setting_of p setting)))
+        (fixed_are_reductions Parametrized p setting m r (setting_of p setting) (affine_are_known p map.unread m map.reduces) fits.shaped put
+        (affine_are_reductions p map.unread m map.dpp map.reduces (setting_of p setting)))
 
     pub has_no_point : HasKinds (rows_of r) → s.answer.status ≡ status.Infeasible → HasNoPoint p (setting_of p setting)
     has_no_point known e =
-        let right = subst (λ (t : LpStatus). IsRightForRowsAs t (rows_of r) s.program s.answer) e (shown_of (rows_of r) s.program known (scaled_program (rows_of r) s.program is.made) s.answer is.solved.right) in
+        let right = subst (λ (t : LpStatus). IsRightForRowsAs t (rows_of r) s.program s.answer) e
+        (shown_of (rows_of r) s.program known (scaled_program (rows_of r) s.program is.made) s.answer is.solved.right) in
         record {
           multipliers = multipliers_of (convex_problem p) (multiplier_at s.program.columns s.answer);
           gap = value s.answer.number;
@@ -133,7 +136,8 @@ module _ (p : Problem) (setting : Pairs) (name : List ℕ) (m : Program ParamFor
     has_no_least known e =
         let x = unknowns_at s.program.columns (numbers s.answer.columns) in
         let d = unknowns_at s.program.columns (numbers s.answer.ray) in
-        let right = subst (λ (t : LpStatus). IsRightForRowsAs t (rows_of r) s.program s.answer) e (shown_of (rows_of r) s.program known (scaled_program (rows_of r) s.program is.made) s.answer is.solved.right) in
+        let right = subst (λ (t : LpStatus). IsRightForRowsAs t (rows_of r) s.program s.answer) e
+        (shown_of (rows_of r) s.program known (scaled_program (rows_of r) s.program is.made) s.answer is.solved.right) in
         record {
           point = point_at p.variables x;
           ray = point_at p.variables d;
@@ -177,8 +181,10 @@ module _ (p : Problem) (setting : Pairs) (name : List ℕ) (m : Program ParamFor
       Told x = RangeGives p m r setting name limit (Ok x) × HoldsOn p (setting_of p setting) name x
 
       -- where all is formed
-      told_by : (constants : HasConstants m) (hs : List Rate) → rates_of of.number.at m.rows s.program.rows ≡ Ok hs → (e : Ends) → ends_from (table_of s.tableau) hs asked.at 0 (length s.program.rows) no_ends ≡ Ok e
-          → (slope : Frac) → slope_of (table_of s.tableau) hs (length s.program.rows) (coefficient_of of.number.at m.objective.constant) ≡ Ok slope → (constant : Frac) → constant_of s.answer.number slope asked.at ≡ Ok constant
+      told_by : (constants : HasConstants m) (hs : List Rate) → rates_of of.number.at m.rows s.program.rows ≡ Ok hs → (e : Ends)
+          → ends_from (table_of s.tableau) hs asked.at 0 (length s.program.rows) no_ends ≡ Ok e
+          → (slope : Frac) → slope_of (table_of s.tableau) hs (length s.program.rows) (coefficient_of of.number.at m.objective.constant) ≡ Ok slope → (constant : Frac)
+          → constant_of s.answer.number slope asked.at ≡ Ok constant
           → formed p m r setting name limit is_known ≡ Ok (span (sign_ends of.number.parameter.attribute e) constant slope) → Told (span (sign_ends of.number.parameter.attribute e) constant slope)
       unfolding is_known
       told_by constants hs rates e ends slope slope_is constant constant_is numbers =
@@ -186,8 +192,10 @@ module _ (p : Problem) (setting : Pairs) (name : List ℕ) (m : Program ParamFor
           let small = small_at s.tableau in
           let at = asked.at in
           let n = of.number in
-          let over = holds_along p setting name m map.unread map.dpp map.reduces fits r put n free constants at of.at_is s.program is.made known limit ending.0 u ending.1 s.answer ending.2 small hs rates e ends slope constant slope_is constant_is in
-          let within = here p setting name m map.unread map.dpp map.reduces fits r put n free constants at of.at_is s.program is.made known limit ending.0 u ending.1 s.answer ending.2 small hs rates e ends in
+          let over = holds_along p setting name m map.unread map.dpp map.reduces fits r put n free constants at of.at_is s.program is.made known limit ending.0 u ending.1 s.answer ending.2 small hs
+          rates e ends slope constant slope_is constant_is in
+          let within = here p setting name m map.unread map.dpp map.reduces fits r put n free constants at of.at_is s.program is.made known limit ending.0 u ending.1 s.answer ending.2 small hs
+          rates e ends in
           let same = λ (k : IsNumber p name). same_place p name n.at k.at n.named.place k.named.place in (
             record {
               known = is_known;
@@ -237,6 +245,7 @@ module _ (p : Problem) (setting : Pairs) (name : List ℕ) (m : Program ParamFor
       abbrev shown_operations : Result Ranged Passes
       shown_operations = operations (table_of s.tableau) s.program.rows m.rows m.objective.constant asked s.answer.number
 
-      pub told_result : (x : Result Ranged RangeStop) → IfOk x (λ a. shown_operations ≡ Ok a) → IfOk x (λ a. HasConstants m) → IfErr x (StopsAt shown_operations) → RangeGives p m r setting name limit x
+      pub told_result : (x : Result Ranged RangeStop) → IfOk x (λ a. shown_operations ≡ Ok a) → IfOk x (λ a. HasConstants m) → IfErr x (StopsAt shown_operations)
+          → RangeGives p m r setting name limit x
       told_result (Ok x) given constants stop = (told_span constants x given).0
       told_result (Err e) given constants stop = told_stop e stop

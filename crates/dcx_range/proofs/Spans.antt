@@ -94,7 +94,8 @@ sign_of attributes.Nonpos sides x v h l e = subst (λ z. z ≤ℚ whole (pos 0))
 sign_of attributes.Symmetric sides x v h l e = tt
 sign_of attributes.Diag sides x v h l e = tt
 
-module _ (p : Problem) (setting : Pairs) (name : List ℕ) (m : Program ParamForm) (unread : Pairs) (dpp : IsDpp p) (reduces : ReducesAffine p unread (Ok m)) (fits : IsFitting p setting) (r : Program Frac) (put : FixGives setting m (Ok r))
+module _ (p : Problem) (setting : Pairs) (name : List ℕ) (m : Program ParamForm) (unread : Pairs) (dpp : IsDpp p) (reduces : ReducesAffine p unread (Ok m)) (fits : IsFitting p setting)
+    (r : Program Frac) (put : FixGives setting m (Ok r))
     (n : IsNumber p name) (free : scales n.at m ≡ false) (constants : HasConstants m) (at : Frac) (at_is : entry_of setting name 0 ≡ Some at) where
   abbrev s : Parameters
   s = setting_of p setting
@@ -134,7 +135,8 @@ module _ (p : Problem) (setting : Pairs) (name : List ℕ) (m : Program ParamFor
   moved_is t d = ap (λ z. t n.at 0 -ℚ z) at_value
 
   -- ---- the last basis
-  module _ (q : tab.Program) (made : IsMade (rows_of r) q) (known : HasKinds (rows_of r)) (limit pivots : ℕ) (u : Table) (run : RunEnds limit (first_tableau q) u (lp.Optimal pivots)) (a : LpAnswer) (reading : IsReading q.rows q.columns u status.Optimal a)
+  module _ (q : tab.Program) (made : IsMade (rows_of r) q) (known : HasKinds (rows_of r)) (limit pivots : ℕ) (u : Table) (run : RunEnds limit (first_tableau q) u (lp.Optimal pivots)) (a : LpAnswer)
+      (reading : IsReading q.rows q.columns u status.Optimal a)
       (small : (i j : ℕ) → i < length u.rows → unsigned_abs (entry_at u i j) < 2 ^ 127) where
     abbrev end : IsEnded (first_tableau q).rows (first_tableau q) u
     end = ended (rows_of r) q known made limit pivots u run
@@ -160,15 +162,18 @@ module _ (p : Problem) (setting : Pairs) (name : List ℕ) (m : Program ParamFor
           low = whole-≤ℤ (pos 0) (right_at u i) (end.feasible i high);
           artificial = λ h.
               from_quotient (whole (right_at u i)) (whole (entry_at u i column)) (lead_some_of (entry_at u i column) ((is_readable q u end).positive i high))
-              (sym ((reading.column column in_columns).basic i high refl) ∙ (answer (rows_of r) q known made limit pivots u run a reading).solution.artificial column (omega (arith, plain, h)) in_columns);
+              (sym ((reading.column column in_columns).basic i high refl)
+              ∙ (answer (rows_of r) q known made limit pivots u run a reading).solution.artificial column (omega (arith, plain, h)) in_columns);
           small = small i (u.columns + 2) (omega (arith, high));
         }
 
     -- how the right side of a row changes
-    change_is : (i : ℕ) (row : Row ParamForm) (int : IntRow) → slice_get m.rows i ≡ Some row → slice_get q.rows i ≡ Some int → changes i ≡ turned_if int.negated (value int.factor *ℚ neg_ℚ (value (coefficient_of n.at row.form.constant)))
+    change_is : (i : ℕ) (row : Row ParamForm) (int : IntRow) → slice_get m.rows i ≡ Some row → slice_get q.rows i ≡ Some int
+        → changes i ≡ turned_if int.negated (value int.factor *ℚ neg_ℚ (value (coefficient_of n.at row.form.constant)))
     unfolding right_change
     change_is i row int e f =
-        ap₂ (λ t k. turned_if t (k *ℚ neg_ℚ (coefficient_at n.at m.rows i))) (mapped_at is_negated q.rows i int false f) (sym (rat_at-get_or (map row_factor q.rows) i) ∙ mapped_at row_factor q.rows i int (whole (pos 0)) f)
+        ap₂ (λ t k. turned_if t (k *ℚ neg_ℚ (coefficient_at n.at m.rows i))) (mapped_at is_negated q.rows i int false f)
+        (sym (rat_at-get_or (map row_factor q.rows) i) ∙ mapped_at row_factor q.rows i int (whole (pos 0)) f)
         ∙ ap (λ z. turned_if int.negated (value int.factor *ℚ neg_ℚ z)) (coefficient_is n.at m.rows i row e)
 
     -- the right side of a row at another setting
@@ -181,9 +186,11 @@ module _ (p : Problem) (setting : Pairs) (name : List ℕ) (m : Program ParamFor
         let c = value (coefficient_of n.at row.form.constant) in
         ap (λ z. turned_if int.negated (value int.factor *ℚ neg_ℚ z))
         (constant_moves p setting fits.shaped m known_program r put n.at n.parameter n.named.there n.scalar free constants.rows constants.objective t d i row e
-        ∙ ap₂ (λ x y. x +ℚ y *ℚ moved s t n.at d) (sym (constant_same p setting fits.shaped m known_program r put i row fixed.0 e fixed.1)) (coefficient_is n.at m.rows i row e) ∙ ap (λ z. value (fixed.0).form.constant +ℚ c *ℚ z) (moved_is t d))
+        ∙ ap₂ (λ x y. x +ℚ y *ℚ moved s t n.at d) (sym (constant_same p setting fits.shaped m known_program r put i row fixed.0 e fixed.1)) (coefficient_is n.at m.rows i row e)
+        ∙ ap (λ z. value (fixed.0).form.constant +ℚ c *ℚ z) (moved_is t d))
         ∙ sym (both_turned int.negated (value int.factor) (value (fixed.0).form.constant) c (t n.at 0 -ℚ value at))
-        ∙ ap₂ (λ x y. x +ℚ (t n.at 0 -ℚ value at) *ℚ y) (sym (ap whole (mapped_at right_of q.rows i int (pos 0) f) ∙ (scales_so.each_row i fixed.0 int fixed.1 f).right)) (sym (change_is i row int e f))
+        ∙ ap₂ (λ x y. x +ℚ (t n.at 0 -ℚ value at) *ℚ y) (sym (ap whole (mapped_at right_of q.rows i int (pos 0) f) ∙ (scales_so.each_row i fixed.0 int fixed.1 f).right))
+        (sym (change_is i row int e f))
 
     -- ---- the numbers that are formed
     module _ (hs : List Rate) (rates : rates_of n.at m.rows q.rows ≡ Ok hs) where
@@ -260,13 +267,15 @@ module _ (p : Problem) (setting : Pairs) (name : List ℕ) (m : Program ParamFor
             (λ i l.
             let row = at_place m.rows i (omega (arith, l, c)) in
             let int = at_place q.rows i l in
-            f.solves.each_row i row.0 int.0 row.1 int.1 ∙ right_is (with_value n.at v s) (differs_with v) i row.0 int.0 row.1 int.1 ∙ ap (λ z. whole (right_side_at q.rows i) +ℚ (z -ℚ value at) *ℚ changes i) (value_with v)) f.outside f.nonnegative f.artificial))
+            f.solves.each_row i row.0 int.0 row.1 int.1 ∙ right_is (with_value n.at v s) (differs_with v) i row.0 int.0 row.1 int.1
+            ∙ ap (λ z. whole (right_side_at q.rows i) +ℚ (z -ℚ value at) *ℚ changes i) (value_with v)) f.outside f.nonnegative f.artificial))
 
         pub interval : (v : ℚ) → Within (sign_ends n.parameter.attribute e) v ↔ IsInInterval q u m.rows s n.at n.parameter.attribute v
         interval v = (into v, out_of v)
 
         -- ---- the value along it
-        module _ (slope constant : Frac) (slope_is : slope_of u hs (length q.rows) (coefficient_of n.at m.objective.constant) ≡ Ok slope) (constant_is : constant_of a.number slope at ≡ Ok constant) where
+        module _ (slope constant : Frac) (slope_is : slope_of u hs (length q.rows) (coefficient_of n.at m.objective.constant) ≡ Ok slope)
+            (constant_is : constant_of a.number slope at ≡ Ok constant) where
           slope_rate : value slope ≡ rate q u end changes +ℚ value (coefficient_of n.at m.objective.constant)
           unfolding rate
           slope_rate =
@@ -299,5 +308,6 @@ module _ (p : Problem) (setting : Pairs) (name : List ℕ) (m : Program ParamFor
               (record {
                 point = point_at p.variables x;
                 multipliers = multipliers_of (convex_problem p) y;
-                optimal = carried p setting fits.shaped m known_program r put n.at n.parameter n.named.there n.scalar free constants.rows constants.objective t d dpp unread reduces fit (value a.number +ℚ (rate q u end changes +ℚ k) *ℚ by) x y optimal;
+                optimal = carried p setting fits.shaped m known_program r put n.at n.parameter n.named.there n.scalar free constants.rows constants.objective t d dpp unread reduces fit
+                    (value a.number +ℚ (rate q u end changes +ℚ k) *ℚ by) x y optimal;
               })

@@ -87,7 +87,8 @@ module _ (q : Program) (u : Table) (end : IsEnded (first_tableau q).rows (first_
     back_last : SolvesRational u.rows (full back cost rest (whole (negsuc 0)))
     back_last = solves_rational (first_tableau q).rows u.rows end.tableau.holds _ back_first
 
-    other_by : (i j : ℕ) → i < length q.rows → j ≢ basic q u end i → (j < length q.columns) ⊎ (length q.columns ≤ j) → IsBasic u j ⊎ ¬ (IsBasic u j) → (entry_at u i j ≡ pos 0) ⊎ (rat_at zs j ≡ whole (pos 0))
+    other_by : (i j : ℕ) → i < length q.rows → j ≢ basic q u end i → (j < length q.columns) ⊎ (length q.columns ≤ j) → IsBasic u j ⊎ ¬ (IsBasic u j)
+        → (entry_at u i j ≡ pos 0) ⊎ (rat_at zs j ≡ whole (pos 0))
     unfolding basic
     other_by i j l n c (inl b) =
         let r = rows_are q u end in
@@ -113,7 +114,8 @@ module _ (q : Program) (u : Table) (end : IsEnded (first_tableau q).rows (first_
         let b = back_length in
         sym (at_basic i l)
         ∙ back_to (rat_dot (wholes (row_at u.rows i)) zs) t _ (whole (right_at u i))
-        (ap (λ d. d +ℚ whole (right_at u i) *ℚ whole (negsuc 0)) (ap (λ d. rat_dot (wholes (row_at u.rows i)) zs +ℚ neg_ℚ t *ℚ d) (sym (dot_put q (row_at u.rows i) h (first q))) ∙ sym (rat_dot-along (wholes (row_at u.rows i)) zs (neg_ℚ t) (put q h (first q))))
+        (ap (λ d. d +ℚ whole (right_at u i) *ℚ whole (negsuc 0)) (ap (λ d. rat_dot (wholes (row_at u.rows i)) zs +ℚ neg_ℚ t *ℚ d) (sym (dot_put q (row_at u.rows i) h (first q)))
+        ∙ sym (rat_dot-along (wholes (row_at u.rows i)) zs (neg_ℚ t) (put q h (first q))))
         ∙ sym (at_row_of (first_tableau q).rows (first_tableau q) (start q u end) u end back cost rest (whole (negsuc 0)) (b ∙ sym c) i (omega (arith, r, l)))
         ∙ back_last i (omega (arith, r, l)))
 
@@ -121,7 +123,8 @@ module _ (q : Program) (u : Table) (end : IsEnded (first_tableau q).rows (first_
     unfolding basic
     kept low none = record {
       low = λ i l. subst (λ x. whole (pos 0) ≤ℚ x) (basic_is i l) (*ℚ-nonnegative (<ℚ-≤ℚ (whole-<ℤ (pos 0) _ (basic_positive q u end i l))) (low (basic q u end i) (basic_low q u end i l)));
-      artificial = λ i l p. let k = end.kin.plain in sym (basic_is i l) ∙ ap (λ x. whole (entry_at u i (basic q u end i)) *ℚ x) (none (basic q u end i) (omega (arith, k, p)) (basic_low q u end i l)) ∙ *ℚ-zero _;
+      artificial = λ i l p. let k = end.kin.plain in sym (basic_is i l)
+          ∙ ap (λ x. whole (entry_at u i (basic q u end i)) *ℚ x) (none (basic q u end i) (omega (arith, k, p)) (basic_low q u end i l)) ∙ *ℚ-zero _;
     }
 
   -- ---- to the columns of an answer, moved
@@ -144,7 +147,8 @@ module _ (q : Program) (u : Table) (end : IsEnded (first_tableau q).rows (first_
         let r = rows_are q u end in
         let g = b.1 in
         let k : b.0 < length q.rows = omega (arith, r, g) in
-        subst (λ i. whole (pos 0) ≤ℚ rat_at (moved q u end h a reading t) i) b.2 (subst (λ x. whole (pos 0) ≤ℚ x) (sym (moved_right b.0 k)) (quotient_low (right b.0) _ (keeps.low b.0 k) (basic_positive q u end b.0 k)))
+        subst (λ i. whole (pos 0) ≤ℚ rat_at (moved q u end h a reading t) i) b.2
+        (subst (λ x. whole (pos 0) ≤ℚ x) (sym (moved_right b.0 k)) (quotient_low (right b.0) _ (keeps.low b.0 k) (basic_positive q u end b.0 k)))
     low_by j l (inr n) = ≤ℚ-from_≡ (sym (moved_other q u end h a reading t j l n))
 
     pub moved_low : (j : ℕ) → j < length q.columns → whole (pos 0) ≤ℚ rat_at (moved q u end h a reading t) j

@@ -26,7 +26,8 @@ with_value k v s j e = if nat_eq j k then v else s j e
 -- the row's constant taken to the right, times the factor, and turned where the integer row was negated
 pub record SolvesAt (q : Program) (rows : List (Row ParamForm)) (s : Parameters) (zs : List ℚ) : Type 0 where
   pub count : length zs ≡ length q.columns
-  pub each_row : (i : ℕ) (row : Row ParamForm) (int : IntRow) → slice_get rows i ≡ Some row → slice_get q.rows i ≡ Some int → row_at_columns q i zs ≡ turned_if int.negated (value int.factor *ℚ neg_ℚ (form_value row.form.constant s))
+  pub each_row : (i : ℕ) (row : Row ParamForm) (int : IntRow) → slice_get rows i ≡ Some row → slice_get q.rows i ≡ Some int
+      → row_at_columns q i zs ≡ turned_if int.negated (value int.factor *ℚ neg_ℚ (form_value row.form.constant s))
 
 -- the basic columns of the tableau t at a setting, where every column outside the basis is 0: none is negative, and every artificial is 0
 pub record StaysFeasible (q : Program) (t : Table) (rows : List (Row ParamForm)) (s : Parameters) : Type 0 where

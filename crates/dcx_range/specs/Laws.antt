@@ -31,4 +31,5 @@ AreOneRange (Err stop) (Err other) = stop ≢ stops.Memory → other ≢ stops.M
 -- a parameter has one range at a setting under a limit, or one stop
 abbrev pub RangesAreOne : Type 0
 RangesAreOne =
-    (p : Problem) (q : Program ParamForm) (r : Program Frac) (setting : Pairs) (name : List ℕ) (limit : ℕ) (x y : Result Ranged RangeStop) → RangeGives p q r setting name limit x → RangeGives p q r setting name limit y → AreOneRange x y
+    (p : Problem) (q : Program ParamForm) (r : Program Frac) (setting : Pairs) (name : List ℕ) (limit : ℕ) (x y : Result Ranged RangeStop) → RangeGives p q r setting name limit x
+    → RangeGives p q r setting name limit y → AreOneRange x y

@@ -1,4 +1,4 @@
--- What the contracts of this crate cite.
+-- What contracts cite: where a parameter stands, which ones have a range, and the range that is told.
 pub mod Standing
 pub mod Coefficients
 pub mod Parameters

@@ -106,9 +106,11 @@ fn span(
     requires count { length (table_of solved.now.tableau).rows ≡ length solved.now.program.rows + 2 }
     requires columns { (table_of solved.now.tableau).columns ≡ length solved.now.program.columns }
     requires readable { IsReadable (table_of solved.now.tableau) }
-    ensures formed { IfOk result (λ a. operations (table_of solved.now.tableau) solved.now.program.rows map.now.program.rows map.now.program.objective.constant asked.now solved.now.answer.number ≡ Ok a) }
+    ensures formed { IfOk result (λ a. operations
+        (table_of solved.now.tableau) solved.now.program.rows map.now.program.rows map.now.program.objective.constant asked.now solved.now.answer.number ≡ Ok a) }
     ensures rising { IfOk result (λ a. HasConstants map.now.program) }
-    ensures stops { IfErr result (StopsAt (operations (table_of solved.now.tableau) solved.now.program.rows map.now.program.rows map.now.program.objective.constant asked.now solved.now.answer.number)) }
+    ensures stops { IfErr result (StopsAt
+        (operations (table_of solved.now.tableau) solved.now.program.rows map.now.program.rows map.now.program.objective.constant asked.now solved.now.answer.number)) }
 {
     let rows = map.rows();
     let rates = match rates(

@@ -7,12 +7,22 @@ use Rattle.dcx_syntax.specs.declared.tree.Module.TheVariants.{Cvxpy, Numpy}
 use Rattle.dcx_syntax.specs.declared.tree.Named.{Named}
 use Rattle.dcx_syntax.specs.declared.bracket.Bracket.{Bracket}
 use Rattle.dcx_syntax.specs.declared.bracket.Bracket.TheVariants.{Round, Square, Curly}
-use Rattle.dcx_syntax.specs.Terminal.{Terminal, opens, closes, plain, name, number, text, truth, none, compares, signs, scales, power, plus_equal, import, for, print, as_word, in_word, dot, comma, colon, equal, newline, indent, dedent}
-use Rattle.dcx_syntax.specs.Expressions.{named, Expr, expr, Compared, no_comparison, compared, Sum, sum, Added, no_addition, added, Term, term, Scaled, no_scaling, scaled, Factor, factor, Power, power_of, Raised, no_power, raised, Exponent, exponent, Postfix, postfix, Trailers, no_trailer, attribute, call, indexed, Args, no_args, args, MoreArgs, args_end, args_comma, more_args, Arg, by_place, by_name, Indices, no_index, more_indices, Index, at, slice, Optional, absent, present, Step, no_step, step, Primary, number_at, text_at, name_at, truth_at, none_at, unit, round, tuple, empty_list, list, comprehension, Items, no_items, items, MoreItems, items_end, items_comma, more_items}
+use Rattle.dcx_syntax.specs.Terminal.{Terminal, opens, closes, plain, name, number, text, truth, none, compares, signs, scales, power}
+use Rattle.dcx_syntax.specs.Terminal.{plus_equal, import, for, print, as_word, in_word, dot, comma, colon, equal, newline, indent, dedent}
+use Rattle.dcx_syntax.specs.Expressions.{named, Expr, expr, Compared, no_comparison, compared, Sum, sum, Added, no_addition, added, Term, term, Scaled, no_scaling, scaled}
+use Rattle.dcx_syntax.specs.Expressions.{Factor, factor, Power, power_of, Raised, no_power, raised, Exponent, exponent, Postfix, postfix, Trailers, no_trailer, attribute}
+use Rattle.dcx_syntax.specs.Expressions.{call, indexed, Args, no_args, args, MoreArgs, args_end, args_comma, more_args, Arg, by_place, by_name, Indices, no_index}
+use Rattle.dcx_syntax.specs.Expressions.{more_indices, Index, at, slice, Optional, absent, present, Step, no_step, step, Primary, number_at, text_at, name_at, truth_at}
+use Rattle.dcx_syntax.specs.Expressions.{none_at, unit, round, tuple, empty_list, list, comprehension, Items, no_items, items, MoreItems, items_end, items_comma, more_items}
 use Rattle.dcx_syntax.specs.Statements.{Balanced, nothing, beside, within, Line, importing, assign, add_to, set_value, evaluate, prints, repeats, Lines, no_lines, lines}
 use Rattle.dcx_read.specs.Words.{is_value_word}
 use Rattle.dcx_read.specs.Reading.{leading}
-use Rattle.dcx_read.specs.Moves.{Symbol, expr_s, compared_s, sum_s, added_s, term_s, scaled_s, factor_s, power_s, raised_s, exponent_s, postfix_s, trailers_s, args_s, more_args_s, arg_s, after_name_s, rest_s, indices_s, index_s, after_index_s, optional_s, step_s, primary_s, in_round_s, after_round_s, in_square_s, after_square_s, items_s, more_items_s, name_s, opens_s, closes_s, colon_s, in_s, newline_s, indent_s, dedent_s, module_s, alias_s, balanced_s, after_first_s, after_dot_s, line_s, lines_s, Tree, trees, grammar, Rest, AfterName, gets, goes_on, AfterFirst, is_assigned, is_added_to, value_is_set, begins, AfterDot, value_gets, attribute_of, AfterIndex, no_slice, slices, AfterRound, round_closed, round_goes_on, InRound, round_empty, round_holds, AfterSquare, square_lists, square_for, InSquare, square_empty, square_holds}
+use Rattle.dcx_read.specs.Moves.{Symbol, expr_s, compared_s, sum_s, added_s, term_s, scaled_s, factor_s, power_s, raised_s, exponent_s, postfix_s, trailers_s, args_s}
+use Rattle.dcx_read.specs.Moves.{more_args_s, arg_s, after_name_s, rest_s, indices_s, index_s, after_index_s, optional_s, step_s, primary_s, in_round_s, after_round_s}
+use Rattle.dcx_read.specs.Moves.{in_square_s, after_square_s, items_s, more_items_s, name_s, opens_s, closes_s, colon_s, in_s, newline_s, indent_s, dedent_s, module_s}
+use Rattle.dcx_read.specs.Moves.{alias_s, balanced_s, after_first_s, after_dot_s, line_s, lines_s, Tree, trees, grammar, Rest, AfterName, gets, goes_on, AfterFirst}
+use Rattle.dcx_read.specs.Moves.{is_assigned, is_added_to, value_is_set, begins, AfterDot, value_gets, attribute_of, AfterIndex, no_slice, slices, AfterRound, round_closed}
+use Rattle.dcx_read.specs.Moves.{round_goes_on, InRound, round_empty, round_holds, AfterSquare, square_lists, square_for, InSquare, square_empty, square_holds}
 use Rattle.dcx_read.specs.Moves as moves
 use Rattle.dcx_read.proofs.Complete.{Made, shifts, empties, is_shift}
 use Rattle.dcx_read.proofs.Steps.{MadeBy, made_by, shifts-at, as_made, lead-made}
@@ -52,7 +62,8 @@ exponent-leads (plain (signs s p)) h = absurd cc
 exponent-leads t h = refl
 
 abbrev exponent-built : (x : Exponent) → Built exponent_s x
-exponent-built (exponent [] x) = lead-made grammar postfix_s exponent_s (λ ss. ss) moves.exponent_join x _ (λ ss g. (g, refl)) (postfix-built x) (exponent-leads _ (shifts-at grammar postfix_s x (postfix-built x)))
+exponent-built (exponent [] x) = lead-made grammar postfix_s exponent_s (λ ss. ss) moves.exponent_join x _ (λ ss g. (g, refl)) (postfix-built x)
+    (exponent-leads _ (shifts-at grammar postfix_s x (postfix-built x)))
 exponent-built (exponent (s ∷ ss') x) = made_by (plain (signs s.sign s.place)) _ _ refl _ (λ ss g. ((exponent ss' x, g), refl))
 
 abbrev term-built : (x : Term) → Built term_s x
@@ -87,13 +98,15 @@ trailers-made (call p xs r) = shifts (opens Round p) _ _ refl _ (λ ss g. ((xs, 
 trailers-made (indexed p x xs r) = shifts (opens Square p) _ _ refl _ (λ ss g. ((x, (xs, (tt, (r, g)))), refl))
 
 -- what follows a primary: its first part that isn't empty begins it
-rest-leads-trailers : (t : Terminal) → is_shift (moves.trailers_move t) ≡ true → moves.rest_move t ≡ leading trees trailers_s rest_s (λ ss. raised_s ∷ scaled_s ∷ added_s ∷ compared_s ∷ ss) moves.rest_trailers (moves.trailers_move t)
+rest-leads-trailers : (t : Terminal) → is_shift (moves.trailers_move t) ≡ true
+    → moves.rest_move t ≡ leading trees trailers_s rest_s (λ ss. raised_s ∷ scaled_s ∷ added_s ∷ compared_s ∷ ss) moves.rest_trailers (moves.trailers_move t)
 rest-leads-trailers (plain dot) h = refl
 rest-leads-trailers (opens Round p) h = refl
 rest-leads-trailers (opens Square p) h = refl
 rest-leads-trailers t h = absurd cc
 
-rest-leads-raised : (t : Terminal) → is_shift (moves.raised_move t) ≡ true → moves.rest_move t ≡ leading trees raised_s rest_s (λ ss. scaled_s ∷ added_s ∷ compared_s ∷ ss) moves.rest_raised (moves.raised_move t)
+rest-leads-raised : (t : Terminal) → is_shift (moves.raised_move t) ≡ true
+    → moves.rest_move t ≡ leading trees raised_s rest_s (λ ss. scaled_s ∷ added_s ∷ compared_s ∷ ss) moves.rest_raised (moves.raised_move t)
 rest-leads-raised (plain (power p)) h = refl
 rest-leads-raised t h = absurd cc
 
@@ -110,29 +123,40 @@ rest-leads-compared (plain (compares c p)) h = refl
 rest-leads-compared t h = absurd cc
 
 rest-from-compared : (x : Compared) → Made grammar compared_s x → Made grammar rest_s (no_trailer, (no_power, (no_scaling, (no_addition, x))))
-rest-from-compared x (shifts t push make e z back) = as_made grammar rest_s _ (lead-made grammar compared_s rest_s (λ ss. ss) moves.rest_compared z (no_trailer, (no_power, (no_scaling, (no_addition, z)))) (λ ss g. (g, refl)) (made_by t push make e z back) (rest-leads-compared t (ap is_shift e)))
+rest-from-compared x (shifts t push make e z back) = as_made grammar rest_s _ (lead-made grammar compared_s rest_s (λ ss. ss) moves.rest_compared z
+    (no_trailer, (no_power, (no_scaling, (no_addition, z)))) (λ ss g. (g, refl)) (made_by t push make e z back) (rest-leads-compared t (ap is_shift e)))
 rest-from-compared x (empties z o) = empties (no_trailer, (no_power, (no_scaling, (no_addition, z)))) cc
 
 rest-from-added : (x : Added) (ycompared : Compared) → Made grammar added_s x → Made grammar compared_s ycompared → Made grammar rest_s (no_trailer, (no_power, (no_scaling, (x, ycompared))))
-rest-from-added x ycompared (shifts t push make e z back) mcompared = as_made grammar rest_s _ (lead-made grammar added_s rest_s (λ ss. compared_s ∷ ss) moves.rest_added z (no_trailer, (no_power, (no_scaling, (z, ycompared)))) (λ ss g. ((ycompared, g), refl)) (made_by t push make e z back) (rest-leads-added t (ap is_shift e)))
+rest-from-added x ycompared (shifts t push make e z back) mcompared = as_made grammar rest_s _ (lead-made grammar added_s rest_s (λ ss. compared_s ∷ ss) moves.rest_added z
+    (no_trailer, (no_power, (no_scaling, (z, ycompared)))) (λ ss g. ((ycompared, g), refl)) (made_by t push make e z back) (rest-leads-added t (ap is_shift e)))
 rest-from-added x ycompared (empties z o) mcompared =
     let same : no_addition ≡ z = cc in
     subst (λ (v : Added). Made grammar rest_s (no_trailer, (no_power, (no_scaling, (v, ycompared))))) same (rest-from-compared ycompared mcompared)
 
-rest-from-scaled : (x : Scaled) (yadded : Added) (ycompared : Compared) → Made grammar scaled_s x → Made grammar added_s yadded → Made grammar compared_s ycompared → Made grammar rest_s (no_trailer, (no_power, (x, (yadded, ycompared))))
-rest-from-scaled x yadded ycompared (shifts t push make e z back) madded mcompared = as_made grammar rest_s _ (lead-made grammar scaled_s rest_s (λ ss. added_s ∷ compared_s ∷ ss) moves.rest_scaled z (no_trailer, (no_power, (z, (yadded, ycompared)))) (λ ss g. ((yadded, (ycompared, g)), refl)) (made_by t push make e z back) (rest-leads-scaled t (ap is_shift e)))
+rest-from-scaled : (x : Scaled) (yadded : Added) (ycompared : Compared) → Made grammar scaled_s x → Made grammar added_s yadded → Made grammar compared_s ycompared
+    → Made grammar rest_s (no_trailer, (no_power, (x, (yadded, ycompared))))
+rest-from-scaled x yadded ycompared (shifts t push make e z back) madded mcompared =
+    as_made grammar rest_s _ (lead-made grammar scaled_s rest_s (λ ss. added_s ∷ compared_s ∷ ss) moves.rest_scaled z (no_trailer, (no_power, (z, (yadded, ycompared))))
+    (λ ss g. ((yadded, (ycompared, g)), refl)) (made_by t push make e z back) (rest-leads-scaled t (ap is_shift e)))
 rest-from-scaled x yadded ycompared (empties z o) madded mcompared =
     let same : no_scaling ≡ z = cc in
     subst (λ (v : Scaled). Made grammar rest_s (no_trailer, (no_power, (v, (yadded, ycompared))))) same (rest-from-added yadded ycompared madded mcompared)
 
-rest-from-raised : (x : Raised) (yscaled : Scaled) (yadded : Added) (ycompared : Compared) → Made grammar raised_s x → Made grammar scaled_s yscaled → Made grammar added_s yadded → Made grammar compared_s ycompared → Made grammar rest_s (no_trailer, (x, (yscaled, (yadded, ycompared))))
-rest-from-raised x yscaled yadded ycompared (shifts t push make e z back) mscaled madded mcompared = as_made grammar rest_s _ (lead-made grammar raised_s rest_s (λ ss. scaled_s ∷ added_s ∷ compared_s ∷ ss) moves.rest_raised z (no_trailer, (z, (yscaled, (yadded, ycompared)))) (λ ss g. ((yscaled, (yadded, (ycompared, g))), refl)) (made_by t push make e z back) (rest-leads-raised t (ap is_shift e)))
+rest-from-raised : (x : Raised) (yscaled : Scaled) (yadded : Added) (ycompared : Compared) → Made grammar raised_s x → Made grammar scaled_s yscaled
+    → Made grammar added_s yadded → Made grammar compared_s ycompared → Made grammar rest_s (no_trailer, (x, (yscaled, (yadded, ycompared))))
+rest-from-raised x yscaled yadded ycompared (shifts t push make e z back) mscaled madded mcompared = as_made grammar rest_s _
+    (lead-made grammar raised_s rest_s (λ ss. scaled_s ∷ added_s ∷ compared_s ∷ ss) moves.rest_raised z (no_trailer, (z, (yscaled, (yadded, ycompared))))
+    (λ ss g. ((yscaled, (yadded, (ycompared, g))), refl)) (made_by t push make e z back) (rest-leads-raised t (ap is_shift e)))
 rest-from-raised x yscaled yadded ycompared (empties z o) mscaled madded mcompared =
     let same : no_power ≡ z = cc in
     subst (λ (v : Raised). Made grammar rest_s (no_trailer, (v, (yscaled, (yadded, ycompared))))) same (rest-from-scaled yscaled yadded ycompared mscaled madded mcompared)
 
-rest-from-trailers : (x : Trailers) (yraised : Raised) (yscaled : Scaled) (yadded : Added) (ycompared : Compared) → Made grammar trailers_s x → Made grammar raised_s yraised → Made grammar scaled_s yscaled → Made grammar added_s yadded → Made grammar compared_s ycompared → Made grammar rest_s (x, (yraised, (yscaled, (yadded, ycompared))))
-rest-from-trailers x yraised yscaled yadded ycompared (shifts t push make e z back) mraised mscaled madded mcompared = as_made grammar rest_s _ (lead-made grammar trailers_s rest_s (λ ss. raised_s ∷ scaled_s ∷ added_s ∷ compared_s ∷ ss) moves.rest_trailers z (z, (yraised, (yscaled, (yadded, ycompared)))) (λ ss g. ((yraised, (yscaled, (yadded, (ycompared, g)))), refl)) (made_by t push make e z back) (rest-leads-trailers t (ap is_shift e)))
+rest-from-trailers : (x : Trailers) (yraised : Raised) (yscaled : Scaled) (yadded : Added) (ycompared : Compared) → Made grammar trailers_s x → Made grammar raised_s yraised
+    → Made grammar scaled_s yscaled → Made grammar added_s yadded → Made grammar compared_s ycompared → Made grammar rest_s (x, (yraised, (yscaled, (yadded, ycompared))))
+rest-from-trailers x yraised yscaled yadded ycompared (shifts t push make e z back) mraised mscaled madded mcompared = as_made grammar rest_s _
+    (lead-made grammar trailers_s rest_s (λ ss. raised_s ∷ scaled_s ∷ added_s ∷ compared_s ∷ ss) moves.rest_trailers z (z, (yraised, (yscaled, (yadded, ycompared))))
+    (λ ss g. ((yraised, (yscaled, (yadded, (ycompared, g)))), refl)) (made_by t push make e z back) (rest-leads-trailers t (ap is_shift e)))
 rest-from-trailers x yraised yscaled yadded ycompared (empties z o) mraised mscaled madded mcompared =
     let same : no_trailer ≡ z = cc in
     subst (λ (v : Trailers). Made grammar rest_s (v, (yraised, (yscaled, (yadded, ycompared))))) same (rest-from-raised yraised yscaled yadded ycompared mraised mscaled madded mcompared)
@@ -145,7 +169,8 @@ after_name-leads (plain equal) h = absurd cc
 after_name-leads t h = refl
 
 after_name-goes : (r : Rest) → Made grammar rest_s r → Made grammar after_name_s (goes_on r)
-after_name-goes r (shifts t push make e x back) = as_made grammar after_name_s _ (lead-made grammar rest_s after_name_s (λ ss. ss) moves.after_name_join x (goes_on x) (λ ss g. (g, refl)) (made_by t push make e x back) (after_name-leads t (ap is_shift e)))
+after_name-goes r (shifts t push make e x back) = as_made grammar after_name_s _ (lead-made grammar rest_s after_name_s (λ ss. ss) moves.after_name_join x (goes_on x)
+    (λ ss g. (g, refl)) (made_by t push make e x back) (after_name-leads t (ap is_shift e)))
 after_name-goes r (empties x o) = empties (goes_on x) cc
 
 after_name-made : (x : AfterName) → Made grammar after_name_s x
@@ -183,9 +208,11 @@ index-leads (plain colon) h = absurd cc
 index-leads t h = refl
 
 index-made : (x : Index) → Made grammar index_s x
-index-made (at x) = as_made grammar index_s _ (lead-made grammar expr_s index_s (λ ss. after_index_s ∷ ss) moves.index_join x _ (λ ss g. ((no_slice, g), refl)) (expr-built x) (index-leads _ (shifts-at grammar expr_s x (expr-built x))))
+index-made (at x) = as_made grammar index_s _ (lead-made grammar expr_s index_s (λ ss. after_index_s ∷ ss) moves.index_join x _ (λ ss g. ((no_slice, g), refl)) (expr-built x)
+    (index-leads _ (shifts-at grammar expr_s x (expr-built x))))
 index-made (slice absent stop by) = shifts (plain colon) _ _ refl _ (λ ss g. ((stop, (by, g)), refl))
-index-made (slice (present x) stop by) = as_made grammar index_s _ (lead-made grammar expr_s index_s (λ ss. after_index_s ∷ ss) moves.index_join x _ (λ ss g. ((slices stop by, g), refl)) (expr-built x) (index-leads _ (shifts-at grammar expr_s x (expr-built x))))
+index-made (slice (present x) stop by) = as_made grammar index_s _ (lead-made grammar expr_s index_s (λ ss. after_index_s ∷ ss) moves.index_join x _
+    (λ ss g. ((slices stop by, g), refl)) (expr-built x) (index-leads _ (shifts-at grammar expr_s x (expr-built x))))
 
 indices-made : (x : Indices) → Made grammar indices_s x
 indices-made no_index = empties _ refl
@@ -210,7 +237,8 @@ in_round-leads t h = refl
 
 in_round-made : (x : InRound) → Made grammar in_round_s x
 in_round-made round_empty = shifts (closes Round) _ _ refl _ (λ ss g. (g, refl))
-in_round-made (round_holds x a) = as_made grammar in_round_s _ (lead-made grammar expr_s in_round_s (λ ss. after_round_s ∷ ss) moves.in_round_join x _ (λ ss g. ((a, g), refl)) (expr-built x) (in_round-leads _ (shifts-at grammar expr_s x (expr-built x))))
+in_round-made (round_holds x a) = as_made grammar in_round_s _ (lead-made grammar expr_s in_round_s (λ ss. after_round_s ∷ ss) moves.in_round_join x _ (λ ss g. ((a, g), refl))
+    (expr-built x) (in_round-leads _ (shifts-at grammar expr_s x (expr-built x))))
 
 after_square-made : (x : AfterSquare) → Made grammar after_square_s x
 after_square-made (square_lists items_end) = shifts (closes Square) _ _ refl _ (λ ss g. (g, refl))
@@ -224,7 +252,8 @@ in_square-leads t h = refl
 
 in_square-made : (x : InSquare) → Made grammar in_square_s x
 in_square-made square_empty = shifts (closes Square) _ _ refl _ (λ ss g. (g, refl))
-in_square-made (square_holds x a) = as_made grammar in_square_s _ (lead-made grammar expr_s in_square_s (λ ss. after_square_s ∷ ss) moves.in_square_join x _ (λ ss g. ((a, g), refl)) (expr-built x) (in_square-leads _ (shifts-at grammar expr_s x (expr-built x))))
+in_square-made (square_holds x a) = as_made grammar in_square_s _ (lead-made grammar expr_s in_square_s (λ ss. after_square_s ∷ ss) moves.in_square_join x _
+    (λ ss g. ((a, g), refl)) (expr-built x) (in_square-leads _ (shifts-at grammar expr_s x (expr-built x))))
 
 closes-made : (b : Bracket) (x : Unit {0}) → Made grammar (closes_s b) x
 closes-made Round x = shifts (closes Round) _ _ refl _ (λ ss g. (g, refl))
@@ -270,30 +299,42 @@ first-leads-compared t h = absurd cc
 
 first-from-compared : (x : Compared) → Made grammar compared_s x → Made grammar after_first_s (begins (no_trailer, (no_power, (no_scaling, (no_addition, x)))))
 first-from-compared x (shifts t push make e z back) =
-    let b : Built rest_s (no_trailer, (no_power, (no_scaling, (no_addition, z)))) = lead-made grammar compared_s rest_s (λ ss. ss) moves.rest_compared z (no_trailer, (no_power, (no_scaling, (no_addition, z)))) (λ ss g. (g, refl)) (made_by t push make e z back) (rest-leads-compared t (ap is_shift e)) in
-    as_made grammar after_first_s _ (lead-made grammar rest_s after_first_s (λ ss. ss) moves.after_first_join (no_trailer, (no_power, (no_scaling, (no_addition, z)))) (begins (no_trailer, (no_power, (no_scaling, (no_addition, z))))) (λ ss g. (g, refl)) b (first-leads-compared t (ap is_shift e)))
+    let b : Built rest_s (no_trailer, (no_power, (no_scaling, (no_addition, z)))) = lead-made grammar compared_s rest_s (λ ss. ss) moves.rest_compared z
+    (no_trailer, (no_power, (no_scaling, (no_addition, z)))) (λ ss g. (g, refl)) (made_by t push make e z back) (rest-leads-compared t (ap is_shift e)) in
+    as_made grammar after_first_s _ (lead-made grammar rest_s after_first_s (λ ss. ss) moves.after_first_join (no_trailer, (no_power, (no_scaling, (no_addition, z))))
+    (begins (no_trailer, (no_power, (no_scaling, (no_addition, z))))) (λ ss g. (g, refl)) b (first-leads-compared t (ap is_shift e)))
 first-from-compared x (empties z o) = empties (begins (no_trailer, (no_power, (no_scaling, (no_addition, z))))) cc
 
-first-from-added : (x : Added) (ycompared : Compared) → Made grammar added_s x → Made grammar compared_s ycompared → Made grammar after_first_s (begins (no_trailer, (no_power, (no_scaling, (x, ycompared)))))
+first-from-added : (x : Added) (ycompared : Compared) → Made grammar added_s x → Made grammar compared_s ycompared
+    → Made grammar after_first_s (begins (no_trailer, (no_power, (no_scaling, (x, ycompared)))))
 first-from-added x ycompared (shifts t push make e z back) mcompared =
-    let b : Built rest_s (no_trailer, (no_power, (no_scaling, (z, ycompared)))) = lead-made grammar added_s rest_s (λ ss. compared_s ∷ ss) moves.rest_added z (no_trailer, (no_power, (no_scaling, (z, ycompared)))) (λ ss g. ((ycompared, g), refl)) (made_by t push make e z back) (rest-leads-added t (ap is_shift e)) in
-    as_made grammar after_first_s _ (lead-made grammar rest_s after_first_s (λ ss. ss) moves.after_first_join (no_trailer, (no_power, (no_scaling, (z, ycompared)))) (begins (no_trailer, (no_power, (no_scaling, (z, ycompared))))) (λ ss g. (g, refl)) b (first-leads-added t (ap is_shift e)))
+    let b : Built rest_s (no_trailer, (no_power, (no_scaling, (z, ycompared)))) = lead-made grammar added_s rest_s (λ ss. compared_s ∷ ss) moves.rest_added z
+    (no_trailer, (no_power, (no_scaling, (z, ycompared)))) (λ ss g. ((ycompared, g), refl)) (made_by t push make e z back) (rest-leads-added t (ap is_shift e)) in
+    as_made grammar after_first_s _ (lead-made grammar rest_s after_first_s (λ ss. ss) moves.after_first_join (no_trailer, (no_power, (no_scaling, (z, ycompared))))
+    (begins (no_trailer, (no_power, (no_scaling, (z, ycompared))))) (λ ss g. (g, refl)) b (first-leads-added t (ap is_shift e)))
 first-from-added x ycompared (empties z o) mcompared =
     let same : no_addition ≡ z = cc in
     subst (λ (v : Added). Made grammar after_first_s (begins (no_trailer, (no_power, (no_scaling, (v, ycompared)))))) same (first-from-compared ycompared mcompared)
 
-first-from-scaled : (x : Scaled) (yadded : Added) (ycompared : Compared) → Made grammar scaled_s x → Made grammar added_s yadded → Made grammar compared_s ycompared → Made grammar after_first_s (begins (no_trailer, (no_power, (x, (yadded, ycompared)))))
+first-from-scaled : (x : Scaled) (yadded : Added) (ycompared : Compared) → Made grammar scaled_s x → Made grammar added_s yadded → Made grammar compared_s ycompared
+    → Made grammar after_first_s (begins (no_trailer, (no_power, (x, (yadded, ycompared)))))
 first-from-scaled x yadded ycompared (shifts t push make e z back) madded mcompared =
-    let b : Built rest_s (no_trailer, (no_power, (z, (yadded, ycompared)))) = lead-made grammar scaled_s rest_s (λ ss. added_s ∷ compared_s ∷ ss) moves.rest_scaled z (no_trailer, (no_power, (z, (yadded, ycompared)))) (λ ss g. ((yadded, (ycompared, g)), refl)) (made_by t push make e z back) (rest-leads-scaled t (ap is_shift e)) in
-    as_made grammar after_first_s _ (lead-made grammar rest_s after_first_s (λ ss. ss) moves.after_first_join (no_trailer, (no_power, (z, (yadded, ycompared)))) (begins (no_trailer, (no_power, (z, (yadded, ycompared))))) (λ ss g. (g, refl)) b (first-leads-scaled t (ap is_shift e)))
+    let b : Built rest_s (no_trailer, (no_power, (z, (yadded, ycompared)))) = lead-made grammar scaled_s rest_s (λ ss. added_s ∷ compared_s ∷ ss) moves.rest_scaled z
+    (no_trailer, (no_power, (z, (yadded, ycompared)))) (λ ss g. ((yadded, (ycompared, g)), refl)) (made_by t push make e z back) (rest-leads-scaled t (ap is_shift e)) in
+    as_made grammar after_first_s _ (lead-made grammar rest_s after_first_s (λ ss. ss) moves.after_first_join (no_trailer, (no_power, (z, (yadded, ycompared))))
+    (begins (no_trailer, (no_power, (z, (yadded, ycompared))))) (λ ss g. (g, refl)) b (first-leads-scaled t (ap is_shift e)))
 first-from-scaled x yadded ycompared (empties z o) madded mcompared =
     let same : no_scaling ≡ z = cc in
     subst (λ (v : Scaled). Made grammar after_first_s (begins (no_trailer, (no_power, (v, (yadded, ycompared)))))) same (first-from-added yadded ycompared madded mcompared)
 
-first-from-raised : (x : Raised) (yscaled : Scaled) (yadded : Added) (ycompared : Compared) → Made grammar raised_s x → Made grammar scaled_s yscaled → Made grammar added_s yadded → Made grammar compared_s ycompared → Made grammar after_first_s (begins (no_trailer, (x, (yscaled, (yadded, ycompared)))))
+first-from-raised : (x : Raised) (yscaled : Scaled) (yadded : Added) (ycompared : Compared) → Made grammar raised_s x → Made grammar scaled_s yscaled
+    → Made grammar added_s yadded → Made grammar compared_s ycompared → Made grammar after_first_s (begins (no_trailer, (x, (yscaled, (yadded, ycompared)))))
 first-from-raised x yscaled yadded ycompared (shifts t push make e z back) mscaled madded mcompared =
-    let b : Built rest_s (no_trailer, (z, (yscaled, (yadded, ycompared)))) = lead-made grammar raised_s rest_s (λ ss. scaled_s ∷ added_s ∷ compared_s ∷ ss) moves.rest_raised z (no_trailer, (z, (yscaled, (yadded, ycompared)))) (λ ss g. ((yscaled, (yadded, (ycompared, g))), refl)) (made_by t push make e z back) (rest-leads-raised t (ap is_shift e)) in
-    as_made grammar after_first_s _ (lead-made grammar rest_s after_first_s (λ ss. ss) moves.after_first_join (no_trailer, (z, (yscaled, (yadded, ycompared)))) (begins (no_trailer, (z, (yscaled, (yadded, ycompared))))) (λ ss g. (g, refl)) b (first-leads-raised t (ap is_shift e)))
+    let b : Built rest_s (no_trailer, (z, (yscaled, (yadded, ycompared)))) =
+    lead-made grammar raised_s rest_s (λ ss. scaled_s ∷ added_s ∷ compared_s ∷ ss) moves.rest_raised z (no_trailer, (z, (yscaled, (yadded, ycompared))))
+    (λ ss g. ((yscaled, (yadded, (ycompared, g))), refl)) (made_by t push make e z back) (rest-leads-raised t (ap is_shift e)) in
+    as_made grammar after_first_s _ (lead-made grammar rest_s after_first_s (λ ss. ss) moves.after_first_join (no_trailer, (z, (yscaled, (yadded, ycompared))))
+    (begins (no_trailer, (z, (yscaled, (yadded, ycompared))))) (λ ss g. (g, refl)) b (first-leads-raised t (ap is_shift e)))
 first-from-raised x yscaled yadded ycompared (empties z o) mscaled madded mcompared =
     let same : no_power ≡ z = cc in
     subst (λ (v : Raised). Made grammar after_first_s (begins (no_trailer, (v, (yscaled, (yadded, ycompared)))))) same (first-from-scaled yscaled yadded ycompared mscaled madded mcompared)

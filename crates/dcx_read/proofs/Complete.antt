@@ -17,7 +17,8 @@ front T s ss x f = (x, f)
 
 -- how a tree came about: by a token, or as the empty one
 pub data Made (G : Grammar) (s : G.trees.Symbol) : G.trees.Tree s → Type 0 where
-  shifts : (t : G.trees.Token) (push : List G.trees.Symbol → List G.trees.Symbol) (make : (ss : List G.trees.Symbol) → Forest G.trees (push ss) → Forest G.trees (s ∷ ss)) → G.move s t ≡ shift push make
+  shifts : (t : G.trees.Token) (push : List G.trees.Symbol → List G.trees.Symbol) (make : (ss : List G.trees.Symbol) → Forest G.trees (push ss) → Forest G.trees (s ∷ ss))
+      → G.move s t ≡ shift push make
       → (x : G.trees.Tree s) → ((ss : List G.trees.Symbol) (g : Forest G.trees ss) → (f : Forest G.trees (push ss)) × (make ss f ≡ front G.trees s ss x g)) → Made G s x
   empties : (x : G.trees.Tree s) → G.empty s ≡ Some x → Made G s x
 
@@ -40,7 +41,8 @@ Clear G S [] = Unit {0}
 Clear G S (s ∷ ss) = ((k : S.Kind) → S.on s k ≡ true → firsts G S ss k ≡ false) × Clear G S ss
 
 -- What a move is to keep: it begins with its token, which may begin its symbol, and what comes after stays clear.
-pub record IsRight (G : Grammar) (spell : Spelling G.trees) (S : Sets G.trees) (s : G.trees.Symbol) (t : G.trees.Token) (push : List G.trees.Symbol → List G.trees.Symbol) (make : (ss : List G.trees.Symbol) → Forest G.trees (push ss) → Forest G.trees (s ∷ ss)) : Type 0 where
+pub record IsRight (G : Grammar) (spell : Spelling G.trees) (S : Sets G.trees) (s : G.trees.Symbol) (t : G.trees.Token) (push : List G.trees.Symbol → List G.trees.Symbol)
+    (make : (ss : List G.trees.Symbol) → Forest G.trees (push ss) → Forest G.trees (s ∷ ss)) : Type 0 where
   pub spells : (ss : List G.trees.Symbol) (f : Forest G.trees (push ss)) → spelling G.trees spell (s ∷ ss) (make ss f) ≡ t ∷ spelling G.trees spell (push ss) f
   pub begun : S.begins s (S.kind t) ≡ true
   pub keeps : (ss : List G.trees.Symbol) → Clear G S (s ∷ ss) → Clear G S (push ss)
@@ -68,14 +70,17 @@ true-false b h k = absurd cc
 
 module _ (G : Grammar) (spell : Spelling G.trees) (S : Sets G.trees) (d : Decides G spell S) where
   -- what the right move of a token gives, where it is a shift
-  right-at : (s : G.trees.Symbol) (t : G.trees.Token) (push : List G.trees.Symbol → List G.trees.Symbol) (make : (ss : List G.trees.Symbol) → Forest G.trees (push ss) → Forest G.trees (s ∷ ss)) → G.move s t ≡ shift push make → IsRight G spell S s t push make
+  right-at : (s : G.trees.Symbol) (t : G.trees.Token) (push : List G.trees.Symbol → List G.trees.Symbol)
+      (make : (ss : List G.trees.Symbol) → Forest G.trees (push ss) → Forest G.trees (s ∷ ss)) → G.move s t ≡ shift push make → IsRight G spell S s t push make
   right-at s t push make e = subst (λ (m : Move G.trees s). Right G spell S s t m) e (d.right s t)
 
   begins-any : (s : G.trees.Symbol) (t : G.trees.Token) (m : Move G.trees s) → Right G spell S s t m → is_shift m ≡ true → S.begins s (S.kind t) ≡ true
   begins-any s t (shift push make) r h = r.begun
   begins-any s t pass r h = absurd cc
 
-  firsts-one : (s : G.trees.Symbol) (ss : List G.trees.Symbol) (x : G.trees.Tree s) (g : Forest G.trees ss) (t : G.trees.Token) (u : List G.trees.Token) → Made G s x → spelling G.trees spell (s ∷ ss) (front G.trees s ss x g) ≡ t ∷ u → (spelling G.trees spell ss g ≡ t ∷ u → firsts G S ss (S.kind t) ≡ true) → firsts G S (s ∷ ss) (S.kind t) ≡ true
+  firsts-one : (s : G.trees.Symbol) (ss : List G.trees.Symbol) (x : G.trees.Tree s) (g : Forest G.trees ss) (t : G.trees.Token) (u : List G.trees.Token) → Made G s x
+      → spelling G.trees spell (s ∷ ss) (front G.trees s ss x g) ≡ t ∷ u → (spelling G.trees spell ss g ≡ t ∷ u → firsts G S ss (S.kind t) ≡ true)
+      → firsts G S (s ∷ ss) (S.kind t) ≡ true
   firsts-one s ss x g t u (shifts t' push make e y back) h k =
       let r : IsRight G spell S s t' push make = right-at s t' push make e in
       let b = back ss g in
@@ -94,7 +99,9 @@ module _ (G : Grammar) (spell : Spelling G.trees) (S : Sets G.trees) (d : Decide
   firsts-of [] f t u h = absurd cc
   firsts-of (s ∷ ss) f t u h = firsts-one s ss f.0 f.1 t u (d.made s f.0) h (firsts-of ss f.1 t u)
 
-  finish-one : (s : G.trees.Symbol) (ss : List G.trees.Symbol) (x : G.trees.Tree s) (g : Forest G.trees ss) → Made G s x → spelling G.trees spell (s ∷ ss) (front G.trees s ss x g) ≡ [] → (spelling G.trees spell ss g ≡ [] → finish G ss ≡ Ok g) → finish G (s ∷ ss) ≡ Ok (front G.trees s ss x g)
+  finish-one : (s : G.trees.Symbol) (ss : List G.trees.Symbol) (x : G.trees.Tree s) (g : Forest G.trees ss) → Made G s x
+      → spelling G.trees spell (s ∷ ss) (front G.trees s ss x g) ≡ [] → (spelling G.trees spell ss g ≡ [] → finish G ss ≡ Ok g)
+      → finish G (s ∷ ss) ≡ Ok (front G.trees s ss x g)
   finish-one s ss x g (shifts t' push make e y back) h k =
       let r : IsRight G spell S s t' push make = right-at s t' push make e in
       let b = back ss g in
@@ -113,11 +120,13 @@ module _ (G : Grammar) (spell : Spelling G.trees) (S : Sets G.trees) (d : Decide
   Later ts = (ss : List G.trees.Symbol) (f : Forest G.trees ss) → spelling G.trees spell ss f ≡ ts → Clear G S ss → read G ts ss ≡ Ok f
 
   pass-one : (t : G.trees.Token) (ts : List G.trees.Token) (s : G.trees.Symbol) (ss : List G.trees.Symbol) (x : G.trees.Tree s) (g : Forest G.trees ss) (m : Move G.trees s)
-      → G.empty s ≡ Some x → (is_shift m ≡ true → ⊥) → step G t ts (read G ts) ss ≡ Ok g → shifted G s ss m (read G ts) (skipped G s ss (G.empty s) (t ∷ ts) (step G t ts (read G ts) ss)) ≡ Ok (front G.trees s ss x g)
+      → G.empty s ≡ Some x → (is_shift m ≡ true → ⊥) → step G t ts (read G ts) ss ≡ Ok g
+      → shifted G s ss m (read G ts) (skipped G s ss (G.empty s) (t ∷ ts) (step G t ts (read G ts) ss)) ≡ Ok (front G.trees s ss x g)
   pass-one t ts s ss x g (shift push make) o never k = absurd (never refl)
   pass-one t ts s ss x g pass o never k = rw (o, k) refl
 
-  step-one : (t : G.trees.Token) (ts : List G.trees.Token) → Later ts → (s : G.trees.Symbol) (ss : List G.trees.Symbol) (x : G.trees.Tree s) (g : Forest G.trees ss) → Made G s x → spelling G.trees spell (s ∷ ss) (front G.trees s ss x g) ≡ t ∷ ts → Clear G S (s ∷ ss)
+  step-one : (t : G.trees.Token) (ts : List G.trees.Token) → Later ts → (s : G.trees.Symbol) (ss : List G.trees.Symbol) (x : G.trees.Tree s) (g : Forest G.trees ss)
+      → Made G s x → spelling G.trees spell (s ∷ ss) (front G.trees s ss x g) ≡ t ∷ ts → Clear G S (s ∷ ss)
       → (spelling G.trees spell ss g ≡ t ∷ ts → step G t ts (read G ts) ss ≡ Ok g) → step G t ts (read G ts) (s ∷ ss) ≡ Ok (front G.trees s ss x g)
   step-one t ts later s ss x g (shifts t' push make e y back) h clear k =
       let r : IsRight G spell S s t' push make = right-at s t' push make e in
@@ -132,9 +141,11 @@ module _ (G : Grammar) (spell : Spelling G.trees) (S : Sets G.trees) (d : Decide
       let none : SpellsNothing G.trees spell s (Some x) = subst (λ (o : Option (G.trees.Tree s)). SpellsNothing G.trees spell s o) o (d.nothing s) in
       let h' : spelling G.trees spell ss g ≡ t ∷ ts = ap (λ (xs : List G.trees.Token). xs ++ spelling G.trees spell ss g) (sym none) ∙ h in
       let there : is_there (G.empty s) ≡ true = ap is_there o in
-      pass-one t ts s ss x g (G.move s t) o (λ b. true-false (firsts G S ss (S.kind t)) (firsts-of ss g t ts h') (clear.0 (S.kind t) (d.goes_on s (S.kind t) there (begins-any s t (G.move s t) (d.right s t) b)))) (k h')
+      pass-one t ts s ss x g (G.move s t) o (λ b. true-false (firsts G S ss (S.kind t)) (firsts-of ss g t ts h')
+      (clear.0 (S.kind t) (d.goes_on s (S.kind t) there (begins-any s t (G.move s t) (d.right s t) b)))) (k h')
 
-  step-complete : (t : G.trees.Token) (ts : List G.trees.Token) → Later ts → (ss : List G.trees.Symbol) (f : Forest G.trees ss) → spelling G.trees spell ss f ≡ t ∷ ts → Clear G S ss → step G t ts (read G ts) ss ≡ Ok f
+  step-complete : (t : G.trees.Token) (ts : List G.trees.Token) → Later ts → (ss : List G.trees.Symbol) (f : Forest G.trees ss) → spelling G.trees spell ss f ≡ t ∷ ts
+      → Clear G S ss → step G t ts (read G ts) ss ≡ Ok f
   step-complete t ts later [] f h clear = absurd cc
   step-complete t ts later (s ∷ ss) f h clear = step-one t ts later s ss f.0 f.1 (d.made s f.0) h clear (λ h'. step-complete t ts later ss f.1 h' clear.1)
 

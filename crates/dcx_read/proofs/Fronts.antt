@@ -1,18 +1,15 @@
 -- What stands at the front of the tokens, as terminals.
-use Rattle.std.proofs.Common.{◌≡◌, ◌<◌, ◌≤◌, ◌-◌, length, take, drop, get_or, arith, ℕ, List, [], ◌∷◌, ◌++◌, Some, Err, refl, sym, ap, ◌∙◌}
+use Rattle.std.proofs.Common.{◌≡◌, ◌-◌, ℕ, List, [], ◌∷◌, ◌++◌, Err, refl, sym, ap, ◌∙◌}
 use Rattle.dcx_shape.specs.declared.place.Place.{Place}
 use Rattle.dcx_tokens.specs.declared.token.Token.{Token}
 use Rattle.dcx_read.specs.declared.role.Role.{Role}
 use Rattle.dcx_read.specs.declared.role.Role.TheVariants as roles
 use Rattle.dcx_syntax.specs.declared.tree.Sign.{Sign}
-use Rattle.dcx_read.specs.declared.role.Mark.{Mark}
-use Rattle.dcx_read.specs.declared.role.Mark.TheVariants as marks
-use Rattle.dcx_read.specs.Role.{role_of, role_with, mark_of}
+use Rattle.dcx_read.specs.Role.{role_of}
 use Rattle.dcx_syntax.specs.declared.tree.Signed.{Signed}
 use Rattle.dcx_syntax.specs.Expressions.{signs_text}
 use Rattle.dcx_syntax.specs.Terminal.{plain, signs, Terminal}
 use Rattle.dcx_read.specs.Terminals.{terminal, terminals, spelled, named_by}
-use Rattle.std.proofs.lemmas.List.{take_rest}
 use Rattle.dcx_read.specs.Reading.{pass, on_ok, read}
 use Rattle.dcx_read.specs.Moves.{Symbol, name_s, move, grammar}
 use Rattle.dcx_read.specs.Steps.{Gives, StopsAt, Front, Lacks}
@@ -32,63 +29,12 @@ pub passes : (s : Symbol) (source : List ℕ) (Bad : Role → Type 0) (ts : List
 passes s source Bad [] h l = tt
 passes s source Bad (t ∷ ts) h l = h (role_of t.kind) (spelled source t) t.place (l t ts refl)
 
-some-same : {A : Type 0} (x y : A) → Some x ≡ Some y → x ≡ y
-some-same x y e = cc
-
-pub mark-role : (r : Role) (m : Mark) → mark_of r ≡ Some m → r ≡ role_with m
-mark-role (roles.Opens b) m e = ap role_with (some-same (marks.Opens b) m e)
-mark-role (roles.Closes b) m e = ap role_with (some-same (marks.Closes b) m e)
-mark-role roles.Power m e = ap role_with (some-same marks.Power m e)
-mark-role roles.PlusEqual m e = ap role_with (some-same marks.PlusEqual m e)
-mark-role roles.Import m e = ap role_with (some-same marks.Import m e)
-mark-role roles.For m e = ap role_with (some-same marks.For m e)
-mark-role roles.Print m e = ap role_with (some-same marks.Print m e)
-mark-role roles.As m e = ap role_with (some-same marks.As m e)
-mark-role roles.In m e = ap role_with (some-same marks.In m e)
-mark-role roles.Dot m e = ap role_with (some-same marks.Dot m e)
-mark-role roles.Comma m e = ap role_with (some-same marks.Comma m e)
-mark-role roles.Colon m e = ap role_with (some-same marks.Colon m e)
-mark-role roles.Equal m e = ap role_with (some-same marks.Equal m e)
-mark-role roles.Newline m e = ap role_with (some-same marks.Newline m e)
-mark-role roles.Indent m e = ap role_with (some-same marks.Indent m e)
-mark-role roles.Dedent m e = ap role_with (some-same marks.Dedent m e)
-mark-role r m e = absurd cc
-
-pub role-mark : (m : Mark) → mark_of (role_with m) ≡ Some m
-role-mark (marks.Opens b) = refl
-role-mark (marks.Closes b) = refl
-role-mark marks.Power = refl
-role-mark marks.PlusEqual = refl
-role-mark marks.Import = refl
-role-mark marks.For = refl
-role-mark marks.Print = refl
-role-mark marks.As = refl
-role-mark marks.In = refl
-role-mark marks.Dot = refl
-role-mark marks.Comma = refl
-role-mark marks.Colon = refl
-role-mark marks.Equal = refl
-role-mark marks.Newline = refl
-role-mark marks.Indent = refl
-role-mark marks.Dedent = refl
-
--- a slice with a first token is that token and the others
-pub head-rest : (ts : List Token) (t : Token) → 1 ≤ length ts → t ≡ get_or ts 0 t → ts ≡ t ∷ take (length ts - 1) (drop 1 ts)
-head-rest [] t le e = absurd (omega arith)
-head-rest (x ∷ xs) t le e = ap (λ y. y ∷ xs) (sym e) ∙ ap (λ ys. t ∷ ys) (sym (take_rest (x ∷ xs) 1))
-
-no-token : {A : Type 0} (ts : List Token) (t : Token) (rest : List Token) → length ts < 1 → ts ≡ t ∷ rest → A
-no-token ts t rest lt e = absurd (omega (arith, ap length e))
-
-pub no-tokens : (ts : List Token) → length ts < 1 → ts ≡ []
-no-tokens [] lt = refl
-no-tokens (t ∷ ts) lt = absurd (omega arith)
-
 name-passes : (r : Role) (bytes : List ℕ) (p : Place) → (r ≡ roles.Name → ⊥) → move name_s (terminal r bytes p) ≡ pass
 name-passes roles.Name bytes p n = absurd (n refl)
 name-passes r bytes p n = refl
 
-name-reads : (source : List ℕ) (ts rest : List Token) (t : Token) → ts ≡ t ∷ rest → role_of t.kind ≡ roles.Name → (ss : List Symbol) → read grammar (terminals source ts) (name_s ∷ ss) ≡ on_ok (λ f. front name_s ss (named_by source t) f) (read grammar (terminals source rest) ss)
+name-reads : (source : List ℕ) (ts rest : List Token) (t : Token) → ts ≡ t ∷ rest → role_of t.kind ≡ roles.Name → (ss : List Symbol)
+    → read grammar (terminals source ts) (name_s ∷ ss) ≡ on_ok (λ f. front name_s ss (named_by source t) f) (read grammar (terminals source rest) ss)
 unfolding read
 name-reads source ts rest t e r ss = rw (e, r) refl
 
@@ -103,13 +49,6 @@ name-refused source (u ∷ us) m ss = rw m refl
 pub name-stops : (source : List ℕ) (ts : List Token) → Lacks roles.Name ts → StopsAt name_s (terminals source ts) (terminals source ts)
 name-stops source ts l = record { reads = name-refused source (terminals source ts) (passes name_s source (λ r. r ≡ roles.Name) ts name-passes l) }
 
--- a slice whose first token has another role
-pub other-head : (r : Role) (ts : List Token) (t : Token) (rest : List Token) → ts ≡ t ∷ rest → (role_of t.kind ≡ r → ⊥) → Lacks r ts
-other-head r ts t rest e n = λ u more h k. let same : u ≡ t = cc in n (ap (λ (x : Token). role_of x.kind) (sym same) ∙ k)
-
-pub no-head : (r : Role) (ts : List Token) → length ts < 1 → Lacks r ts
-no-head r ts lt = λ u more h k. no-token ts u more lt h
-
 signs_text-append : (ss : List Signed) (s : Signed) (us : List Terminal) → signs_text (ss ++ s ∷ []) ++ us ≡ signs_text ss ++ plain (signs s.sign s.place) ∷ us
 signs_text-append [] s us = refl
 signs_text-append (x ∷ ss) s us = ap (λ (y : List Terminal). plain (signs x.sign x.place) ∷ y) (signs_text-append ss s us)
@@ -117,7 +56,9 @@ signs_text-append (x ∷ ss) s us = ap (λ (y : List Terminal). plain (signs x.s
 pub signs-begin : (source : List ℕ) (ts : List Token) (none : List Signed) → none ≡ [] → terminals source ts ≡ signs_text none ++ terminals source ts
 signs-begin source ts none e = rw e refl
 
-pub signs-more : (source : List ℕ) (ts mid rest : List Token) (old new : List Signed) (s : Sign) (p : Place) → terminals source ts ≡ signs_text old ++ terminals source mid → Front (roles.Signs s) p mid rest → new ≡ old ++ record { sign = s; place = p } ∷ [] → terminals source ts ≡ signs_text new ++ terminals source rest
+pub signs-more : (source : List ℕ) (ts mid rest : List Token) (old new : List Signed) (s : Sign) (p : Place) → terminals source ts ≡ signs_text old ++ terminals source mid
+    → Front (roles.Signs s) p mid rest → new ≡ old ++ record { sign = s; place = p } ∷ [] → terminals source ts ≡ signs_text new ++ terminals source rest
 signs-more source ts mid rest old new s p e f n =
     let h = front-terminals (roles.Signs s) p mid rest source f in
-    e ∙ ap (λ (us : List Terminal). signs_text old ++ us) h.1 ∙ sym (signs_text-append old (record { sign = s; place = p }) (terminals source rest)) ∙ ap (λ (ss : List Signed). signs_text ss ++ terminals source rest) (sym n)
+    e ∙ ap (λ (us : List Terminal). signs_text old ++ us) h.1 ∙ sym (signs_text-append old (record { sign = s; place = p }) (terminals source rest))
+    ∙ ap (λ (ss : List Signed). signs_text ss ++ terminals source rest) (sym n)

@@ -1,3 +1,4 @@
+-- The lemmas by which one token decides the grammar, so that tokens are read one way or are refused at one.
 pub mod Sound
 pub mod Viable
 pub mod Local

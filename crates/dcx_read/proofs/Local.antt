@@ -19,7 +19,8 @@ module _ (G : Grammar) (t : G.trees.Token) (ts : List G.trees.Token) (s : G.tree
   unfolding read
   skip-one x m o xs rest h = rw (m, o, h) refl
 
-  skip-front : (x : G.trees.Tree s) → G.move s t ≡ pass → G.empty s ≡ Some x → (front : List G.trees.Token) (u : G.trees.Token) (rest junk : List G.trees.Token) → t ∷ ts ≡ front ++ u ∷ rest → read G (front ++ u ∷ junk) ss ≡ Err (u ∷ junk) → read G (front ++ u ∷ junk) (s ∷ ss) ≡ Err (u ∷ junk)
+  skip-front : (x : G.trees.Tree s) → G.move s t ≡ pass → G.empty s ≡ Some x → (front : List G.trees.Token) (u : G.trees.Token) (rest junk : List G.trees.Token)
+      → t ∷ ts ≡ front ++ u ∷ rest → read G (front ++ u ∷ junk) ss ≡ Err (u ∷ junk) → read G (front ++ u ∷ junk) (s ∷ ss) ≡ Err (u ∷ junk)
   skip-front e m o [] u rest junk same h =
       let tu : t ≡ u = cc in
       let h' : read G (t ∷ junk) ss ≡ Err (t ∷ junk) = subst (λ (x : G.trees.Token). read G (x ∷ junk) ss ≡ Err (x ∷ junk)) (sym tu) h in
@@ -41,7 +42,8 @@ module _ (G : Grammar) (t : G.trees.Token) (ts : List G.trees.Token) (s : G.tree
   move-blocks (shift push make) e h k = shift-blocks push make e (read G ts (push ss)) (h (push ss))
   move-blocks pass e h k = skip-blocks (G.empty s) e refl (step G t ts (read G ts) ss) k
 
-step-blocks : (G : Grammar) (t : G.trees.Token) (ts : List G.trees.Token) (ss : List G.trees.Symbol) → ((ss : List G.trees.Symbol) → Blocks G ss ts (read G ts ss)) → Blocks G ss (t ∷ ts) (step G t ts (read G ts) ss)
+step-blocks : (G : Grammar) (t : G.trees.Token) (ts : List G.trees.Token) (ss : List G.trees.Symbol) → ((ss : List G.trees.Symbol) → Blocks G ss ts (read G ts ss))
+    → Blocks G ss (t ∷ ts) (step G t ts (read G ts) ss)
 unfolding read
 step-blocks G t ts [] h = ([], refl, λ junk. refl)
 step-blocks G t ts (s ∷ ss) h = move-blocks G t ts s ss (G.move s t) refl h (step-blocks G t ts ss h)
@@ -50,7 +52,8 @@ skipped-blocks : (G : Grammar) (s : G.trees.Symbol) (ss : List G.trees.Symbol) (
 skipped-blocks G s ss None r h = tt
 skipped-blocks G s ss (Some e) (Ok f) h = tt
 skipped-blocks G s ss (Some e) (Err []) h = tt
-skipped-blocks G s ss (Some e) (Err (u ∷ rest)) h = elim h.0 as (λ (front : List G.trees.Token). [] ≡ front ++ u ∷ rest → Blocks G (s ∷ ss) [] (Err (u ∷ rest))) [ [] ↦ λ same. absurd cc | (x ∷ front) ↦ λ same. absurd cc ] h.1
+skipped-blocks G s ss (Some e) (Err (u ∷ rest)) h = elim h.0 as
+    (λ (front : List G.trees.Token). [] ≡ front ++ u ∷ rest → Blocks G (s ∷ ss) [] (Err (u ∷ rest))) [ [] ↦ λ same. absurd cc | (x ∷ front) ↦ λ same. absurd cc ] h.1
 
 finish-blocks : (G : Grammar) (ss : List G.trees.Symbol) → Blocks G ss [] (finish G ss)
 finish-blocks G [] = tt

@@ -30,9 +30,11 @@ same-rest text ts rest front e =
     let d : length (terminals text ts) ≡ length (front ++ terminals text rest) = ap length e in
     let k = length-append front (terminals text rest) in
     let count : length ts - length rest ≡ length front = omega (arith, a, b, d, k) in
-    sym (drop-map (terminal_of text) (length ts - length rest) ts) ∙ ap (drop (length ts - length rest)) e ∙ ap (λ n. drop n (front ++ terminals text rest)) count ∙ drop-append_seam front (terminals text rest)
+    sym (drop-map (terminal_of text) (length ts - length rest) ts) ∙ ap (drop (length ts - length rest)) e ∙ ap (λ n. drop n (front ++ terminals text rest)) count
+    ∙ drop-append_seam front (terminals text rest)
 
-place-found : (text : List ℕ) (ts rest : List Token) (end place : Place) → IsUnexpected (terminals text ts) (terminals text rest) → place ≡ first_place (drop (length ts - length rest) ts) end → IsUnexpectedAt text ts end place
+place-found : (text : List ℕ) (ts rest : List Token) (end place : Place) → IsUnexpected (terminals text ts) (terminals text rest)
+    → place ≡ first_place (drop (length ts - length rest) ts) end → IsUnexpectedAt text ts end place
 place-found text ts rest end place u e = record {
   before = take (length ts - length rest) ts;
   rest = drop (length ts - length rest) ts;
@@ -47,12 +49,14 @@ script-stops text ts stops.Memory h = tt
 script-stops text ts (stops.At rest) h = read-stops (terminals text ts) (terminals text rest.now) h
 
 -- lines are read, and tokens are left
-pub script-more : (text : List ℕ) (ts rest : List Token) (x : Lines) → Gives lines_s (terminals text ts) x (terminals text rest) → 1 ≤ length rest → IsUnexpected (terminals text ts) (terminals text rest)
+pub script-more : (text : List ℕ) (ts rest : List Token) (x : Lines) → Gives lines_s (terminals text ts) x (terminals text rest) → 1 ≤ length rest
+    → IsUnexpected (terminals text ts) (terminals text rest)
 script-more text ts [] x g n = absurd (omega arith)
 script-more text ts (t ∷ rest) x g n = read-more (terminals text ts) (terminals text rest) (terminal_of text t) x g
 
 -- lines are read, and no token is left
-pub script-whole : (text : List ℕ) (ts rest : List Token) (x : Lines) (s : Script) → Gives lines_s (terminals text ts) x (terminals text rest) → length rest < 1 → script_view s ≡ trimmed_all x → IsTree text ts s
+pub script-whole : (text : List ℕ) (ts rest : List Token) (x : Lines) (s : Script) → Gives lines_s (terminals text ts) x (terminals text rest) → length rest < 1
+    → script_view s ≡ trimmed_all x → IsTree text ts s
 script-whole text ts [] x s g n e = record { tree = x; spelled = read-whole (terminals text ts) x g; kept = e }
 script-whole text ts (t ∷ rest) x s g n e = absurd (omega arith)
 

@@ -4,7 +4,6 @@ use Rattle.dcx_shape.specs.declared.place.Place.{Place}
 use Rattle.dcx_tokens.specs.declared.token.Token.{Token}
 use Rattle.dcx_read.specs.declared.role.Role.{Role}
 use Rattle.dcx_read.specs.declared.role.Role.TheVariants as roles
-use Rattle.dcx_syntax.specs.declared.bracket.Bracket.{Bracket}
 use Rattle.dcx_syntax.specs.declared.bracket.Bracket.TheVariants.{Round, Square, Curly}
 use Rattle.dcx_syntax.specs.declared.tree.Comparison.{Comparison}
 use Rattle.dcx_syntax.specs.declared.tree.Sign.{Sign}
@@ -320,10 +319,6 @@ arg-starts (roles.Opens Square) bytes p = refl
 arg-starts (roles.Opens Curly) bytes p = refl
 arg-starts r bytes p = refl
 
-passed : (s : Symbol) (m : Move trees s) → is_shift m ≡ false → m ≡ pass
-passed s (shift push make) h = absurd cc
-passed s pass h = refl
-
 pub leads-nothing : (s s' : Symbol) (parts : List Symbol) (join : Join s' (s ∷ parts)) (m : Move trees s) → is_shift m ≡ false → leading trees s s' (λ ss. parts ++ ss) join m ≡ pass
 leads-nothing s s' parts join (shift push make) h = absurd cc
 leads-nothing s s' parts join pass h = refl
@@ -495,15 +490,6 @@ primary-stops source ts rest t e h = rw e (refused primary_s (terminals source (
 
 pub primary-none : (source : List ℕ) (ts : List Token) → ts ≡ [] → StopsAt primary_s (terminals source ts) (terminals source ts)
 primary-none source ts e = rw e (refused primary_s [] refl tt)
-
-pub not-primary : (r : Role) → (r ≡ roles.Name → ⊥) → ((n : _) → r ≡ roles.Number n → ⊥) → (r ≡ roles.Text → ⊥) → ((b : Bool) → r ≡ roles.Truth b → ⊥) → (r ≡ roles.None → ⊥) → ((b : Bracket) → r ≡ roles.Opens b → ⊥) → begins_primary r ≡ false
-not-primary roles.Name a b c d e f = absurd (a refl)
-not-primary (roles.Number n) a b c d e f = absurd (b n refl)
-not-primary roles.Text a b c d e f = absurd (c refl)
-not-primary (roles.Truth t) a b c d e f = absurd (d t refl)
-not-primary roles.None a b c d e f = absurd (e refl)
-not-primary (roles.Opens k) a b c d e f = absurd (f k refl)
-not-primary r a b c d e f = refl
 
 -- both a tree and its first part may be empty
 both-move : (s s' : Symbol) (join : Join s' (s ∷ [])) (x : Tree s) (x' : Tree s') (ss : List Symbol) → ((f : Forest trees ss) → join ss (front s ss x f) ≡ front s' ss x' f) → (m : Move trees s) (after : (ss : List Symbol) → _) (here : List Terminal) (later : _)

@@ -1,6 +1,6 @@
 -- Grammars that one token decides, part by part: moves that lead, and what is clear by a check of finitely many kinds.
 use Rattle.std.proofs.Common.{◌≡◌, Bool, true, false, cond, List, [], ◌∷◌, ◌++◌, refl, sym, ap, ◌∙◌}
-use Rattle.dcx_read.specs.Reading.{Trees, Forest, Move, shift, pass, Grammar, leading, otherwise}
+use Rattle.dcx_read.specs.Reading.{Forest, Move, shift, pass, Grammar, leading, otherwise}
 use Rattle.dcx_read.proofs.Sound.{Spelling, spelling}
 use Rattle.dcx_read.proofs.Complete.{Sets, front, is_shift, is_there, firsts, Clear, Right, Made, shifts}
 
@@ -105,12 +105,3 @@ abbrev pub lead-made : (G : Grammar) (s s' : G.trees.Symbol) (behind : List G.tr
 lead-made G s s' behind join x x' split (made_by t push make e y back) leads =
     made_by t (λ ss. push (behind ss)) (λ ss f. join ss (make (behind ss) f)) (leads ∙ ap (leading G.trees s s' behind join) e) x'
     (λ ss g. let a = split ss g in let f = back (behind ss) a.0 in (f.0, ap (join ss) f.1 ∙ a.1))
-
--- where the first of two moves is a shift, it is the one
-pub otherwise-first : (T : Trees) (s : T.Symbol) (m n : Move T s) → is_shift m ≡ true → otherwise T s m n ≡ m
-otherwise-first T s (shift push make) n h = refl
-otherwise-first T s pass n h = absurd cc
-
-pub leading-shifts : (T : Trees) (s s' : T.Symbol) (behind : List T.Symbol → List T.Symbol) (join : (ss : List T.Symbol) → Forest T (s ∷ behind ss) → Forest T (s' ∷ ss)) (m : Move T s) → is_shift m ≡ true → is_shift (leading T s s' behind join m) ≡ true
-leading-shifts T s s' behind join (shift push make) h = refl
-leading-shifts T s s' behind join pass h = h

@@ -3,10 +3,13 @@ use Rattle.std.proofs.Common.{List, [], ◌∷◌, ◌++◌}
 use Rattle.std.specs.Prelude.{codes}
 use Rattle.dcx_syntax.specs.declared.bracket.Bracket.TheVariants.{Round, Square}
 use Rattle.dcx_syntax.specs.Terminal.{Terminal, opens, closes, plain, name, plus_equal, for, in_word, dot, comma, colon, equal, newline, indent, dedent}
-use Rattle.dcx_syntax.specs.Expressions.{named, expr_text, compared_text, sum_text, added_text, term_text, scaled_text, factor_text, power_text, raised_text, exponent_text, postfix_text, trailers_text, args_text, more_args_text, arg_text, indices_text, index_text, optional_text, step_text, primary_text, items_text, more_items_text}
+use Rattle.dcx_syntax.specs.Expressions.{named, expr_text, compared_text, sum_text, added_text, term_text, scaled_text, factor_text, power_text, raised_text, exponent_text, postfix_text}
+use Rattle.dcx_syntax.specs.Expressions.{trailers_text, args_text, more_args_text, arg_text, indices_text, index_text, optional_text, step_text, primary_text, items_text, more_items_text}
 use Rattle.dcx_syntax.specs.Statements.{module_bytes, alias_text, balanced_text, line_text, lines_text}
 use Rattle.dcx_read.specs.Words.{ModuleAt}
-use Rattle.dcx_read.specs.Moves.{Symbol, Tree, Rest, AfterName, gets, goes_on, AfterFirst, is_assigned, is_added_to, value_is_set, begins, AfterDot, value_gets, attribute_of, AfterIndex, no_slice, slices, AfterRound, round_closed, round_goes_on, InRound, round_empty, round_holds, AfterSquare, square_lists, square_for, InSquare, square_empty, square_holds}
+use Rattle.dcx_read.specs.Moves.{Symbol, Tree, Rest, AfterName, gets, goes_on, AfterFirst, is_assigned, is_added_to, value_is_set, begins}
+use Rattle.dcx_read.specs.Moves.{AfterDot, value_gets, attribute_of, AfterIndex, no_slice, slices, AfterRound, round_closed, round_goes_on}
+use Rattle.dcx_read.specs.Moves.{InRound, round_empty, round_holds, AfterSquare, square_lists, square_for, InSquare, square_empty, square_holds}
 use Rattle.dcx_read.specs.Moves as symbols
 
 abbrev pub rest_text : Rest → List Terminal

@@ -3,7 +3,8 @@ use Rattle.std.proofs.Common.{◌≡◌, ℕ, Bool, true, false, cond, List, [],
 use Rattle.std.specs.Prelude.{nat_le}
 use Rattle.dcx_syntax.specs.declared.bracket.Bracket.{Bracket}
 use Rattle.dcx_syntax.specs.declared.bracket.Bracket.TheVariants.{Round, Square, Curly}
-use Rattle.dcx_syntax.specs.Terminal.{Plain, Terminal, opens, closes, plain, name, number, text, truth, none, compares, signs, scales, power, plus_equal, import, for, print, as_word, in_word, dot, comma, colon, equal, newline, indent, dedent, other}
+use Rattle.dcx_syntax.specs.Terminal.{Plain, Terminal, opens, closes, plain, name, number, text, truth, none, compares, signs, scales, power}
+use Rattle.dcx_syntax.specs.Terminal.{plus_equal, import, for, print, as_word, in_word, dot, comma, colon, equal, newline, indent, dedent, other}
 use Rattle.dcx_read.specs.Moves.{Symbol, trees}
 use Rattle.dcx_read.specs.Moves as symbols
 use Rattle.dcx_read.proofs.Complete.{Sets}
@@ -307,7 +308,8 @@ on symbols.lines_s = up_to 12
 on s = nothing_on
 
 abbrev kinds : List Kind
-kinds = opens_round ∷ opens_square ∷ opens_curly ∷ closes_round ∷ closes_square ∷ closes_curly ∷ a_name ∷ a_value ∷ a_comparison ∷ a_sign ∷ a_scaling ∷ a_power ∷ a_plus_equal ∷ an_import ∷ a_for ∷ a_print ∷ an_as ∷ an_in ∷ a_dot ∷ a_comma ∷ a_colon ∷ an_equal ∷ a_newline ∷ an_indent ∷ a_dedent ∷ another ∷ []
+kinds = opens_round ∷ opens_square ∷ opens_curly ∷ closes_round ∷ closes_square ∷ closes_curly ∷ a_name ∷ a_value ∷ a_comparison ∷ a_sign ∷ a_scaling ∷ a_power ∷ a_plus_equal
+    ∷ an_import ∷ a_for ∷ a_print ∷ an_as ∷ an_in ∷ a_dot ∷ a_comma ∷ a_colon ∷ an_equal ∷ a_newline ∷ an_indent ∷ a_dedent ∷ another ∷ []
 
 abbrev pub all_in : List Kind → (Kind → Bool) → Bool
 all_in [] P = true
@@ -363,7 +365,37 @@ every_tested P h0 k =
     let h23 = others P _ _ h22 in
     let h24 = others P _ _ h23 in
     let h25 = others P _ _ h24 in
-    elim k as (λ (k : Kind). P k ≡ true) [ opens_round ↦ first P _ _ h0 | opens_square ↦ first P _ _ h1 | opens_curly ↦ first P _ _ h2 | closes_round ↦ first P _ _ h3 | closes_square ↦ first P _ _ h4 | closes_curly ↦ first P _ _ h5 | a_name ↦ first P _ _ h6 | a_value ↦ first P _ _ h7 | a_comparison ↦ first P _ _ h8 | a_sign ↦ first P _ _ h9 | a_scaling ↦ first P _ _ h10 | a_power ↦ first P _ _ h11 | a_plus_equal ↦ first P _ _ h12 | an_import ↦ first P _ _ h13 | a_for ↦ first P _ _ h14 | a_print ↦ first P _ _ h15 | an_as ↦ first P _ _ h16 | an_in ↦ first P _ _ h17 | a_dot ↦ first P _ _ h18 | a_comma ↦ first P _ _ h19 | a_colon ↦ first P _ _ h20 | an_equal ↦ first P _ _ h21 | a_newline ↦ first P _ _ h22 | an_indent ↦ first P _ _ h23 | a_dedent ↦ first P _ _ h24 | another ↦ first P _ _ h25 ]
+    elim k as (λ (k : Kind). P k ≡ true) [
+      | opens_round ↦ first P _ _ h0
+      | opens_square ↦ first P _ _ h1
+      | opens_curly ↦ first P _ _ h2
+      | closes_round ↦ first P _ _ h3
+      | closes_square ↦ first P _ _ h4
+      | closes_curly ↦ first P _ _ h5
+      | a_name ↦ first P _ _ h6
+      | a_value ↦ first P _ _ h7
+      | a_comparison ↦ first P _ _ h8
+      | a_sign ↦ first P _
+          _ h9
+      | a_scaling ↦ first P _ _ h10
+      | a_power ↦ first P _ _ h11
+      | a_plus_equal ↦ first P _ _ h12
+      | an_import ↦ first P _ _ h13
+      | a_for ↦ first P _ _ h14
+      | a_print ↦
+          first P _ _ h15
+      | an_as ↦ first P _ _ h16
+      | an_in ↦ first P _ _ h17
+      | a_dot ↦ first P _ _ h18
+      | a_comma ↦ first P _ _ h19
+      | a_colon ↦ first P _ _ h20
+      | an_equal ↦ first
+          P _ _ h21
+      | a_newline ↦ first P _ _ h22
+      | an_indent ↦ first P _ _ h23
+      | a_dedent ↦ first P _ _ h24
+      | another ↦ first P _ _ h25
+    ]
 
 pub every : (P : Kind → Bool) → all P ≡ true → (k : Kind) → P k ≡ true
 unfolding tested

@@ -23,12 +23,15 @@ module _ (G : Grammar) (spell : Spelling G.trees) (d : Faithful G spell) (some :
   at_once : (ts : List G.trees.Token) (ss : List G.trees.Symbol) → Begins G.trees spell ts ts ss
   at_once ts ss = record { front = []; parts = refl; trees = some_trees G.trees some ss; more = spelling G.trees spell ss (some_trees G.trees some ss); begun = refl }
 
-  skipped-viable : (s : G.trees.Symbol) (ss : List G.trees.Symbol) (o : Option (G.trees.Tree s)) → SpellsNothing G.trees spell s o → (ts : List G.trees.Token) (r : Read G ss) → Viable G spell ts ss r → Viable G spell ts (s ∷ ss) (skipped G s ss o ts r)
+  skipped-viable : (s : G.trees.Symbol) (ss : List G.trees.Symbol) (o : Option (G.trees.Tree s)) → SpellsNothing G.trees spell s o → (ts : List G.trees.Token) (r : Read G ss)
+      → Viable G spell ts ss r → Viable G spell ts (s ∷ ss) (skipped G s ss o ts r)
   skipped-viable s ss None e ts r h = at_once ts (s ∷ ss)
   skipped-viable s ss (Some x) e ts (Ok f) h = tt
-  skipped-viable s ss (Some x) e ts (Err rest) h = record { front = h.front; parts = h.parts; trees = (x, h.trees); more = h.more; begun = ap (λ (y : List G.trees.Token). y ++ spelling G.trees spell ss h.trees) e ∙ h.begun }
+  skipped-viable s ss (Some x) e ts (Err rest) h = record
+      { front = h.front; parts = h.parts; trees = (x, h.trees); more = h.more; begun = ap (λ (y : List G.trees.Token). y ++ spelling G.trees spell ss h.trees) e ∙ h.begun }
 
-  made-viable : (t : G.trees.Token) (ts : List G.trees.Token) (s : G.trees.Symbol) (ss : List G.trees.Symbol) (push : List G.trees.Symbol → List G.trees.Symbol) (make : (ss : List G.trees.Symbol) → Forest G.trees (push ss) → Forest G.trees (s ∷ ss)) → Spells G.trees spell s t (shift push make)
+  made-viable : (t : G.trees.Token) (ts : List G.trees.Token) (s : G.trees.Symbol) (ss : List G.trees.Symbol) (push : List G.trees.Symbol → List G.trees.Symbol)
+      (make : (ss : List G.trees.Symbol) → Forest G.trees (push ss) → Forest G.trees (s ∷ ss)) → Spells G.trees spell s t (shift push make)
       → (r : Read G (push ss)) → Viable G spell ts (push ss) r → Viable G spell (t ∷ ts) (s ∷ ss) (on_ok (make ss) r)
   made-viable t ts s ss push make e (Ok f) h = tt
   made-viable t ts s ss push make e (Err rest) h = record {
@@ -39,7 +42,8 @@ module _ (G : Grammar) (spell : Spelling G.trees) (d : Faithful G spell) (some :
     begun = e ss h.trees ∙ ap (λ (x : List G.trees.Token). t ∷ x) h.begun;
   }
 
-  shifted-viable : (t : G.trees.Token) (ts : List G.trees.Token) (s : G.trees.Symbol) (ss : List G.trees.Symbol) (m : Move G.trees s) → Spells G.trees spell s t m → (after : (ss : List G.trees.Symbol) → Read G ss) (passed : Read G (s ∷ ss))
+  shifted-viable : (t : G.trees.Token) (ts : List G.trees.Token) (s : G.trees.Symbol) (ss : List G.trees.Symbol) (m : Move G.trees s) → Spells G.trees spell s t m
+      → (after : (ss : List G.trees.Symbol) → Read G ss) (passed : Read G (s ∷ ss))
       → ((ss : List G.trees.Symbol) → Viable G spell ts ss (after ss)) → Viable G spell (t ∷ ts) (s ∷ ss) passed → Viable G spell (t ∷ ts) (s ∷ ss) (shifted G s ss m after passed)
   shifted-viable t ts s ss (shift push make) e after passed h k = made-viable t ts s ss push make e (after (push ss)) (h (push ss))
   shifted-viable t ts s ss pass e after passed h k = k
@@ -47,7 +51,8 @@ module _ (G : Grammar) (spell : Spelling G.trees) (d : Faithful G spell) (some :
   step-viable : (t : G.trees.Token) (ts : List G.trees.Token) (after : (ss : List G.trees.Symbol) → Read G ss) (ss : List G.trees.Symbol)
       → ((ss : List G.trees.Symbol) → Viable G spell ts ss (after ss)) → Viable G spell (t ∷ ts) ss (step G t ts after ss)
   step-viable t ts after [] h = at_once (t ∷ ts) []
-  step-viable t ts after (s ∷ ss) h = shifted-viable t ts s ss (G.move s t) (d.moves s t) after _ h (skipped-viable s ss (G.empty s) (d.empties s) (t ∷ ts) (step G t ts after ss) (step-viable t ts after ss h))
+  step-viable t ts after (s ∷ ss) h = shifted-viable t ts s ss (G.move s t) (d.moves s t) after _ h
+      (skipped-viable s ss (G.empty s) (d.empties s) (t ∷ ts) (step G t ts after ss) (step-viable t ts after ss h))
 
   finish-viable : (ss : List G.trees.Symbol) → Viable G spell [] ss (finish G ss)
   finish-viable [] = tt

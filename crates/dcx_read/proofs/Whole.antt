@@ -4,7 +4,8 @@ use Rattle.std.proofs.lemmas.List.{append-nil, append_cancel_right}
 use Rattle.dcx_shape.specs.declared.place.Place.{Place}
 use Rattle.dcx_syntax.specs.declared.tree.Module.TheVariants.{Numpy}
 use Rattle.dcx_syntax.specs.Terminal.{Terminal}
-use Rattle.dcx_syntax.specs.Expressions.{Expr, expr, no_comparison, Sum, sum, no_addition, Term, term, no_scaling, Factor, factor, Power, power_of, no_power, exponent, Postfix, postfix, no_trailer, no_args, args_end, by_place, no_index, at, absent, no_step, none_at, no_items, items_end}
+use Rattle.dcx_syntax.specs.Expressions.{Expr, expr, no_comparison, Sum, sum, no_addition, Term, term, no_scaling, Factor, factor, Power, power_of, no_power, exponent}
+use Rattle.dcx_syntax.specs.Expressions.{Postfix, postfix, no_trailer, no_args, args_end, by_place, no_index, at, absent, no_step, none_at, no_items, items_end}
 use Rattle.dcx_syntax.specs.Statements.{nothing, evaluate, Lines, no_lines, lines_text}
 use Rattle.dcx_read.specs.Reading.{Forest, Read, read}
 use Rattle.dcx_read.specs.Moves.{Symbol, lines_s, Tree, trees, grammar}
@@ -101,7 +102,8 @@ complete x us e = read-complete grammar text sets decided us (lines_s ∷ []) (x
 
 sound : (x : Lines) (us : List Terminal) → read grammar us (lines_s ∷ []) ≡ done (alone x) → lines_text x ≡ us
 unfolding alone done
-sound x us e = sym (append-nil (lines_text x)) ∙ subst (λ (r : Read grammar (lines_s ∷ [])). SpelledBy grammar text us (lines_s ∷ []) r) e (read-sound grammar text (faithful grammar text sets decided) us (lines_s ∷ []))
+sound x us e = sym (append-nil (lines_text x))
+    ∙ subst (λ (r : Read grammar (lines_s ∷ [])). SpelledBy grammar text us (lines_s ∷ []) r) e (read-sound grammar text (faithful grammar text sets decided) us (lines_s ∷ []))
 
 one-tree : (x y : Lines) (us : List Terminal) → read grammar us (lines_s ∷ []) ≡ done (alone x) → lines_text y ≡ us → y ≡ x
 unfolding alone done

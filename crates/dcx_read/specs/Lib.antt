@@ -1,3 +1,4 @@
+-- What the grammar sees in tokens, what reading by one token gives, and what parsing a file answers.
 pub mod Role
 pub mod Terminals
 pub mod Words

@@ -54,7 +54,8 @@ pub record BalancedTo (source : List ℕ) (ts rest : List Token) : Type 0 where
 -- an expression and the line's end are read
 abbrev pub ReadsEnded : {X : Type 0} (source : List ℕ) → (X → Expr × List Token) → Result X Stop → List Token → Type 0
 ReadsEnded source view (Ok x) ts = (mid : List Token) × (Gives expr_s (terminals source ts) (view x).0 (terminals source mid) × Gives newline_s (terminals source mid) tt (terminals source (view x).1))
-ReadsEnded source view (Err e) ts = Stops expr_s source (terminals source ts) e ⊎ ((x : Expr) × ((mid : List Token) × (Gives expr_s (terminals source ts) x (terminals source mid) × Stops newline_s source (terminals source mid) e)))
+ReadsEnded source view (Err e) ts = Stops expr_s source (terminals source ts) e
+    ⊎ ((x : Expr) × ((mid : List Token) × (Gives expr_s (terminals source ts) x (terminals source mid) × Stops newline_s source (terminals source mid) e)))
 
 -- the first tokens are this name, a dot, the name `value` at this place, and `=`
 pub record FrontValue (source : List ℕ) (ts : List Token) (t : Token) (place : Place) (rest : List Token) : Type 0 where
@@ -72,7 +73,8 @@ LacksValue source ts = (t : Token) (place : Place) (rest : List Token) → Front
 
 -- the head of a `for` line is read, up to its first line
 abbrev pub ReadsHead : {X : Type 0} (source : List ℕ) (place : Place) → (X → Named × (Expr × List Token)) → Result X Stop → List Terminal → Type 0
-ReadsHead source place view (Ok x) us = Progress line_s us (terminals source (view x).1.1) (line_s ∷ lines_s ∷ dedent_s ∷ []) (λ ss f. let t : Forest trees (line_s ∷ ss) = (repeats place (view x).0 (view x).1.0 f.0 f.1.0, f.1.1.1) in t)
+ReadsHead source place view (Ok x) us = Progress line_s us (terminals source (view x).1.1) (line_s ∷ lines_s ∷ dedent_s ∷ [])
+    (λ ss f. let t : Forest trees (line_s ∷ ss) = (repeats place (view x).0 (view x).1.0 f.0 f.1.0, f.1.1.1) in t)
 ReadsHead source place view (Err e) us = Stops line_s source us e
 
 abbrev pub begins_line : Role → Bool
@@ -90,5 +92,7 @@ module_at which place = record { which = which; place = place }
 
 -- the first line of a block, the others and the end of the block are read
 abbrev pub ReadsBody : {X : Type 0} (source : List ℕ) → (X → (Line × Lines) × List Token) → Result X Stop → List Terminal → Type 0
-ReadsBody source view (Ok x) us = (t : Line) × ((ts : Lines) × ((mid : List Terminal) × ((end : List Terminal) × (((view x).0.0 ≡ trimmed t) × (((view x).0.1 ≡ trimmed_all ts) × (Gives line_s us t mid × (Gives lines_s mid ts end × Gives dedent_s end tt (terminals source (view x).1))))))))
-ReadsBody source view (Err e) us = (from : List Terminal) (make : Line → Lines → Line) → Progress line_s from us (line_s ∷ lines_s ∷ dedent_s ∷ []) (λ ss f. let t : Forest trees (line_s ∷ ss) = (make f.0 f.1.0, f.1.1.1) in t) → Stops line_s source from e
+ReadsBody source view (Ok x) us = (t : Line) × ((ts : Lines) × ((mid : List Terminal) × ((end : List Terminal) × (((view x).0.0 ≡ trimmed t)
+    × (((view x).0.1 ≡ trimmed_all ts) × (Gives line_s us t mid × (Gives lines_s mid ts end × Gives dedent_s end tt (terminals source (view x).1))))))))
+ReadsBody source view (Err e) us = (from : List Terminal) (make : Line → Lines → Line)
+    → Progress line_s from us (line_s ∷ lines_s ∷ dedent_s ∷ []) (λ ss f. let t : Forest trees (line_s ∷ ss) = (make f.0 f.1.0, f.1.1.1) in t) → Stops line_s source from e

@@ -133,4 +133,5 @@ Makes view seen (Err e) (Err d) = e ≡ d
 -- a tree of a is read, and behind it one of b
 abbrev pub ReadsPair : {X : Type 0} (a b : Symbol) (source : List ℕ) → (X → (Tree a × Tree b) × List Token) → Result X Stop → List Terminal → Type 0
 ReadsPair a b source view (Ok x) us = (mid : List Terminal) × (Gives a us (view x).0.0 mid × Gives b mid (view x).0.1 (terminals source (view x).1))
-ReadsPair a b source view (Err e) us = (s : Symbol) (from : List Terminal) (join : (ss : List Symbol) → Forest trees (a ∷ b ∷ ss) → Forest trees (s ∷ ss)) → Progress s from us (a ∷ b ∷ []) join → Stops s source from e
+ReadsPair a b source view (Err e) us = (s : Symbol) (from : List Terminal) (join : (ss : List Symbol) → Forest trees (a ∷ b ∷ ss) → Forest trees (s ∷ ss))
+    → Progress s from us (a ∷ b ∷ []) join → Stops s source from e

@@ -4,7 +4,35 @@ use Rattle.std.specs.List.{slice_range}
 use Rattle.dcx_shape.specs.declared.place.Place.{Place}
 use Rattle.dcx_tokens.specs.declared.token.Token.{Token}
 use Rattle.dcx_syntax.specs.declared.tree.Named.{Named}
-use Rattle.dcx_syntax.specs.Terminal.{Terminal, opens, closes, plain, name, number, text, truth, none, compares, signs, scales, power, plus_equal, import, for, print, as_word, in_word, dot, comma, colon, equal, newline, indent, dedent, other}
+use Rattle.dcx_syntax.specs.Terminal.{
+  Terminal,
+  opens,
+  closes,
+  plain,
+  name,
+  number,
+  text,
+  truth,
+  none,
+  compares,
+  signs,
+  scales,
+  power,
+  plus_equal,
+  import,
+  for,
+  print,
+  as_word,
+  in_word,
+  dot,
+  comma,
+  colon,
+  equal,
+  newline,
+  indent,
+  dedent,
+  other,
+}
 use Rattle.dcx_read.specs.declared.role.Role.{Role}
 use Rattle.dcx_read.specs.declared.role.Role.TheVariants as roles
 use Rattle.dcx_read.specs.Role.{role_of}

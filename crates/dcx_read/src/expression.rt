@@ -6,8 +6,47 @@ ghost use Rattle.dcx_syntax.specs.Terminal.{opens, plain};
 ghost use Rattle.dcx_read.specs.Terminals.{terminals};
 ghost use Rattle.dcx_syntax.specs.Terminal as marks_of;
 ghost use Rattle.dcx_syntax.specs.Expressions.{exponent, no_trailer, indexed, slice, tuple, list, comprehension};
-ghost use Rattle.dcx_syntax.specs.View.{args_of, items_of, more_items_of, indices_of, arg_view, index_view, primary_view, step_view, trailer_view, expr_view, factor_view, postfix_view, power_view, sum_view, term_view, optional_view};
-ghost use Rattle.dcx_read.specs.Moves.{expr_s, sum_s, term_s, factor_s, power_s, exponent_s, postfix_s, trailers_s, args_s, arg_s, indices_s, index_s, optional_s, step_s, primary_s, after_round_s, after_square_s, items_s, round_goes_on, square_for, square_lists};
+ghost use Rattle.dcx_syntax.specs.View.{
+  args_of,
+  items_of,
+  more_items_of,
+  indices_of,
+  arg_view,
+  index_view,
+  primary_view,
+  step_view,
+  trailer_view,
+  expr_view,
+  factor_view,
+  postfix_view,
+  power_view,
+  sum_view,
+  term_view,
+  optional_view,
+};
+ghost use Rattle.dcx_read.specs.Moves.{
+  expr_s,
+  sum_s,
+  term_s,
+  factor_s,
+  power_s,
+  exponent_s,
+  postfix_s,
+  trailers_s,
+  args_s,
+  arg_s,
+  indices_s,
+  index_s,
+  optional_s,
+  step_s,
+  primary_s,
+  after_round_s,
+  after_square_s,
+  items_s,
+  round_goes_on,
+  square_for,
+  square_lists,
+};
 ghost use Rattle.dcx_read.specs.Leaves.{ReadsLeaf, EndsByComma};
 ghost use Rattle.dcx_read.specs.Steps.{Reads, ReadsOne, ReadsPair, Makes, MakesOne, Front, Lacks, IsSigns};
 

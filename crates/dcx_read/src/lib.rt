@@ -5,7 +5,8 @@
 //!
 //! | what must hold | where |
 //! |---|---|
-//! | a file is read exactly where its bytes spell a script, whose tree is the answer; each refusal comes exactly where the one order of refusals says, with its place | `parse`, by `specs/Parses.antt` and `read_text` of `dcx_tokens` |
+//! | a file is read exactly where its bytes spell a script, whose tree is the answer | `parse`, by `specs/Parses.antt` and `read_text` of `dcx_tokens` |
+//! | each refusal comes exactly where the one order of refusals says, with its place | `parse`, by `specs/Parses.antt` and `read_text` of `dcx_tokens` |
 //! | the tree of tokens is read, or the first token is told such that no script begins with the tokens up to it; want of memory is free | `parser::parse_tokens`, by `specs/Parses.antt` |
 //! | tokens have at most one tree | `laws::scripts`, `one` |
 //! | tokens have a tree, or a first token such that no script begins with the tokens up to it | `laws::scripts`, `decided` |

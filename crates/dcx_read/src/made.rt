@@ -1,9 +1,70 @@
 //! Trees from their parts.
 
 ghost use Rattle.std.specs.Prelude.{◌≡◌, map, IfOk};
-ghost use Rattle.dcx_syntax.specs.Expressions.{expr, no_comparison, compared, sum, no_addition, added, term, no_scaling, scaled, factor, power_of, no_power, raised, exponent, postfix, no_trailer, attribute, call, indexed, by_place, by_name, at, slice, no_step, step, number_at, text_at, name_at, truth_at, none_at, unit, round, tuple, empty_list, list, comprehension};
+ghost use Rattle.dcx_syntax.specs.Expressions.{
+  expr,
+  no_comparison,
+  compared,
+  sum,
+  no_addition,
+  added,
+  term,
+  no_scaling,
+  scaled,
+  factor,
+  power_of,
+  no_power,
+  raised,
+  exponent,
+  postfix,
+  no_trailer,
+  attribute,
+  call,
+  indexed,
+  by_place,
+  by_name,
+  at,
+  slice,
+  no_step,
+  step,
+  number_at,
+  text_at,
+  name_at,
+  truth_at,
+  none_at,
+  unit,
+  round,
+  tuple,
+  empty_list,
+  list,
+  comprehension,
+};
 ghost use Rattle.dcx_syntax.specs.Statements.{nothing, importing, assign, add_to, set_value, evaluate, prints, repeats};
-ghost use Rattle.dcx_syntax.specs.View.{line_view, lines_of, chained, args_of, items_of, more_items_of, indices_of, arg_view, index_view, primary_view, step_view, trailer_view, added_view, compared_view, expr_view, factor_view, postfix_view, power_view, raised_view, scaled_view, sum_view, term_view, optional_view};
+ghost use Rattle.dcx_syntax.specs.View.{
+  line_view,
+  lines_of,
+  chained,
+  args_of,
+  items_of,
+  more_items_of,
+  indices_of,
+  arg_view,
+  index_view,
+  primary_view,
+  step_view,
+  trailer_view,
+  added_view,
+  compared_view,
+  expr_view,
+  factor_view,
+  postfix_view,
+  power_view,
+  raised_view,
+  scaled_view,
+  sum_view,
+  term_view,
+  optional_view,
+};
 ghost use Rattle.dcx_read.specs.Steps.{Makes};
 
 use crate::front::Stop;

@@ -1,3 +1,3 @@
--- What the contracts of this crate cite.
+-- What contracts cite: the refusals with their numbers and names, and how they are made.
 pub mod Refusals
 pub mod Made

@@ -39,7 +39,8 @@ grouped x y z t u = simp append_assoc
 pub answer_read : (layout : Layout) (sense : Sense) (a b : Answer) (r s : List ℕ) → IsAnswerOf layout a → IsAnswerOf layout b → answer_text sense a ++ r ≡ answer_text sense b ++ s → (a ≡ b) × (r ≡ s)
 unfolding answer_text var_lines ray_lines dual_lines
 answer_read layout sense (Optimal v p d) (Optimal w q k) r s h l e =
-    let number = number_read (codes "value") (user_number sense v) (user_number sense w) _ _ (append_cancel_left (codes " optimal\n") _ _ (sym (grouped (codes " optimal\n") _ _ (dual_lines d) r) ∙ e ∙ grouped (codes " optimal\n") _ _ (dual_lines k) s)) in
+    let number = number_read (codes "value") (user_number sense v)
+    (user_number sense w) _ _ (append_cancel_left (codes " optimal\n") _ _ (sym (grouped (codes " optimal\n") _ _ (dual_lines d) r) ∙ e ∙ grouped (codes " optimal\n") _ _ (dual_lines k) s)) in
     let values = points_read (codes "var") p q _ _ (h.0 ∙ sym l.0) number.1 in
     let multipliers = duals_read d k r s (h.1 ∙ sym l.1) values.1 in
     let same_value : v ≡ w = user_number_injective sense v w number.0 in
@@ -53,7 +54,8 @@ answer_read layout sense (Infeasible d g) (Infeasible k m) r s h l e =
     let whole = λ (x y z t : List ℕ).
     let regrouped : ((x ++ y) ++ z) ++ t ≡ x ++ (y ++ (z ++ t)) = simp append_assoc in
     regrouped in
-    let number = number_read (codes "gap") g m _ _ (append_cancel_left (codes " infeasible\n") _ _ (sym (whole (codes " infeasible\n") _ (dual_lines d) r) ∙ e ∙ whole (codes " infeasible\n") _ (dual_lines k) s)) in
+    let number = number_read
+    (codes "gap") g m _ _ (append_cancel_left (codes " infeasible\n") _ _ (sym (whole (codes " infeasible\n") _ (dual_lines d) r) ∙ e ∙ whole (codes " infeasible\n") _ (dual_lines k) s)) in
     let multipliers = duals_read d k r s (h ∙ sym l) number.1 in
     let same_gap : g ≡ m = number.0 in
     let same_duals : d ≡ k = multipliers.0 in
@@ -63,9 +65,12 @@ answer_read layout sense (Unbounded p y b m) (Optimal w q k) r s h l e = absurd 
 answer_read layout sense (Unbounded p y b m) (Infeasible k g) r s h l e = absurd (omega (arith, second_same _ 117 _ 105 _ _ e))
 answer_read layout sense (Unbounded p y b m) (Unbounded q z c n) r s h l e =
     let whole = λ (x t v u : List ℕ) (f g : Frac).
-    let regrouped : ((((x ++ number_line (codes "bound") f) ++ number_line (codes "slope") g) ++ t) ++ v) ++ u ≡ x ++ (number_line (codes "bound") f ++ (number_line (codes "slope") g ++ (t ++ (v ++ u)))) = simp append_assoc in
+    let regrouped : ((((x ++ number_line (codes "bound") f) ++ number_line (codes "slope") g) ++ t) ++ v) ++ u
+    ≡ x ++ (number_line (codes "bound") f ++ (number_line (codes "slope") g ++ (t ++ (v ++ u)))) = simp append_assoc in
     regrouped in
-    let bound = number_read (codes "bound") (user_number sense b) (user_number sense c) _ _ (append_cancel_left (codes " unbounded\n") _ _ (sym (whole (codes " unbounded\n") _ _ r (user_number sense b) m) ∙ e ∙ whole (codes " unbounded\n") _ _ s (user_number sense c) n)) in
+    let bound = number_read (codes "bound") (user_number sense b)
+    (user_number sense c) _ _ (append_cancel_left (codes " unbounded\n") _ _ (sym (whole (codes " unbounded\n") _ _ r (user_number sense b) m) ∙ e
+    ∙ whole (codes " unbounded\n") _ _ s (user_number sense c) n)) in
     let slope = number_read (codes "slope") m n _ _ bound.1 in
     let values = points_read (codes "var") p q _ _ (h.0 ∙ sym l.0) slope.1 in
     let changes = points_read (codes "ray") y z r s (h.1 ∙ sym l.1) values.1 in

@@ -1,3 +1,4 @@
+-- The lemmas by which a report tells the answers of its run.
 pub mod AnswerReading
 pub mod Negation
 pub mod Numbered

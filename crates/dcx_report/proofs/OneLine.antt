@@ -59,7 +59,8 @@ sides_line Scalar = literal (codes "()") refl
 sides_line (Vector n) = joined (codes "(" ++ decimal n) (codes ")") (joined (codes "(") (decimal n) (literal (codes "(") refl) (number n)) (literal (codes ")") refl)
 sides_line (Matrix m n) =
     joined (codes "(" ++ decimal m ++ codes "," ++ decimal n) (codes ")")
-    (joined (codes "(" ++ decimal m ++ codes ",") (decimal n) (joined (codes "(" ++ decimal m) (codes ",") (joined (codes "(") (decimal m) (literal (codes "(") refl) (number m)) (literal (codes ",") refl)) (number n))
+    (joined (codes "(" ++ decimal m ++ codes ",") (decimal n) (joined (codes "(" ++ decimal m) (codes ",") (joined (codes "(") (decimal m) (literal (codes "(") refl) (number m))
+    (literal (codes ",") refl)) (number n))
     (literal (codes ")") refl)
 
 shape_line : (s : Shape) → IsLine (shape_text s)

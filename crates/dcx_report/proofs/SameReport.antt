@@ -37,7 +37,8 @@ feed : (xs : List ℕ) → BeginsWithout (λ c. c ≢ 10) (10 ∷ xs)
 feed xs = record { byte = 10; tail = xs; is = refl; without = λ h. h refl }
 
 -- how a setting ends, and what stands behind it
-end_read : (layout : Layout) (sense : Sense) (p q : Option Place) (x y : OutcomeEnd) (r s : List ℕ) → IsEndOf layout x → IsEndOf layout y → end_text sense p x ++ r ≡ end_text sense q y ++ s → (answer_of x ≡ answer_of y) × (r ≡ s)
+end_read : (layout : Layout) (sense : Sense) (p q : Option Place) (x y : OutcomeEnd) (r s : List ℕ) → IsEndOf layout x → IsEndOf layout y → end_text sense p x ++ r ≡ end_text sense q y ++ s
+    → (answer_of x ≡ answer_of y) × (r ≡ s)
 unfolding end_text stopped_text
 end_read layout sense p q (the.Answer a) (the.Answer b) r s h k e =
     let parts = answer_read layout sense a b r s h k e in
@@ -49,11 +50,13 @@ end_read layout sense p q (the.Stop stop) (the.Stop other) r s h k e =
     let regrouped : (((codes " stopped " ++ stop_name c) ++ stop_details z c) ++ 10 ∷ []) ++ t ≡ codes " stopped " ++ ((stop_name c ++ stop_details z c) ++ 10 ∷ t) = simp append_assoc in
     regrouped in
     let rest = append_cancel_left (codes " stopped ") _ _ (sym (whole p stop r) ∙ e ∙ whole q other s) in
-    let parts = same_before (λ c. c ≢ 10) (stop_name stop ++ stop_details p stop) (stop_name other ++ stop_details q other) (10 ∷ r) (10 ∷ s) (stop_line p stop h) (stop_line q other k) (feed r) (feed s) rest in
+    let parts = same_before (λ c. c ≢ 10) (stop_name stop ++ stop_details p stop) (stop_name other ++ stop_details q other) (10 ∷ r) (10 ∷ s) (stop_line p stop h) (stop_line q other k) (feed r)
+    (feed s) rest in
     let behind : 10 ∷ r ≡ 10 ∷ s = parts.1 in
     (refl, (cc))
 
-outcome_read : (layout : Layout) (word : Word) (sense : Sense) (n : ℕ) (x y : Outcome) (r s : List ℕ) → IsEndOf layout x.end → IsEndOf layout y.end → outcome_text word sense (n, x) ++ r ≡ outcome_text word sense (n, y) ++ s → (answer_of x.end ≡ answer_of y.end) × (r ≡ s)
+outcome_read : (layout : Layout) (word : Word) (sense : Sense) (n : ℕ) (x y : Outcome) (r s : List ℕ) → IsEndOf layout x.end → IsEndOf layout y.end
+    → outcome_text word sense (n, x) ++ r ≡ outcome_text word sense (n, y) ++ s → (answer_of x.end ≡ answer_of y.end) × (r ≡ s)
 unfolding outcome_text
 outcome_read layout word sense n x y r s h k e =
     let front = word_text word ++ codes " " ++ decimal n in
@@ -66,15 +69,20 @@ unfolding outcome_text word_text
 first_of_outcome Solve sense numbered r t e = omega (arith, first_same 115 97 _ _ e)
 first_of_outcome Setting sense numbered r t e = omega (arith, first_same 115 97 _ _ e)
 
-outcomes_read : (layout : Layout) (word : Word) (sense : Sense) (n : ℕ) (xs ys : List Outcome) (r s : List ℕ) → AllByRecursion (λ o. IsEndOf layout o.end) xs → AllByRecursion (λ o. IsEndOf layout o.end) ys → flat_map (outcome_text word sense) (enumerate_from n xs) ++ 97 ∷ r ≡ flat_map (outcome_text word sense) (enumerate_from n ys) ++ 97 ∷ s → answers_of xs ≡ answers_of ys
+outcomes_read : (layout : Layout) (word : Word) (sense : Sense) (n : ℕ) (xs ys : List Outcome) (r s : List ℕ) → AllByRecursion (λ o. IsEndOf layout o.end) xs
+    → AllByRecursion (λ o. IsEndOf layout o.end) ys → flat_map (outcome_text word sense) (enumerate_from n xs) ++ 97 ∷ r ≡ flat_map (outcome_text word sense) (enumerate_from n ys) ++ 97 ∷ s
+    → answers_of xs ≡ answers_of ys
 outcomes_read layout word sense n [] [] r s h k e = refl
 outcomes_read layout word sense n [] (y ∷ ys) r s h k e =
-    absurd (first_of_outcome word sense (n, y) (flat_map (outcome_text word sense) (enumerate_from (n + 1) ys) ++ 97 ∷ s) r (sym (append_assoc (outcome_text word sense (n, y)) (flat_map (outcome_text word sense) (enumerate_from (n + 1) ys)) (97 ∷ s)) ∙ sym e))
+    absurd (first_of_outcome word sense (n, y) (flat_map (outcome_text word sense) (enumerate_from (n + 1) ys) ++ 97 ∷ s) r
+    (sym (append_assoc (outcome_text word sense (n, y)) (flat_map (outcome_text word sense) (enumerate_from (n + 1) ys)) (97 ∷ s)) ∙ sym e))
 outcomes_read layout word sense n (x ∷ xs) [] r s h k e =
-    absurd (first_of_outcome word sense (n, x) (flat_map (outcome_text word sense) (enumerate_from (n + 1) xs) ++ 97 ∷ r) s (sym (append_assoc (outcome_text word sense (n, x)) (flat_map (outcome_text word sense) (enumerate_from (n + 1) xs)) (97 ∷ r)) ∙ e))
+    absurd (first_of_outcome word sense (n, x) (flat_map (outcome_text word sense) (enumerate_from (n + 1) xs) ++ 97 ∷ r) s
+    (sym (append_assoc (outcome_text word sense (n, x)) (flat_map (outcome_text word sense) (enumerate_from (n + 1) xs)) (97 ∷ r)) ∙ e))
 outcomes_read layout word sense n (x ∷ xs) (y ∷ ys) r s h k e =
     let others = λ (zs : List Outcome). flat_map (outcome_text word sense) (enumerate_from (n + 1) zs) in
-    let parts = outcome_read layout word sense n x y (others xs ++ 97 ∷ r) (others ys ++ 97 ∷ s) h.0 k.0 (sym (append_assoc (outcome_text word sense (n, x)) (others xs) (97 ∷ r)) ∙ e ∙ append_assoc (outcome_text word sense (n, y)) (others ys) (97 ∷ s)) in
+    let parts = outcome_read layout word sense n x y (others xs ++ 97 ∷ r) (others ys ++ 97 ∷ s) h.0 k.0
+    (sym (append_assoc (outcome_text word sense (n, x)) (others xs) (97 ∷ r)) ∙ e ∙ append_assoc (outcome_text word sense (n, y)) (others ys) (97 ∷ s)) in
     let rest = outcomes_read layout word sense (n + 1) xs ys r s h.1 k.1 parts.1 in
     let head : answer_of x.end ≡ answer_of y.end = parts.0 in
     λ i. head i ∷ rest i
@@ -86,7 +94,8 @@ count_begins outcomes = refl
 
 -- the outcomes, and what stands behind their lines
 lines_split : (word : Word) (sense : Sense) (outcomes : List Outcome) (warm : Option ℕ) →
-    (outcome_lines word sense outcomes ++ count_line outcomes) ++ warm_line warm ≡ flat_map (outcome_text word sense) (enumerate_from 1 outcomes) ++ 97 ∷ (drop 1 (count_line outcomes) ++ warm_line warm)
+    (outcome_lines word sense outcomes ++ count_line outcomes) ++ warm_line warm
+    ≡ flat_map (outcome_text word sense) (enumerate_from 1 outcomes) ++ 97 ∷ (drop 1 (count_line outcomes) ++ warm_line warm)
 unfolding outcome_lines
 lines_split word sense outcomes warm =
     append_assoc (flat_map (outcome_text word sense) (enumerate_from 1 outcomes)) (count_line outcomes) (warm_line warm)

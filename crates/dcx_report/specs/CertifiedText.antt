@@ -3,7 +3,8 @@ use Rattle.std.specs.Prelude.{ℕ, List, [], ◌++◌, codes, decimal}
 use Rattle.dcx_frac.specs.declared.fraction.Frac.{Frac}
 use Rattle.dcx_lines.specs.Pieces.{entry_text}
 use Rattle.dcx_answer.specs.declared.cert_fault.CertFault.{CertFault}
-use Rattle.dcx_answer.specs.declared.cert_fault.CertFault.TheVariants.{Form, Fit, Setting, Domain, Constraint, Value, DualSign, Gap, Slope, Variable, Bound, Descent, RayDomain, RayConstraint, RayValue, Wide, Memory}
+use Rattle.dcx_answer.specs.declared.cert_fault.CertFault.TheVariants.{Form, Fit, Setting, Domain, Constraint, Value, DualSign, Gap, Slope, Variable}
+use Rattle.dcx_answer.specs.declared.cert_fault.CertFault.TheVariants.{Bound, Descent, RayDomain, RayConstraint, RayValue, Wide, Memory}
 use Rattle.dcx_report.specs.Pieces.{passes_text}
 use Rattle.dcx_report.specs.StopText.{stop_name}
 

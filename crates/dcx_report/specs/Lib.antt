@@ -1,3 +1,4 @@
+-- The text of each part of a report, which contracts cite.
 pub mod AnswerText
 pub mod CertifiedText
 pub mod CheckText

@@ -1,7 +1,8 @@
 //! Appends the lines of settings at which constraints are filtered.
 ghost use Rattle.std.specs.Prelude.{◌≡◌, ◌++◌, IfSome, OnOk, slice_get, length};
 ghost use Rattle.std.specs.List.{flat_map, zip};
-ghost use Rattle.dcx_report.specs.FilterText.{member_text, without_lines, points_lines, filtered_text, step_text, filter_stop_text, filter_end_text, filter_text, filter_lines, is_filtered, filter_count_line};
+ghost use Rattle.dcx_report.specs.FilterText.{member_text, without_lines, points_lines, filtered_text, step_text, filter_stop_text};
+ghost use Rattle.dcx_report.specs.FilterText.{filter_end_text, filter_text, filter_lines, is_filtered, filter_count_line};
 
 use crate::answer_lines::put_var_lines;
 use crate::counts::{SettingEnd, put_setting_counts};

@@ -1,5 +1,6 @@
 -- From a point along a ray, a node isn't beyond its value at the point and its steepness for each step, as far as the rules say.
-use Rattle.std.proofs.Common.{◌≡◌, inl, inr, ℕ, zero, suc, ◌<◌, arith, Bool, true, false, IsTrue, IsFalse, if◌then◌else◌, List, [], ◌∷◌, length, map, All, Option, Some, None, slice_get, refl, sym, ap, ◌∙◌, subst, pos}
+use Rattle.std.proofs.Common.{◌≡◌, inl, inr, ℕ, zero, suc, ◌<◌, arith, Bool, true, false, IsTrue, IsFalse, if◌then◌else◌}
+use Rattle.std.proofs.Common.{List, [], ◌∷◌, length, map, All, Option, Some, None, slice_get, refl, sym, ap, ◌∙◌, subst, pos}
 use Rattle.std.specs.Prelude.{◌⊎◌, ◌&&◌}
 use Rattle.std.specs.List.{list_all}
 use Rattle.std.proofs.lemmas.Bool.{and_parts, or_cases, false≢true}
@@ -11,19 +12,21 @@ use Rattle.dcx_shape.specs.Sides.{entries_of}
 use Rattle.dcx_atom.specs.declared.flags.Bend.{Bend}
 use Rattle.dcx_atom.specs.Arrays.{Entries}
 use Rattle.dcx_atom.specs.Signs.{IsBeyond, shifted}
-use Rattle.dcx_convex.specs.Calls.{Kind, Nonlinear, Linear, Product, Quotient, Call, BendsBetween, IsLawful}
-use Rattle.dcx_convex.specs.Nodes.{Head, Variable, Parameter, Constant, Apply, Node, Numbers, Point, Setting, IsOrdered, zeros, first_of, arguments, value_by, value_at, ParameterKeeps, EachNode, IsInDomain, IsLawfulHead, AreLawful}
+use Rattle.dcx_convex.specs.Calls.{Kind, Nonlinear, Linear, Product, Quotient, Call, IsLawful}
+use Rattle.dcx_convex.specs.Nodes.{Head, Variable, Parameter, Constant, Apply, Node, Numbers, Point, Setting, IsOrdered, zeros, first_of}
+use Rattle.dcx_convex.specs.Nodes.{arguments, value_by, value_at, ParameterKeeps, EachNode, IsInDomain, IsLawfulHead, AreLawful}
 use Rattle.dcx_convex.specs.Rules.{Plain, Judgement, is_constant, is_bent, argument, bends, all_suit, is_bent_by, judgement_by, judgement_at}
 use Rattle.dcx_convex.specs.Certificates.{is_fixed, given_at}
 use Rattle.dcx_convex.proofs.Told.{value_tells, judgement_tells}
 use Rattle.dcx_convex.proofs.Arguments.{args_signed, fixed_argument_same}
 use Rattle.dcx_convex.proofs.Signs.{at_test, value_signed, value_fixed}
-use Rattle.dcx_convex.proofs.Beyond.{beyond_refl, beyond_same, beyond_trans, IsBeyondAs, args_follow}
-use Rattle.dcx_convex.proofs.Convexity.{same_bend_is, bent_is, mixed_domain}
+use Rattle.dcx_convex.proofs.Beyond.{beyond_same, IsBeyondAs, args_follow}
+use Rattle.dcx_convex.proofs.Convexity.{same_bend_is, bent_is, mixed_domain, bends_between}
 use Rattle.dcx_right.specs.Steepness.{taken_at, steep_by, steep_at}
 use Rattle.dcx_right.specs.Rays.{BendsAlong, HeadRecedes, Recedes, AreReceding}
 use Rattle.dcx_right.proofs.Calls.{one_combination, zero_shifted}
 use Rattle.dcx_right.proofs.Told.{none_fixed, level, steep_tells}
+use Rattle.dcx_atom.specs.Farthest.{beyond_refl, beyond_trans}
 
 -- the domain goes along with its rays
 pub shifted_domain : (nodes : List Node) (x d : Point) (k : ℚ) → IsNonnegative k → IsInDomain nodes x → IsInDomain nodes d → IsInDomain nodes (shifted x k d)
@@ -47,13 +50,6 @@ arguments_shifted : (k : ℚ) (v f : ℕ → Numbers) (args : List ℕ) (i e : �
 arguments_shifted k v f [] i e = zero_shifted k
 arguments_shifted k v f (n ∷ args) zero e = refl
 arguments_shifted k v f (n ∷ args) (suc i) e = arguments_shifted k v f args i e
-
--- a call bends between two arguments that agree where no variable is reached
-bends_between : (kind : Kind) (bend : Bend) (args : List Judgement) (a b : Entries) → IsTrue (bends Plain kind bend args) → ((k : ℕ) → IsTrue (argument args k).fixed → a k ≡ b k) → BendsBetween kind bend a b
-bends_between (Nonlinear own) bend args a b t h = same_bend_is own bend t
-bends_between Linear bend args a b t h = tt
-bends_between Product bend args a b t h = elim (or_cases (argument args 0).fixed (argument args 1).fixed t) [ inl k ↦ inl (h 0 k) | inr k ↦ inr (h 1 k) ]
-bends_between Quotient bend args a b t h = h 1 t
 
 -- and along the way from a to c, where those arguments stand still and are what they are taken at
 bends_along : (kind : Kind) (bend : Bend) (args : List Judgement) (k : ℚ) (given steep a c : Entries) → IsTrue (bends Plain kind bend args) → c ≡ shifted a k steep →
@@ -112,24 +108,29 @@ module _ (nodes : List Node) (ordered : IsOrdered nodes) (law : AreLawful nodes)
         (bends_between c.kind bend (map judged args) (arguments (map there args)) (arguments (map ahead args)) bent (fixed_argument_same judged there ahead there_still args))
         (args_signed judged there (value_signed Plain nodes law s fit (shifted x k d) (shifted_domain nodes x d k low dx dd)) args)
         (args_follow bend (c.trend signs) judged there ahead (λ i. i < n) (λ i b. known i b) args all suit) j below)
-        (recedes bend k (arguments (map here args)) (taken_at c.kind (argument (map judged args) 0).fixed (arguments (map (given_at nodes s) args)) (arguments (map steep args))) (arguments (map ahead args)) low
+        (recedes bend k (arguments (map here args))
+        (taken_at c.kind (argument (map judged args) 0).fixed (arguments (map (given_at nodes s) args)) (arguments (map steep args))) (arguments (map ahead args)) low
         (bends_along c.kind bend (map judged args) k (arguments (map (given_at nodes s) args)) (arguments (map steep args)) (arguments (map here args)) (arguments (map ahead args)) bent
         (λ t i e. arguments_shifted k here steep args i e t)
         (fixed_argument_same judged (given_at nodes s) here (λ i t. value_fixed Plain nodes s (λ number. zeros) x i t) args)
         (fixed_argument_same judged ahead here ahead_still args)) j below)
 
     -- any node that reaches a variable
-    head_along : (head : Head) → IsLawfulHead head (length args) → HeadRecedes head → IsFalse (judgement_by Plain head (map judged args)).fixed → (bend : Bend) → IsTrue (is_bent_by Plain bend head (map judged args)) → (j : ℕ) →
+    head_along : (head : Head) → IsLawfulHead head (length args) → HeadRecedes head → IsFalse (judgement_by Plain head (map judged args)).fixed → (bend : Bend)
+        → IsTrue (is_bent_by Plain bend head (map judged args)) → (j : ℕ) →
         IsBeyond bend (value_by s (shifted x k d) head (map there args) j) (value_by s x head (map here args) j +ℚ k *ℚ steep_by nodes s d head args steep j)
-    head_along (Variable v) lawful recedes loose bend b j = first_along bend k (entries_of v.sides) (shifted x k d v.number) (x v.number) (d v.number) (λ i _. beyond_refl bend (shifted x k d v.number i)) j
+    head_along (Variable v) lawful recedes loose bend b j =
+        first_along bend k (entries_of v.sides) (shifted x k d v.number) (x v.number) (d v.number) (λ i _. beyond_refl bend (shifted x k d v.number i)) j
     head_along (Parameter q) lawful recedes loose bend b j = absurd (false≢true (sym loose))
     head_along (Constant xs) lawful recedes loose bend b j = absurd (false≢true (sym loose))
     head_along (Apply c) lawful recedes loose bend b j =
         by (or_cases (list_all (is_constant Plain) (map judged args)) (bends Plain c.kind bend (map judged args) && all_suit bend (c.trend (map (λ g. g.sign) (map judged args))) (map judged args)) b)
       where
-        by : IsTrue (list_all (is_constant Plain) (map judged args)) ⊎ IsTrue (bends Plain c.kind bend (map judged args) && all_suit bend (c.trend (map (λ g. g.sign) (map judged args))) (map judged args)) →
+        by : IsTrue (list_all (is_constant Plain) (map judged args))
+            ⊎ IsTrue (bends Plain c.kind bend (map judged args) && all_suit bend (c.trend (map (λ g. g.sign) (map judged args))) (map judged args)) →
             IsBeyond bend (first_of c.size (c.value (arguments (map there args))) j)
-            (first_of c.size (c.value (arguments (map here args))) j +ℚ k *ℚ first_of c.size (c.value (taken_at c.kind (argument (map judged args) 0).fixed (arguments (map (given_at nodes s) args)) (arguments (map steep args)))) j)
+            (first_of c.size (c.value (arguments (map here args))) j +ℚ k
+            *ℚ first_of c.size (c.value (taken_at c.kind (argument (map judged args) 0).fixed (arguments (map (given_at nodes s) args)) (arguments (map steep args)))) j)
         by (inl t) = absurd (false≢true (sym loose ∙ t))
         by (inr t) =
             let f = and_parts (bends Plain c.kind bend (map judged args)) (all_suit bend (c.trend (map (λ g. g.sign) (map judged args))) (map judged args)) t in

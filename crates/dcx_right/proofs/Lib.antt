@@ -1,4 +1,4 @@
--- The lemmas by which the laws are proved.
+-- The lemmas by which optima are least, trees show whole answers, and rays show problems unbounded.
 pub mod Optima
 pub mod Boxes
 pub mod Trees

@@ -1,4 +1,4 @@
--- The main statements hold.
+-- The main statements hold: steepness, recession, fixed sides, and rays of unbounded problems.
 use Rattle.dcx_tree.specs.Meaning.{names_in, convex_problem}
 use Rattle.dcx_tree.proofs.Lawful.{tree_lawful}
 use Rattle.dcx_right.specs.RayLaws.{SteepnessIsTold, CallsRecede, NodesRecede, ValuesAreFixed, TreeValuesAreFixed, RaysAreUnbounded, RaysShow}

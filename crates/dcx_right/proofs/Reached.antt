@@ -21,4 +21,5 @@ pub tree_side_fixed : (p : Problem) → IsAccepted p → (i : ℕ) (n : Node) (q
 tree_side_fixed p ok i n q at is loose =
     let at_convex : convex.IsNode (convex_problem p).nodes i (record { head = head_of (names_in p) (calls.Pairing q) (arg_sides p.tree n) n.sides; args = n.args }) =
     subst (λ (call : Call). convex.IsNode (convex_problem p).nodes i (record { head = head_of (names_in p) call (arg_sides p.tree n) n.sides; args = n.args })) is (convex_at p i n at) in
-    side_fixed (convex_problem p) (tree_lawful (names_in p) p.tree p.nodes).ordered ok i (node_reached p i (slice_get_within p.tree i n at)) (pairing_call q (arg_sides p.tree n) n.sides) n.args at_convex loose
+    side_fixed (convex_problem p) (tree_lawful (names_in p) p.tree p.nodes).ordered ok i (node_reached p i (slice_get_within p.tree i n at))
+    (pairing_call q (arg_sides p.tree n) n.sides) n.args at_convex loose

@@ -4,7 +4,7 @@ use Rattle.std.proofs.lemmas.List.Elements.{All-head, All-tail}
 use Rattle.dcx_math.specs.Rational.{ℚ, whole, ◌+ℚ◌, ◌-ℚ◌, ◌*ℚ◌, ◌≤ℚ◌}
 use Rattle.dcx_math.specs.Sums.{IsNonnegative}
 use Rattle.dcx_math.proofs.Ring.{reads}
-use Rattle.dcx_math.proofs.Orders.{≤ℚ_refl, ≤ℚ_trans, ≤ℚ_antisym, ≤ℚ-from_≡, linear, +ℚ-nonpositive, <ℚ-not}
+use Rattle.dcx_math.proofs.Orders.{≤ℚ_refl, ≤ℚ_trans, ≤ℚ_antisym, ≤ℚ-from_≡, linear, +ℚ-nonpositive, <ℚ-not, -ℚ-nonpositive}
 use Rattle.dcx_math.proofs.Products.{*ℚ-nonpositive}
 use Rattle.dcx_convex.specs.Nodes.{Setting, Point}
 use Rattle.dcx_convex.specs.Problems.{gap_at}
@@ -20,16 +20,13 @@ use Rattle.dcx_right.specs.Laws.{TreesShow, TreesWeaken, RootHasAll, TreesShowOp
 use Rattle.dcx_right.proofs.Boxes as boxes
 
 -- ---- leaves
-difference : (x y : ℚ) → x ≤ℚ y → x -ℚ y ≤ℚ whole (pos 0)
-difference x y h = linear (x ∷ y ∷ []) h (search reads depth 30) tt
-
 over_upper : (o : Option ℤ) (w x : ℚ) → IsNonnegative w → IsAtMost o x → over (λ n. w *ℚ (x -ℚ whole n)) o ≤ℚ whole (pos 0)
 over_upper None w x h k = ≤ℚ_refl _
-over_upper (Some n) w x h k = *ℚ-nonpositive h (difference x (whole n) k)
+over_upper (Some n) w x h k = *ℚ-nonpositive h (-ℚ-nonpositive x (whole n) k)
 
 over_lower : (o : Option ℤ) (w x : ℚ) → IsNonnegative w → IsAtLeast o x → over (λ n. w *ℚ (whole n -ℚ x)) o ≤ℚ whole (pos 0)
 over_lower None w x h k = ≤ℚ_refl _
-over_lower (Some n) w x h k = *ℚ-nonpositive h (difference (whole n) x k)
+over_lower (Some n) w x h k = *ℚ-nonpositive h (-ℚ-nonpositive (whole n) x k)
 
 chosen : (c : Bool) (a b : ℚ) → a ≤ℚ whole (pos 0) → b ≤ℚ whole (pos 0) → (if c then a else b) ≤ℚ whole (pos 0)
 chosen true a b h k = h
@@ -44,7 +41,8 @@ one_exceeded box x w h k =
 
 none_exceeded : (box : Box) (x : Point) (ws : List Weight) → IsInBox box x → All (λ w. IsNonnegative w.weight) ws → all_exceeded box ws x ≤ℚ whole (pos 0)
 none_exceeded box x [] h k = ≤ℚ_refl _
-none_exceeded box x (w ∷ ws) h k = +ℚ-nonpositive (one_exceeded box x w h (All-head (λ (w : Weight). IsNonnegative w.weight) w ws k)) (none_exceeded box x ws h (All-tail (λ (w : Weight). IsNonnegative w.weight) w ws k))
+none_exceeded box x (w ∷ ws) h k = +ℚ-nonpositive (one_exceeded box x w h (All-head (λ (w : Weight). IsNonnegative w.weight) w ws k))
+    (none_exceeded box x ws h (All-tail (λ (w : Weight). IsNonnegative w.weight) w ws k))
 
 module _ (p : Problem) (s : Setting) where
   -- the multipliers times constraints that a point keeps are at most 0

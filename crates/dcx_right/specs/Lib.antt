@@ -1,4 +1,4 @@
--- What the laws say.
+-- What the laws cite: right answers, points and boxes, trees, ranges, rays and steepness.
 pub mod Answers
 pub mod Points
 pub mod Boxes

@@ -1,10 +1,9 @@
 -- The steps of the loops that look for a site, and how their answers join.
-use Rattle.std.proofs.Common.{◌≡◌, ℕ, zero, suc, ◌+◌, ◌<◌, true, false, List, [], ◌∷◌, ◌++◌, map, take, Option, Some, None, option_map, refl, sym, ap, ap₂, ◌∙◌, true≢false, arith, length, get_or}
+use Rattle.std.proofs.Common.{◌≡◌, ℕ, zero, suc, ◌<◌, true, false, List, [], ◌∷◌, map, take, Option, Some, None, option_map, refl, sym, ap, ap₂, ◌∙◌, true≢false, arith, length, get_or}
 use Rattle.std.specs.Prelude.{◌↔◌, IfSome, IfNone, IsNone}
 use Rattle.std.specs.List.{slice_get, list_all}
 use Rattle.std.proofs.lemmas.Bool.{and_parts, and_from}
-use Rattle.std.proofs.lemmas.List.{map-append, map_more}
-use Rattle.std.proofs.lemmas.Option.{none-some, same_Some, slice_get-get_or, slice_get_within, get_or_from_slice_get}
+use Rattle.std.proofs.lemmas.Option.{none-some, same_Some, slice_get-get_or}
 use Rattle.dcx_convex.specs.Problems.{may_be_objective, may_be_sides}
 use Rattle.dcx_convex.proofs.Acceptance.{all_at}
 use Rattle.dcx_tree.specs.declared.constraint.Constraint.{Constraint}
@@ -34,7 +33,8 @@ stands_at gs c d e l r = stands_read gs c (get_or gs c.left.0 d) (get_or gs c.ri
 objective_read : (p : Problem) (gs : List Judgement) (g : Judgement) → slice_get gs p.objective.0 ≡ Some g → objective_stands p gs ≡ may_be_objective (sense_of p.sense) (judgement_of g)
 objective_read p gs g at = ap (may_be_objective (sense_of p.sense)) (argument_at gs p.objective.0 g at)
 
-pub objective_at : (p : Problem) (gs : List Judgement) (d : Judgement) → p.objective.0 < length gs → objective_stands p gs ≡ may_be_objective (sense_of p.sense) (judgement_of (get_or gs p.objective.0 d))
+pub objective_at : (p : Problem) (gs : List Judgement) (d : Judgement) → p.objective.0 < length gs
+    → objective_stands p gs ≡ may_be_objective (sense_of p.sense) (judgement_of (get_or gs p.objective.0 d))
 objective_at p gs d lt = objective_read p gs (get_or gs p.objective.0 d) (slice_get-get_or gs p.objective.0 d lt)
 
 -- where a constraint breaks its rule, not all keep theirs
@@ -63,18 +63,7 @@ pub rest_some : (p : Problem) (gs : List Judgement) (r : Option Breach) → obje
 rest_some p gs None o s = s
 rest_some p gs (Some b) o s = breach_site p gs b.site b.rule o s
 
--- where the objective breaks its rule, the problem isn't accepted
-pub objective_none : (p : Problem) (gs : List Judgement) (b : Breach) → objective_stands p gs ≡ false → IsNone (Some b) ↔ (accepts p gs ≡ true)
-objective_none p gs b o =
-    (λ e. absurd (true≢false e), λ e. absurd (true≢false (sym (and_parts (objective_stands p gs) (list_all (stands gs) p.constraints) e).0 ∙ o)))
-
 -- ---- findings
-pub found_more : (gs : List Judgement) (i : ℕ) (g : Judgement) (ns : List Finding) (n : Finding) → slice_get gs i ≡ Some g → finding_of g ≡ Some n →
-    map Some ns ≡ map finding_of (take i gs) → map Some (ns ++ n ∷ []) ≡ map finding_of (take (i + 1) gs)
-found_more gs i g ns n at is e =
-    map-append Some ns (n ∷ []) ∙ ap₂ (λ xs x. xs ++ x ∷ []) e (sym is ∙ ap finding_of (sym (get_or_from_slice_get gs i g g at)))
-    ∙ sym (map_more finding_of gs i g (slice_get_within gs i g at))
-
 within_take : {A : Type 0} (xs : List A) (i j : ℕ) → j < i → slice_get (take i xs) j ≡ slice_get xs j
 within_take [] zero j lt = refl
 within_take [] (suc i) j lt = refl

@@ -69,7 +69,8 @@ found g n (Some c) e =
     }
 
 -- the judgement of which it is found
-found_at : (gs : List Judgement) (ns : List Finding) → map Some ns ≡ map finding_of gs → (i : ℕ) (n : Finding) → slice_get ns i ≡ Some n → (g : Judgement) × (slice_get gs i ≡ Some g) × (finding_of g ≡ Some n)
+found_at : (gs : List Judgement) (ns : List Finding) → map Some ns ≡ map finding_of gs → (i : ℕ) (n : Finding) → slice_get ns i ≡ Some n
+    → (g : Judgement) × (slice_get gs i ≡ Some g) × (finding_of g ≡ Some n)
 found_at gs [] e i n at = absurd (none-some n at)
 found_at [] (m ∷ ns) e i n at = absurd (cc)
 found_at (g ∷ gs) (m ∷ ns) e zero n at = let here : Some m ≡ finding_of g = cc in (g, refl, sym here ∙ at)
@@ -94,7 +95,8 @@ module _ (p : Problem) (gs : List Judgement) (are : AreJudgements Plain p gs) wh
   curvature_is i g at = ap curvature_of (are.each i g at)
 
   -- ---- the verdict
-  pub verdict_is : (ns : List Finding) (affine : List Judgement) (dpp : Bool) → map Some ns ≡ map finding_of gs → AreJudgements Parametrized p affine → (IsTrue dpp ↔ IsDpp p) → IsVerdictOf p (record { nodes = ns; parametrized = affine; dpp = dpp })
+  pub verdict_is : (ns : List Finding) (affine : List Judgement) (dpp : Bool) → map Some ns ≡ map finding_of gs → AreJudgements Parametrized p affine → (IsTrue dpp ↔ IsDpp p)
+      → IsVerdictOf p (record { nodes = ns; parametrized = affine; dpp = dpp })
   verdict_is ns affine dpp e also d = record {
     count = sym (length-map ns Some) ∙ ap length e ∙ length-map gs finding_of ∙ are.count;
     signs = λ i n at.
@@ -202,6 +204,7 @@ module _ (p : Problem) (gs : List Judgement) (are : AreJudgements Plain p gs) wh
     breach_fault site rule refused b = (λ ok. refused (accepts_is Plain p gs are ∙ ok), breach_first site rule b)
 
 -- ---- parameters that are affine
-pub dpp_is : (p : Problem) (gs : List Judgement) → AreJudgements Parametrized p gs → IsAccepted p → (r : Option Breach) (b : Bool) → is_some r ≡ not b → IsNone r ↔ (accepts p gs ≡ true) → IsTrue b ↔ IsDpp p
+pub dpp_is : (p : Problem) (gs : List Judgement) → AreJudgements Parametrized p gs → IsAccepted p → (r : Option Breach) (b : Bool) → is_some r ≡ not b
+    → IsNone r ↔ (accepts p gs ≡ true) → IsTrue b ↔ IsDpp p
 dpp_is p gs are ok r true e n = (λ t. (ok, sym (accepts_is Parametrized p gs are) ∙ n.0 e), λ d. refl)
 dpp_is p gs are ok r false e n = (λ t. absurd (true≢false (sym t)), λ d. absurd (true≢false (sym e ∙ n.1 (accepts_is Parametrized p gs are ∙ d.1))))

@@ -1,5 +1,5 @@
 -- What the code forms of a call is what the rules say of it, whatever its names and shapes are.
-use Rattle.std.proofs.Common.{◌≡◌, ℕ, zero, suc, Bool, List, [], ◌∷◌, map, slice_index_or, refl, sym, ap, ap₂, ◌∙◌}
+use Rattle.std.proofs.Common.{◌≡◌, ℕ, zero, suc, Bool, List, [], ◌∷◌, map, refl, sym, ap, ap₂, ◌∙◌}
 use Rattle.std.specs.Prelude.{◌&&◌, ◌||◌, pos}
 use Rattle.std.specs.List.{list_all}
 use Rattle.std.proofs.lemmas.List.Folds.{list_all-map}
@@ -28,10 +28,10 @@ use Rattle.dcx_call.specs.Linears.{linear_meaning}
 use Rattle.dcx_convex.specs.Calls as convex_calls
 use Rattle.dcx_convex.specs.Atoms.{atom_call, linear_call}
 use Rattle.dcx_convex.specs.Rules as convex
-use Rattle.dcx_convex.specs.Rules.{Rules, is_constant, attribute_sign, sign_by, fixed_by, unparametrized_by, argument, bends, all_suit, suits, is_bent_call, is_bent_by, judgement_by}
+use Rattle.dcx_convex.specs.Rules.{Rules, is_constant, attribute_sign, sign_by, fixed_by, unparametrized_by, bends, all_suit, suits, is_bent_call, is_bent_by, judgement_by}
 use Rattle.dcx_tree.specs.Nodes.{Names, attribute_of, variable_attribute, pairing_call, head_of}
 use Rattle.dcx_rules.specs.declared.judgement.Judgement.{Judgement}
-use Rattle.dcx_rules.specs.Judgements.{judgement_of, no_judgement, signs_of, rules_head, composes, judged}
+use Rattle.dcx_rules.specs.Judgements.{judgement_of, signs_of, rules_head, composes, judged}
 
 -- the rules say the same of a call, whatever its names and shapes are
 pub judged_head : (rules : Rules) (names : Names) (call : Call) (sides : List Sides) (its : Sides) (args : List convex.Judgement) →
@@ -126,7 +126,8 @@ pairing_trends Over signs (suc i) = refl
 
 -- ---- curvature
 applied : (rules : Rules) (c : convex_calls.Call) (bend : Bend) (gs : List Judgement) (t : ℕ → Trend) → ((i : ℕ) → c.trend (signs_of gs) i ≡ t i) →
-    is_bent_call rules c bend (map judgement_of gs) ≡ (list_all (λ g. is_constant rules (judgement_of g)) gs || (bends rules c.kind bend (map judgement_of gs) && all_suit bend t (map judgement_of gs)))
+    is_bent_call rules c bend (map judgement_of gs)
+    ≡ (list_all (λ g. is_constant rules (judgement_of g)) gs || (bends rules c.kind bend (map judgement_of gs) && all_suit bend t (map judgement_of gs)))
 applied rules c bend gs t h =
     ap₂ (λ a b. a || (bends rules c.kind bend (map judgement_of gs) && b)) (list_all-map (is_constant rules) judgement_of gs)
     (ap (λ ss. all_suit bend (c.trend ss) (map judgement_of gs)) (signs_told gs) ∙ all_suit_same bend (c.trend (signs_of gs)) t h (map judgement_of gs))
@@ -143,11 +144,6 @@ bent_head rules bend (calls.Linear l) h gs signs e =
     applied rules (linear_call (linear_meaning l) [] Scalar) bend gs (trend_of (calls.Linear l) signs) (λ i. refl)
 bent_head rules bend (calls.Pairing p) h gs signs e =
     applied rules (pairing_call p [] Scalar) bend gs (trend_of (calls.Pairing p) signs) (λ i. pairing_trends p (signs_of gs) i ∙ ap (λ ss. pairing_trend p ss i) (sym e))
-
-pub argument_told : (gs : List Judgement) (i : ℕ) → argument (map judgement_of gs) i ≡ judgement_of (slice_index_or gs i no_judgement)
-argument_told [] i = refl
-argument_told (g ∷ gs) zero = refl
-argument_told (g ∷ gs) (suc i) = argument_told gs i
 
 -- ---- one judgement
 pub same_judgement : (s t : Sign) (a b c d e f g h : Bool) → s ≡ t → a ≡ b → c ≡ d → e ≡ f → g ≡ h →

@@ -1,4 +1,4 @@
--- The lemmas by which the rules are proved.
+-- The lemmas by which the code finds the verdict of the rules, or the first site that breaks one.
 pub mod Heads
 pub mod Suited
 pub mod Nodes

@@ -1,4 +1,4 @@
--- What the contracts of this crate cite.
+-- What contracts cite: judgements and curvatures of nodes, sites that break a rule, verdicts and acceptance.
 pub mod Judgements
 pub mod Curvatures
 pub mod Sites

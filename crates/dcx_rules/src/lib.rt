@@ -8,7 +8,8 @@
 //! | `Ok` exactly where the rules accept | `check` |
 //! | an accepted problem is convex at every fitting setting | `check` |
 //! | sign, curvature and dpp are those of the definitions | `check`, `IsVerdictOf` of `specs/Verdicts.antt`; `Verdict::sign`, `Verdict::curvature`, `Verdict::dpp` |
-//! | a verdict tells what a node reaches, and what the rules say of it where parameters are affine | `check`, `IsVerdictOf`; `Verdict::reaches_variable`, `Verdict::reaches_parameter`, `Verdict::is_dpp_constant`, `Verdict::is_dpp_convex`, `Verdict::is_dpp_concave` |
+//! | a verdict tells what a node reaches | `check`, `IsVerdictOf`; `Verdict::reaches_variable` |
+//! | and what the rules say of it where parameters are affine | `check`, `IsVerdictOf`; `Verdict::is_dpp_constant` |
 //! | sign and curvature are true of each node's value, at every fitting setting and over all points of the domain | `check`, `IsTrueOf` of `specs/Verdicts.antt` |
 //! | a fault names the first site that breaks its rule: nodes, then the objective, then the constraints | `check`, `IsFirst` of `specs/Sites.antt` |
 //!

@@ -69,14 +69,6 @@ impl Verdict {
         self.nodes[node.0 as usize].reaches_variable
     }
 
-    /// Whether a node reaches a parameter. Takes no memory.
-    pub fn reaches_parameter(&self, node: NodeId) -> bool
-        requires { node.0 < length self.now.nodes }
-        ensures { option_map (λ n. n.reaches_parameter) (slice_get self.now.nodes node.0) ≡ Some result }
-    {
-        self.nodes[node.0 as usize].reaches_parameter
-    }
-
     /// Whether a node counts as a number where parameters are affine: it reaches neither a variable nor a parameter. Takes
     /// no memory.
     pub fn is_dpp_constant(&self, node: NodeId) -> bool
@@ -85,22 +77,6 @@ impl Verdict {
     {
         let judgement = self.parametrized[node.0 as usize];
         judgement.fixed && judgement.unparametrized
-    }
-
-    /// Whether the rules find a node convex where parameters are affine. Takes no memory.
-    pub fn is_dpp_convex(&self, node: NodeId) -> bool
-        requires { node.0 < length self.now.parametrized }
-        ensures { option_map (λ g. g.convex) (slice_get self.now.parametrized node.0) ≡ Some result }
-    {
-        self.parametrized[node.0 as usize].convex
-    }
-
-    /// Whether the rules find a node concave where parameters are affine. Takes no memory.
-    pub fn is_dpp_concave(&self, node: NodeId) -> bool
-        requires { node.0 < length self.now.parametrized }
-        ensures { option_map (λ g. g.concave) (slice_get self.now.parametrized node.0) ≡ Some result }
-    {
-        self.parametrized[node.0 as usize].concave
     }
 
     /// Whether the problem is accepted also where parameters are affine.

@@ -45,7 +45,8 @@ expressions_hold = record {
   comprehensions = λ place for_place element source n. let x = comprehension place element for_place n source in leaves (primary_means x) (primary-moves SameNames names_are_carried x);
   all_turns = λ place first name element xs vs.
       leaves (turns place first name (expr_means element) xs vs) (turns-moves SameNames names_are_carried place first name (expr_means element) (expr-moves SameNames names_are_carried element) xs vs);
-  one_turn = λ first name element v. leaves (turn first name (expr_means element) v) (turn-moves SameNames names_are_carried first name (expr_means element) v (expr-moves SameNames names_are_carried element));
+  one_turn = λ first name element v. leaves (turn first name (expr_means element) v)
+      (turn-moves SameNames names_are_carried first name (expr_means element) v (expr-moves SameNames names_are_carried element));
   distinct = λ x. leaves-distinct (expr_means x) (expression-leaves x);
   right_sides_distinct = λ target x. leaves-distinct (postfix_means target x) (right_side-leaves target x);
 }
@@ -89,13 +90,15 @@ mutual
   bind-any (lines x rest) = (binds-any x, bind-any rest)
 
 distinct_is_carried : IsCarriedByLines Distinct Any
-distinct_is_carried = by_bindings Distinct (λ s t u h names d. subst (λ (ns : List (List ℕ × Value)). IsDistinct same_name (keys_of ns)) (sym names) (h d)) Any (λ s t name v may h d. insert-distinct t.names name v (h d))
+distinct_is_carried = by_bindings Distinct (λ s t u h names d. subst (λ (ns : List (List ℕ × Value)). IsDistinct same_name (keys_of ns)) (sym names) (h d)) Any
+    (λ s t name v may h d. insert-distinct t.names name v (h d))
 
 distinct : (ls : Lines) (s t : State) (x : Unit {0}) → HasDistinctNames s → lines_mean ls s ≡ Ok (x, t) → HasDistinctNames t
 distinct ls s t x d e = (lines-move Distinct Any distinct_is_carried ls (bind-any ls) s s (λ h. h)).at x t e d
 
 -- ---- other names
-other-name : (names : List (List ℕ × Value)) (name other : List ℕ) (v : Value) → same_name other name ≡ false → lookup (same_name other) (insert_entry same_name names name v) ≡ lookup (same_name other) names
+other-name : (names : List (List ℕ × Value)) (name other : List ℕ) (v : Value) → same_name other name ≡ false
+    → lookup (same_name other) (insert_entry same_name names name v) ≡ lookup (same_name other) names
 other-name [] name other v ne = rw ne refl
 other-name (e ∷ es) name other v ne = by (other-name es name other v ne) (same_name name e.0) refl
   where

@@ -36,12 +36,14 @@ pub err-moved : {A : Type 0} (R : State → State → Type 0) (s : State) (e : E
 err-moved R s e = record { at = λ y t h. absurd cc }
 
 -- one after the other, with what came of the first
-pub gone-on : {A B : Type 0} (R : State → State → Type 0) (s : State) (r : Result (A × State) ElabFault) (f : A → Act B) → ((a : A) (t : State) → r ≡ Ok (a, t) → Moved R s (f a t)) → Moved R s (and_then r f)
+pub gone-on : {A B : Type 0} (R : State → State → Type 0) (s : State) (r : Result (A × State) ElabFault) (f : A → Act B)
+    → ((a : A) (t : State) → r ≡ Ok (a, t) → Moved R s (f a t)) → Moved R s (and_then r f)
 gone-on R s (Ok x) f g = g x.0 x.1 refl
 gone-on R s (Err e) f g = err-moved R s e
 
 -- the same, where all that counts of the first is the relation
-pub then-moved : {A B : Type 0} (R : State → State → Type 0) (s : State) (r : Result (A × State) ElabFault) (f : A → Act B) → Moved R s r → ((a : A) (t : State) → R s t → Moved R s (f a t)) → Moved R s (and_then r f)
+pub then-moved : {A B : Type 0} (R : State → State → Type 0) (s : State) (r : Result (A × State) ElabFault) (f : A → Act B) → Moved R s r
+    → ((a : A) (t : State) → R s t → Moved R s (f a t)) → Moved R s (and_then r f)
 then-moved R s r f k g = gone-on R s r f (λ a t e. g a t (k.at a t e))
 
 pub unless-moved : (R : State → State → Type 0) (s : State) (e : ElabFault) (b : Bool) (t : State) → R s t → Moved R s (unless e b t)

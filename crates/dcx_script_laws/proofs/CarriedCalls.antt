@@ -18,12 +18,14 @@ use Rattle.dcx_script_values.specs.Kinds.{Reading}
 use Rattle.dcx_signature.specs.declared.table.Function.{Function}
 use Rattle.dcx_signature.specs.declared.table.Function.TheVariants as functions
 use Rattle.dcx_signature.specs.Arguments.{Bound, Given}
-use Rattle.dcx_operators.specs.Operators.{Pair, both_plain, both_lists, with_expression, neither, both, lists_added, operands_added, added_pair, add_values, multiplied, operands_scaled, scaled_pair, scale_values, node_signed, sign_value, operands_compared, compared_pair, compare_values, beside}
+use Rattle.dcx_operators.specs.Operators.{Pair, both_plain, both_lists, with_expression, neither, both, lists_added, operands_added, added_pair, add_values, multiplied}
+use Rattle.dcx_operators.specs.Operators.{operands_scaled, scaled_pair, scale_values, node_signed, sign_value, operands_compared, compared_pair, compare_values, beside}
 use Rattle.dcx_operators.specs.Indices.{Evaluated, index_node, index_plain, item_at, index_list, with_picks, index_value}
 use Rattle.dcx_operators.specs.Attributes.{node_turned, transposed_node, transposed_plain, transposed_value, attribute_value}
 use Rattle.dcx_functions.specs.Calls.{differences, longer_than, differenced, perform, function_called}
 use Rattle.dcx_script_laws.proofs.Carried.{Moves, IsCarried, parts}
-use Rattle.dcx_script_laws.proofs.CarriedNodes.{joined-moves, push-moves, pushed-moves, called-moves, broadcast_called-moves, subtracted-moves, constrained-moves, operand_read-moves, operands_read-moves, numbers_read-moves, declare_variable-moves, declare_parameter-moves, make_problem-moves, arguments-moves, range_from-moves}
+use Rattle.dcx_script_laws.proofs.CarriedNodes.{joined-moves, push-moves, pushed-moves, called-moves, broadcast_called-moves, subtracted-moves, constrained-moves, operand_read-moves}
+use Rattle.dcx_script_laws.proofs.CarriedNodes.{operands_read-moves, numbers_read-moves, declare_variable-moves, declare_parameter-moves, make_problem-moves, arguments-moves, range_from-moves}
 
 module _ (R : State → State → Type 0) (carried : IsCarried R) where
   -- ---- operators
@@ -149,7 +151,20 @@ module _ (R : State → State → Type 0) (carried : IsCarried R) where
   pub differenced-moves : (place : Place) (k : ℕ) (bound : Bound) → Moves R (differenced place k bound)
   differenced-moves place k bound s t h = search (operand_read-moves, longer_than-moves, pushed-moves, differences-moves, parts) depth 6
 
-  ruleset calling = (operand_read-moves, operands_read-moves, numbers_read-moves, pushed-moves, push-moves, called-moves, broadcast_called-moves, differenced-moves, range_from-moves, declare_variable-moves, declare_parameter-moves, make_problem-moves)
+  ruleset calling = (
+    operand_read-moves,
+    operands_read-moves,
+    numbers_read-moves,
+    pushed-moves,
+    push-moves,
+    called-moves,
+    broadcast_called-moves,
+    differenced-moves,
+    range_from-moves,
+    declare_variable-moves,
+    declare_parameter-moves,
+    make_problem-moves,
+  )
 
   -- one case for each call
   pub perform-moves : (target : Option (List ℕ)) (f : Function) (place : Place) (bound : Bound) → Moves R (perform target f place bound)

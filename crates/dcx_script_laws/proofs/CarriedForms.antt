@@ -9,7 +9,7 @@ use Rattle.dcx_script_values.specs.Values.{Value, library, State, Act}
 use Rattle.dcx_signature.specs.Arguments.{Given}
 use Rattle.dcx_signature.specs.Firsts.{expr_place}
 use Rattle.dcx_elab.specs.Turns.{turn, turns}
-use Rattle.dcx_elab.specs.Expressions.{is_range_unless, is_range, name_called, solve_called, no_method, module_called, method_called, given, signed, with_item, expr_means, compared_means, chained_means, sum_means, added_means, term_means, scaled_means, factor_means, power_means, raised_means, exponent_means, postfix_means, trailers_mean, args_mean, more_args_mean, arg_means, indices_mean, index_means, optional_means, step_means, primary_means, items_mean, more_items_mean}
+use Rattle.dcx_elab.specs.Expressions.{is_range_unless, is_range, name_called, solve_called, no_method, module_called, method_called, signed, with_item, expr_means, compared_means, chained_means, sum_means, added_means, term_means, scaled_means, factor_means, power_means, raised_means, exponent_means, postfix_means, trailers_mean, args_mean, more_args_mean, arg_means, indices_mean, index_means, optional_means, step_means, primary_means, items_mean, more_items_mean}
 use Rattle.dcx_script_laws.proofs.Carried.{Moves, IsCarried, parts}
 use Rattle.dcx_script_laws.proofs.CarriedNodes.{room-moves, solve-moves, arguments-moves, items_through-moves}
 use Rattle.dcx_script_laws.proofs.CarriedCalls.{add_values-moves, scale_values-moves, sign_value-moves, compare_values-moves, index_value-moves, attribute_value-moves, function_called-moves}
@@ -46,9 +46,6 @@ module _ (R : State → State → Type 0) (carried : IsCarried R) where
   pub signed-moves : (ss : List Signed) (v : Value) → Moves R (signed ss v)
   signed-moves [] v s t h = search parts
   signed-moves (x ∷ ss) v s t h = search (signed-moves ss v, sign_value-moves, parts)
-
-  pub given-moves : (word : Option (List ℕ)) (place : Place) (m : Act Value) → Moves R m → Moves R (given word place m)
-  given-moves word place m moves s t h = search (moves, parts)
 
   pub with_item-moves : (place : Place) (vs : List Value) (m : Act Value) → Moves R m → Moves R (with_item place vs m)
   with_item-moves place vs m moves s t h = search (moves, room-moves, parts)

@@ -86,7 +86,14 @@ module _ (R : State → State → Type 0) (P : List ℕ → Type 0) (carried : I
     line-moves (set_value n place x) may s t h = search (step-carried, expr-carried, carried.values, parts)
     line-moves (evaluate x) may s t h = search (step-carried, expr-carried, parts)
     line-moves (prints place open_place inner) may s t h = search step-carried
-    line-moves (repeats place n x first rest) may s t h = search (step-carried, expr-carried, items-carried, each_turn-moves n.name may.0 (line_means first >> lines_mean rest) (one_after (line_means first) (lines_mean rest) (line-moves first may.1) (lines-move rest may.2)), parts)
+    line-moves (repeats place n x first rest) may s t h = search (
+      step-carried,
+      expr-carried,
+      items-carried,
+      each_turn-moves n.name may.0 (line_means first >> lines_mean rest)
+          (one_after (line_means first) (lines_mean rest) (line-moves first may.1) (lines-move rest may.2)),
+      parts,
+    )
 
     pub lines-move : (ls : Lines) → BindOnly P ls → Moves R (lines_mean ls)
     lines-move no_lines may s t h = search parts

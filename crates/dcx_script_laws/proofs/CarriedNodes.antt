@@ -9,7 +9,8 @@ use Rattle.dcx_arena.specs.Nodes.{Node}
 use Rattle.dcx_call.specs.declared.call.Call.{Call}
 use Rattle.dcx_tree.specs.declared.constraint.Kind.{Kind}
 use Rattle.dcx_script_values.specs.Values.{Value, Values, State, step, room, joined, plain}
-use Rattle.dcx_script_values.specs.Nodes.{Operand, standing, constant, push, pushed, all_pushed, promoted, all_promoted, common_shape, called, broadcast_called, subtracted, left_and_right, constrained}
+use Rattle.dcx_script_values.specs.Nodes.{Operand, standing, constant, push, pushed, all_pushed, promoted, all_promoted}
+use Rattle.dcx_script_values.specs.Nodes.{common_shape, called, broadcast_called, subtracted, left_and_right, constrained}
 use Rattle.dcx_script_values.specs.Kinds.{Reading, operand, nested, empty, unfit}
 use Rattle.dcx_script_values.specs.Operands.{operand_read, each_read, operands_read, numbers_read}
 use Rattle.dcx_script_state.specs.declared.flags.Flags.{Flags}
@@ -109,7 +110,8 @@ module _ (R : State → State → Type 0) (carried : IsCarried R) where
   set_first-moves name None s t h = search parts
   set_first-moves name (Some a) s t h = search set_value-moves
 
-  pub declare_parameter-moves : (place : Place) (name : List ℕ) (sides : Sides) (nonneg nonpos unoffered : Bool) (value : Option Reading) → Moves R (declare_parameter place name sides nonneg nonpos unoffered value)
+  pub declare_parameter-moves : (place : Place) (name : List ℕ) (sides : Sides) (nonneg nonpos unoffered : Bool) (value : Option Reading)
+      → Moves R (declare_parameter place name sides nonneg nonpos unoffered value)
   declare_parameter-moves place name sides nonneg nonpos unoffered value s t h = search (push-moves, declared_shape-moves, first_value-moves, set_first-moves, others-carried, parts) depth 10
 
   pub give-moves : (place : Place) (v : Value) (r : Reading) → Moves R (give place v r)

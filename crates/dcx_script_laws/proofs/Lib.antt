@@ -1,4 +1,4 @@
--- The proofs of the laws.
+-- The proofs of the laws on names, nodes, prints and differences, by what each form of a script keeps.
 mod Renamed
 mod Prints
 pub mod Carried

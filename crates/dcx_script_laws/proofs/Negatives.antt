@@ -1,5 +1,6 @@
 -- A difference is the sum with the negative, number by number.
-use Rattle.std.proofs.Common.{◌≡◌, ℕ, zero, suc, ◌<◌, ◌^◌, ℤ, neg_ℤ, ◌+ℤ◌, ◌-ℤ◌, unsigned_abs, List, [], ◌∷◌, map, Option, Some, None, option_map, Result, Ok, Err, ◌↔◌, inl, inr, refl, sym, ap, ap₂, ◌∙◌, subst, arith}
+use Rattle.std.proofs.Common.{◌≡◌, ℕ, zero, suc, ◌<◌, ◌^◌, ℤ, neg_ℤ, ◌+ℤ◌, ◌-ℤ◌, unsigned_abs, List, [], ◌∷◌, map, Option}
+use Rattle.std.proofs.Common.{Some, None, option_map, Result, Ok, Err, ◌↔◌, inl, inr, refl, sym, ap, ap₂, ◌∙◌, subst, arith}
 use Rattle.std.proofs.lemmas.Int.{ints}
 use Rattle.dcx_math.specs.Integers.{*ℤ-neg_ℤ_left}
 use Rattle.dcx_math.specs.Rational.{neg_ℚ, ◌+ℚ◌, ◌-ℚ◌}
@@ -37,11 +38,9 @@ use Rattle.dcx_array.specs.Operators.{entry_beside, negated_number, negated, add
 use Rattle.dcx_array.specs.Arrays.{entry, filled, first_stop, formed_number, formed_unless, formed_array}
 use Rattle.dcx_array.proofs.Equals.{get_or-list_below}
 use Rattle.dcx_script_laws.specs.Differences.{difference_passes, difference_fault, of_difference}
+use Rattle.dcx_atom.proofs.Fractions.{unsigned_abs-neg}
 
 -- ---- the negative of a number
-unsigned_abs-neg : (z : ℤ) → unsigned_abs (neg_ℤ z) ≡ unsigned_abs z
-unsigned_abs-neg z = omega (arith, ints)
-
 -- the number with its sign turned
 opposite : Frac → Frac
 opposite x = record {
@@ -160,7 +159,8 @@ formed-difference (Err passes) = refl
 formed_array-difference : (shape : Shape) (f g : ℕ → Result Frac Passes) → ((k : ℕ) → g k ≡ as_difference (f k)) → formed_array shape g ≡ of_difference (formed_array shape f)
 formed_array-difference shape f g same =
     ap (formed_array shape) (λ i k. same k i)
-    ∙ ap (formed_unless shape (λ k. as_difference (f k))) (ap first_stop (sym (map-list_below (entries_of (sides_of shape)) f as_difference)) ∙ first_stop-difference (list_below (entries_of (sides_of shape)) f))
+    ∙ ap (formed_unless shape (λ k. as_difference (f k)))
+    (ap first_stop (sym (map-list_below (entries_of (sides_of shape)) f as_difference)) ∙ first_stop-difference (list_below (entries_of (sides_of shape)) f))
     ∙ by (first_stop (list_below (entries_of (sides_of shape)) f))
   where
     by : (o : Option Passes) → formed_unless shape (λ k. as_difference (f k)) (option_map difference_passes o) ≡ of_difference (formed_unless shape f o)

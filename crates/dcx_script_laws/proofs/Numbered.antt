@@ -1,5 +1,6 @@
 -- A difference has the numbers of the sum with the negative.
-use Rattle.std.proofs.Common.{◌≡◌, ℕ, zero, suc, ◌<◌, nat_lt, Bool, true, false, true≢false, if◌then◌else◌, List, [], ◌∷◌, length, Option, Some, None, Result, Ok, Err, pos, get_or, refl, sym, ap, ap₂, subst, ◌∙◌}
+use Rattle.std.proofs.Common.{◌≡◌, ℕ, zero, suc, ◌<◌, nat_lt, Bool, true, false, true≢false, if◌then◌else◌, List, [], ◌∷◌}
+use Rattle.std.proofs.Common.{length, Option, Some, None, Result, Ok, Err, pos, get_or, refl, sym, ap, ap₂, subst, ◌∙◌}
 use Rattle.std.specs.List.{list_all, list_any}
 use Rattle.std.proofs.lemmas.Option.{same_Some}
 use Rattle.dcx_math.specs.Rational.{ℚ, whole, neg_ℚ}
@@ -48,7 +49,11 @@ module _ (setting point : Given) where
   constant_value a = value_of (calls.Constant a) setting point []
 
   constant-negated : (b : Array) → constant_value (negated b) ≡ value_of minus_call setting point (constant_value b ∷ [])
-  constant-negated b = λ i. record { sides = sides_of b.shape; numbers = λ k. by (number_at (negated b).entries k) (number_at b.entries k) (number_at-negated b k) (nat_lt k (entries_of (sides_of b.shape))) i }
+  constant-negated b = λ i. record {
+    sides = sides_of b.shape;
+    numbers = λ k. by (number_at (negated b).entries k) (number_at b.entries k) (number_at-negated b k)
+        (nat_lt k (entries_of (sides_of b.shape))) i;
+  }
     where
       by : (x y : ℚ) → x ≡ neg_ℚ y → (c : Bool) → (if c then x else whole (pos 0)) ≡ (if c then neg_ℚ (if c then y else whole (pos 0)) else whole (pos 0))
       by x y e true = e
@@ -90,9 +95,6 @@ module _ (setting point : Given) where
       of (Err f) = Err f
   unwrapped (Err f) x t e = absurd cc
 
-  beside-left : (i : ℕ) (w : Value) → beside (expression i) w ≡ with_expression (operand (standing i)) (reading w)
-  beside-left i w = refl
-
   beside-right : (v : Value) (j : ℕ) → beside v (expression j) ≡ with_expression (reading v) (operand (standing j))
   beside-right (expression i) j = refl
   beside-right v j = refl
@@ -129,7 +131,8 @@ module _ (setting point : Given) where
 
   module _ (place : Place) (s t u : State) (x y : ℕ) (are : HasTree s) where
     -- a node is subtracted
-    of-node : (v : Value) (j : ℕ) → IsThere s v → j < length s.nodes → add_values Minus place v (expression j) s ≡ Ok (expression x, t) → plus_negative place v (expression j) s ≡ Ok (expression y, u) → Both t u x y
+    of-node : (v : Value) (j : ℕ) → IsThere s v → j < length s.nodes → add_values Minus place v (expression j) s ≡ Ok (expression x, t)
+        → plus_negative place v (expression j) s ≡ Ok (expression y, u) → Both t u x y
     of-node v j left right d p =
         let read = difference-read place (reading v) (standing j) s t x (ap (λ z. added_pair Minus place z s) (sym (beside-right v j)) ∙ d) in
         let n = operand-stands s v read.0 are read.1 left in
@@ -149,7 +152,8 @@ module _ (setting point : Given) where
         by p reads n hn m hm sums (Err fault) pushes g = absurd cc
 
     -- a plain array is subtracted from a node
-    of-plain : (i : ℕ) (b : Array) → i < length s.nodes → add_values Minus place (expression i) (plain b) s ≡ Ok (expression x, t) → plus_negative place (expression i) (plain b) s ≡ Ok (expression y, u) → Both t u x y
+    of-plain : (i : ℕ) (b : Array) → i < length s.nodes → add_values Minus place (expression i) (plain b) s ≡ Ok (expression x, t)
+        → plus_negative place (expression i) (plain b) s ≡ Ok (expression y, u) → Both t u x y
     of-plain i b left d p =
         let n = stand-one setting point s.nodes are i left in
         let neg = value_of minus_call setting point (constant_value b ∷ []) in

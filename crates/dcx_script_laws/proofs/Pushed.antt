@@ -1,5 +1,6 @@
 -- What a push leaves: the node that was there, or one more.
-use Rattle.std.proofs.Common.{◌≡◌, ℕ, zero, suc, ◌+◌, ◌<◌, ◌≤◌, Bool, true, false, cond, inl, inr, nat_le, nat_lt, nat_eq, List, [], ◌∷◌, ◌++◌, length, map, Option, Some, None, Result, Ok, Err, refl, sym, ap, subst, ◌∙◌, arith, true≢false, All, append-nil, append_assoc}
+use Rattle.std.proofs.Common.{◌≡◌, ℕ, zero, suc, ◌+◌, ◌<◌, ◌≤◌, Bool, true, false, cond, inl, inr, nat_le, nat_lt, nat_eq, List, [], ◌∷◌, ◌++◌, length}
+use Rattle.std.proofs.Common.{map, Option, Some, None, Result, Ok, Err, refl, sym, ap, subst, ◌∙◌, arith, true≢false, All, append-nil, append_assoc}
 use Rattle.std.specs.Bool.{Decides}
 use Rattle.std.specs.List.{AllByRecursion, list_all, position_from, slice_get}
 use Rattle.std.specs.Cmp.Lexicographic.{pointwise, bytes_decides}
@@ -28,7 +29,8 @@ module _ {X : Type 0} (p : X → Bool) where
   position-none k [] e i x at = absurd (none-some x at)
   position-none k (y ∷ xs) e i x at = by (p y) refl e (position-none (k + 1) xs) i at
     where
-      by : (b : Bool) → p y ≡ b → cond b (Some k) (position_from p (k + 1) xs) ≡ None → (position_from p (k + 1) xs ≡ None → (j : ℕ) (z : X) → slice_get xs j ≡ Some z → p z ≡ false) → (j : ℕ) → slice_get (y ∷ xs) j ≡ Some x → p x ≡ false
+      by : (b : Bool) → p y ≡ b → cond b (Some k) (position_from p (k + 1) xs) ≡ None
+          → (position_from p (k + 1) xs ≡ None → (j : ℕ) (z : X) → slice_get xs j ≡ Some z → p z ≡ false) → (j : ℕ) → slice_get (y ∷ xs) j ≡ Some x → p x ≡ false
       by true t none rest j there = absurd cc
       by false t none rest zero there = ap p (sym (same_Some y x there)) ∙ t
       by false t none rest (suc j) there = rest none j x there
@@ -37,7 +39,8 @@ module _ {X : Type 0} (p : X → Bool) where
   position-some k [] i e = absurd cc
   position-some k (y ∷ xs) i e = by (p y) refl e (position-some (k + 1) xs i)
     where
-      by : (b : Bool) → p y ≡ b → cond b (Some k) (position_from p (k + 1) xs) ≡ Some i → (position_from p (k + 1) xs ≡ Some i → (j : ℕ) × (x : X) × (k + 1 + j ≡ i) × (slice_get xs j ≡ Some x) × (p x ≡ true))
+      by : (b : Bool) → p y ≡ b → cond b (Some k) (position_from p (k + 1) xs) ≡ Some i
+          → (position_from p (k + 1) xs ≡ Some i → (j : ℕ) × (x : X) × (k + 1 + j ≡ i) × (slice_get xs j ≡ Some x) × (p x ≡ true))
           → (j : ℕ) × (x : X) × (k + j ≡ i) × (slice_get (y ∷ xs) j ≡ Some x) × (p x ≡ true)
       by true t some rest = let same : k ≡ i = cc in (0, y, omega (arith, same), refl, t)
       by false t some rest = let r = rest some in (suc r.0, r.1, omega (arith, r.2), r.3, r.4)
@@ -95,7 +98,8 @@ module _ (s : State) (place : Place) (call : Call) (args : List ℕ) where
     state_of (Ok x) = x.1
     state_of (Err e) = t
 
-    by_limits : (sides : Sides) → All (λ a. a < length s.nodes) args → shape_of call (map (sides_at s.nodes) args) ≡ Some sides → IsNew s.nodes call args → (b c : Bool) → nat_le (length s.nodes + 1) most ≡ b
+    by_limits : (sides : Sides) → All (λ a. a < length s.nodes) args → shape_of call (map (sides_at s.nodes) args) ≡ Some sides → IsNew s.nodes call args
+        → (b c : Bool) → nat_le (length s.nodes + 1) most ≡ b
         → nat_le (entries_in s.nodes + entries_of sides) most ≡ c → limited sides b c ≡ Ok (i, t) → Pushed i t
     unfolding number_of state_of
     by_limits sides there shaped new true true few_nodes few_entries e =

@@ -61,7 +61,8 @@ module _ (setting point : Given) where
   stand-same nodes is vs t h u = ap (values_of setting point) (one_unfolding nodes is t h.tree u h.unfolds) ∙ h.values
 
   -- what is told of the sides of nodes are those of their values
-  unfold-sides : (nodes : List (Node Call)) → AreNodes shape_of nodes → (is : List ℕ) (t : Expressions Call) → Unfold nodes is t → map (λ v. v.sides) (values_of setting point t) ≡ map (sides_at nodes) is
+  unfold-sides : (nodes : List (Node Call)) → AreNodes shape_of nodes → (is : List ℕ) (t : Expressions Call) → Unfold nodes is t
+      → map (λ v. v.sides) (values_of setting point t) ≡ map (sides_at nodes) is
   unfold-sides nodes are [] none h = refl
   unfold-sides nodes are [] (one call args others) h = absurd h
   unfold-sides nodes are (i ∷ is) none h = absurd h

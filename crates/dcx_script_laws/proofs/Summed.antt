@@ -92,7 +92,8 @@ module _ (setting point : Given) where
   abbrev pub lifted : Shape → Numbered → Numbered
   lifted to v = if same_sides v.sides (sides_of to) then v else value_of (calls.Linear (linears.Promote (record { to = to }))) setting point (v ∷ [])
 
-  promoted-gives : (place : Place) (s t : State) (to : Shape) (i j : ℕ) (v : Numbered) → HasTree s → Stand setting point s.nodes (i ∷ []) (v ∷ []) → promoted place to i s ≡ Ok (j, t) → Gives s t j (lifted to v)
+  promoted-gives : (place : Place) (s t : State) (to : Shape) (i j : ℕ) (v : Numbered) → HasTree s → Stand setting point s.nodes (i ∷ []) (v ∷ [])
+      → promoted place to i s ≡ Ok (j, t) → Gives s t j (lifted to v)
   promoted-gives place s t to i j v are h e = by (same_sides v.sides (sides_of to)) (ap (λ sides. chosen (same_sides sides (sides_of to))) (sym (node-sides s i v are h)) ∙ e)
     where
       promotion : Call
@@ -153,7 +154,8 @@ module _ (setting point : Given) where
         by (Some shape) there g = record { shape = shape; shares = ap (shared v.sides) same ∙ there; gives = gives shape g }
 
     -- both operands come to the tree
-    by_operands : (f : ℕ → ℕ → Act ℕ) (u : Numbered) → ((i j : ℕ) (a : State) → HasTree a → Grows s a → Stand setting point a.nodes (i ∷ []) (v ∷ []) → Stand setting point a.nodes (j ∷ []) (w ∷ []) → f i j a ≡ Ok (x, t) → Gives a t x u)
+    by_operands : (f : ℕ → ℕ → Act ℕ) (u : Numbered) → ((i j : ℕ) (a : State) → HasTree a → Grows s a → Stand setting point a.nodes (i ∷ []) (v ∷ [])
+        → Stand setting point a.nodes (j ∷ []) (w ∷ []) → f i j a ≡ Ok (x, t) → Gives a t x u)
         → and_then (pushed place p s) (λ i. pushed place q >>= λ j. f i j) ≡ Ok (x, t) → Gives s t x u
     by_operands f u gives e = first (pushed place p s) refl e
       where
@@ -188,18 +190,22 @@ module _ (setting point : Given) where
             by (Err d) n o = absurd cc
 
     pub broadcast-sums : broadcast_called place plus_call (p ∷ q ∷ []) s ≡ Ok (x, t) → Sums s t x v w
-    broadcast-sums e = by_shape (λ shape. all_pushed place (p ∷ q ∷ []) >>= λ is. all_promoted place shape is >>= λ js. push place plus_call js) w refl (λ shape f. by_operands (λ i j. sum_of_nodes place shape i j) (summed shape v w) (λ i j a tree grown h k. sum-gives place a t shape i j x v w tree h k) (listed shape f)) e
+    broadcast-sums e = by_shape (λ shape. all_pushed place (p ∷ q ∷ []) >>= λ is. all_promoted place shape is >>= λ js. push place plus_call js) w refl (λ shape f. by_operands
+        (λ i j. sum_of_nodes place shape i j) (summed shape v w) (λ i j a tree grown h k. sum-gives place a t shape i j x v w tree h k) (listed shape f)) e
       where
         -- both operands of a list, one after the other
         listed : (shape : Shape) → (all_pushed place (p ∷ q ∷ []) >>= λ is. all_promoted place shape is >>= λ js. push place plus_call js) s ≡ Ok (x, t)
             → and_then (pushed place p s) (λ i. pushed place q >>= λ j. sum_of_nodes place shape i j) ≡ Ok (x, t)
         listed shape f = sym (first (pushed place p s)) ∙ f
           where
-            second : (i : ℕ) (r : Result (ℕ × State) ElabFault) → and_then (and_then (and_then r (λ j. done (j ∷ []))) (λ is. done (i ∷ is))) (λ is. all_promoted place shape is >>= λ js. push place plus_call js) ≡ and_then r (λ j. sum_of_nodes place shape i j)
+            second : (i : ℕ) (r : Result (ℕ × State) ElabFault)
+                → and_then (and_then (and_then r (λ j. done (j ∷ []))) (λ is. done (i ∷ is))) (λ is. all_promoted place shape is >>= λ js. push place plus_call js)
+                ≡ and_then r (λ j. sum_of_nodes place shape i j)
             second i (Ok y) = refl
             second i (Err d) = refl
 
-            first : (r : Result (ℕ × State) ElabFault) → and_then (and_then r (λ i. all_pushed place (q ∷ []) >>= λ is. done (i ∷ is))) (λ is. all_promoted place shape is >>= λ js. push place plus_call js)
+            first : (r : Result (ℕ × State) ElabFault)
+                → and_then (and_then r (λ i. all_pushed place (q ∷ []) >>= λ is. done (i ∷ is))) (λ is. all_promoted place shape is >>= λ js. push place plus_call js)
                 ≡ and_then r (λ i. pushed place q >>= λ j. sum_of_nodes place shape i j)
             first (Ok y) = second y.0 (pushed place q y.1)
             first (Err d) = refl

@@ -1,4 +1,4 @@
--- Laws about the meaning of scripts.
+-- Laws about the meaning of scripts: what binds names, other names, differences, prints and nodes.
 pub mod Renamed
 pub mod Names
 pub mod Bindings

@@ -8,10 +8,9 @@ use Rattle.dcx_syntax.specs.declared.tree.Module.{Module}
 use Rattle.dcx_syntax.specs.declared.tree.Module.TheVariants.{Cvxpy, Numpy}
 use Rattle.dcx_syntax.specs.declared.tree.Script.{Script}
 use Rattle.dcx_syntax.specs.Expressions.{Expr}
-use Rattle.dcx_syntax.specs.Statements.{Lines}
+use Rattle.dcx_syntax.specs.Statements.{Lines, module_bytes}
 use Rattle.dcx_syntax.specs.View.{script_view}
 use Rattle.dcx_script_values.specs.Values.{State, Act}
-use Rattle.dcx_signature.specs.Table.{module_name}
 use Rattle.dcx_elab.specs.declared.work.Work.{Work}
 use Rattle.dcx_elab.specs.Expressions.{expr_means}
 use Rattle.dcx_elab.specs.Statements.{lines_mean}
@@ -22,11 +21,11 @@ use Rattle.dcx_script_laws.specs.Renamed.{expr_renamed, lines_renamed, state_ren
 pub record IsRenaming (rename : List ℕ → List ℕ) : Type 0 where
   pub apart : (a b : List ℕ) → rename a ≡ rename b → a ≡ b
   pub range : rename (codes "range") ≡ codes "range"
-  pub modules : (m : Module) → rename (module_name m) ≡ module_name m
+  pub modules : (m : Module) → rename (module_bytes m) ≡ module_bytes m
 
 -- a word of the language
 abbrev pub is_word : List ℕ → Bool
-is_word name = list_any (λ w. same_name w name) (codes "range" ∷ module_name Cvxpy ∷ module_name Numpy ∷ [])
+is_word name = list_any (λ w. same_name w name) (codes "range" ∷ module_bytes Cvxpy ∷ module_bytes Numpy ∷ [])
 
 -- each name but two, which are exchanged
 abbrev pub exchanged : List ℕ → List ℕ → List ℕ → List ℕ

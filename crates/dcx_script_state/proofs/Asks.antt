@@ -10,16 +10,14 @@ use Rattle.dcx_call.specs.declared.attribute.Variable.{Variable}
 use Rattle.dcx_call.specs.declared.attribute.Parameter.{Parameter}
 use Rattle.dcx_call.specs.declared.call.Call.{Call}
 use Rattle.dcx_call.specs.Attributes.{AreSquare}
-use Rattle.dcx_tree.specs.declared.constraint.Constraint.{Constraint}
 use Rattle.dcx_tree.specs.declared.problem.Problem.{Problem}
 use Rattle.dcx_tree.specs.declared.roots.Roots.{Roots}
 use Rattle.dcx_tree.specs.Gather.{AreDeclarations, IsProblemOf}
 use Rattle.dcx_tree.specs.Problems.{IsObjective, AreConstraints, IsListed, declared_names, roots_of as begins_at}
-use Rattle.dcx_script_values.specs.declared.value.Objective.{Objective}
 use Rattle.dcx_script_values.specs.Values.{Asked, State}
 use Rattle.dcx_script_state.specs.declared.state.Asked as code_asked
 use Rattle.dcx_script_state.specs.Declarations.{roots_of, is_reached}
-use Rattle.dcx_script_state.specs.Ends.{asked_for, roots_in}
+use Rattle.dcx_script_state.specs.Ends.{roots_in}
 use Rattle.dcx_script_state.specs.Kept.{asked_of, IsAsked, IsKept}
 use Rattle.dcx_script_state.proofs.Grown.{AreListed}
 use Rattle.dcx_script_state.proofs.Reached.{reached_are}
@@ -53,11 +51,3 @@ declarations_are nodes roots vs ps e f listed distinct squares = record {
   distinct = subst (λ ws. IsDistinct same_name (declared_names ws roots.parameters)) (sym e) (subst (λ qs. IsDistinct same_name (declared_names vs qs)) (sym f) distinct);
   squares = subst AreSquare (sym e) squares;
 }
-
--- and so is that of constraints
-pub problem_is : (s : State) (o : Objective) (cs ds : List Constraint) (vs : List Variable) (ps : List Parameter) (p : Problem) → ds ≡ cs → vs ≡ s.variables → ps ≡ s.parameters →
-    IsProblemOf s.nodes (record { sense = o.sense; objective = o.node; objective_place = o.place; constraints = ds; variables = vs; parameters = ps }) p → IsProblemOf s.nodes (roots_in s (asked_for o cs)) p
-problem_is s o cs ds vs ps p e f g h =
-    subst (λ xs. IsProblemOf s.nodes (record { sense = o.sense; objective = o.node; objective_place = o.place; constraints = xs; variables = s.variables; parameters = s.parameters }) p) e
-    (subst (λ ws. IsProblemOf s.nodes (record { sense = o.sense; objective = o.node; objective_place = o.place; constraints = ds; variables = ws; parameters = s.parameters }) p) f
-    (subst (λ qs. IsProblemOf s.nodes (record { sense = o.sense; objective = o.node; objective_place = o.place; constraints = ds; variables = vs; parameters = qs }) p) g h))

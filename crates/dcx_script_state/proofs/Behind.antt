@@ -1,16 +1,12 @@
 -- Nodes that come behind others change nothing of what those reach.
-use Rattle.std.proofs.Common.{◌≡◌, ℕ, zero, suc, ◌<◌, ◌⊎◌, Bool, true, List, [], ◌∷◌, ◌++◌, length, Option, option_map, refl, ap, ap₂, subst, ◌∙◌, arith, All, inl, inr}
+use Rattle.std.proofs.Common.{◌≡◌, ℕ, zero, suc, ◌<◌, ◌⊎◌, Bool, true, List, [], ◌∷◌, ◌++◌, length, Option, option_map, refl, ap, subst, ◌∙◌, arith, All, inl, inr}
 use Rattle.std.specs.List.{flat_map, list_any}
 use Rattle.std.specs.Option.{unwrap_or}
 use Rattle.dcx_shape.specs.declared.shape.Sides.{Sides}
 use Rattle.dcx_arena.specs.Nodes.{Node, AreNodes, args_at, call_at}
 use Rattle.dcx_arena.specs.Gather.{has, with_new, with_all, postorder_below, postorder, order_of}
 use Rattle.dcx_arena.proofs.Nodes.{in_front}
-use Rattle.dcx_arena.proofs.Orders.{either, has_split, has_one, one_is, tail_has, all_has, with_there, with_added, has_flat, arg_below}
-
-flat_same : (f g : ℕ → List ℕ) (xs : List ℕ) → ((a : ℕ) → has xs a ≡ true → f a ≡ g a) → flat_map f xs ≡ flat_map g xs
-flat_same f g [] h = refl
-flat_same f g (x ∷ xs) h = ap₂ (λ a b. a ++ b) (h x (has_one x xs)) (flat_same f g xs (λ a k. h a (tail_has x a xs k)))
+use Rattle.dcx_arena.proofs.Orders.{either, has_split, has_one, one_is, tail_has, all_has, with_there, with_added, has_flat, arg_below, flat_same}
 
 any_same : (f g : ℕ → Bool) (xs : List ℕ) → ((a : ℕ) → has xs a ≡ true → f a ≡ g a) → list_any f xs ≡ list_any g xs
 any_same f g [] h = refl

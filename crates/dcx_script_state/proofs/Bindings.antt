@@ -11,7 +11,8 @@ module _ {K A B : Type 0} (f : A → B) where
   insert-seen eq [] k a = refl
   insert-seen eq (e ∷ es) k a = by (insert-seen eq es k a) (eq k e.0)
     where
-      by : seen (insert_entry eq es k a) ≡ insert_entry eq (seen es) k (f a) → (b : Bool) → seen (cond b ((e.0, a) ∷ es) (e ∷ insert_entry eq es k a)) ≡ cond b ((e.0, f a) ∷ seen es) ((e.0, f e.1) ∷ insert_entry eq (seen es) k (f a))
+      by : seen (insert_entry eq es k a) ≡ insert_entry eq (seen es) k (f a) → (b : Bool)
+          → seen (cond b ((e.0, a) ∷ es) (e ∷ insert_entry eq es k a)) ≡ cond b ((e.0, f a) ∷ seen es) ((e.0, f e.1) ∷ insert_entry eq (seen es) k (f a))
       by rest true = refl
       by rest false = ap (λ r. (e.0, f e.1) ∷ r) rest
 

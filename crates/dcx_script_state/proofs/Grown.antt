@@ -3,7 +3,7 @@ use Rattle.std.proofs.Common.{◌≡◌, ℕ, ◌<◌, false, List, [], ◌∷�
 use Rattle.std.specs.List.{Contains}
 use Rattle.std.specs.Option.{unwrap_or}
 use Rattle.std.specs.Result.{OnErr}
-use Rattle.std.proofs.lemmas.Option.{slice_get_within, none-some}
+use Rattle.std.proofs.lemmas.Option.{slice_get_within}
 use Rattle.dcx_shape.specs.declared.place.Place.{Place}
 use Rattle.dcx_shape.specs.declared.shape.Sides.{Sides}
 use Rattle.dcx_shape.specs.declared.shape.Sides.TheVariants.{Scalar}
@@ -44,7 +44,8 @@ module _ (nodes more : List (Node Call)) where
       right = λ k c at. has_same c.right _ (h.constraints.right k c at);
       few = h.constraints.few;
     };
-    reached = λ name. h.reached name ∙ sym (reached_same shape_of nodes are more (is_parameter name) (roots_of (asked_of q)) (roots_below nodes q.objective.node q.constraints.items h.objective h.constraints));
+    reached = λ name. h.reached name ∙ sym (reached_same shape_of nodes are more (is_parameter name) (roots_of (asked_of q))
+        (roots_below nodes q.objective.node q.constraints.items h.objective h.constraints));
   }
 
 -- ---- what is listed
@@ -100,7 +101,8 @@ push_comes before call args place (Ok id) after h same = by (shape_of call (map 
     by (Some sides) (inl found) = stays found.same
     by (Some sides) (inr added) = comes (record { call = call; args = args; sides = sides; place = place }) refl added.added
 
-pub listed_after : (vs : List Variable) (ps : List Parameter) (before after : List (Node Call)) (call : Call) → Comes before call after → IsListed vs ps call → AreListed vs ps before → AreListed vs ps after
+pub listed_after : (vs : List Variable) (ps : List Parameter) (before after : List (Node Call)) (call : Call) → Comes before call after → IsListed vs ps call
+    → AreListed vs ps before → AreListed vs ps after
 listed_after vs ps before after call (stays e) h all = subst (AreListed vs ps) (sym e) all
 listed_after vs ps before after call (comes n is e) h all =
     subst (AreListed vs ps) (sym e) (push_each (λ i m. IsListed vs ps m.call) before n all (subst (IsListed vs ps) (sym is) h))
@@ -118,11 +120,10 @@ kept_after before after vs ps asked call come h are k = record {
   begins = λ q e. asked_after before after call come are q (k.begins q e);
 }
 
-pub kept_variable : (nodes : List (Node Call)) (vs : List Variable) (ps : List Parameter) (asked : Option code_asked.Asked) (v : Variable) → IsKept nodes vs ps asked → IsKept nodes (vs ++ v ∷ []) ps asked
+pub kept_variable : (nodes : List (Node Call)) (vs : List Variable) (ps : List Parameter) (asked : Option code_asked.Asked) (v : Variable)
+    → IsKept nodes vs ps asked → IsKept nodes (vs ++ v ∷ []) ps asked
 kept_variable nodes vs ps asked v k = record { listed = λ i n at. listed_variable vs ps v n.call (k.listed i n at); begins = k.begins }
 
-pub kept_parameter : (nodes : List (Node Call)) (vs : List Variable) (ps : List Parameter) (asked : Option code_asked.Asked) (p : Parameter) → IsKept nodes vs ps asked → IsKept nodes vs (ps ++ p ∷ []) asked
+pub kept_parameter : (nodes : List (Node Call)) (vs : List Variable) (ps : List Parameter) (asked : Option code_asked.Asked) (p : Parameter)
+    → IsKept nodes vs ps asked → IsKept nodes vs (ps ++ p ∷ []) asked
 kept_parameter nodes vs ps asked p k = record { listed = λ i n at. listed_parameter vs ps p n.call (k.listed i n at); begins = k.begins }
-
-pub kept_start : (vs : List Variable) (ps : List Parameter) → IsKept [] vs ps None
-kept_start vs ps = record { listed = λ i n at. absurd (none-some n at); begins = λ q e. absurd (none-some q e) }

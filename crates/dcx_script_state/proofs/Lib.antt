@@ -1,4 +1,4 @@
--- The lemmas by which the functions of this crate are proved.
+-- The lemmas on pushes, declarations, values by name, and the problem that a script asks and solves.
 mod Behind
 pub mod SameCalls
 mod Found

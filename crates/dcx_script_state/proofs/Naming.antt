@@ -100,7 +100,8 @@ on_err (Err e) f p = f p
 
 module _ (vs : List Variable) (ps : List Parameter) (has now : List ℕ → Bool) (named : AreNamed vs ps has) where
   -- one variable more
-  named_variable : (v : Variable) (name : List ℕ) → name ≡ v.name → is_among v.name vs ps ≡ false → IsSquare v → ((q : List ℕ) → now q ≡ cond (same_name name q) true (has q)) → AreNamed (vs ++ v ∷ []) ps now
+  named_variable : (v : Variable) (name : List ℕ) → name ≡ v.name → is_among v.name vs ps ≡ false → IsSquare v
+      → ((q : List ℕ) → now q ≡ cond (same_name name q) true (has q)) → AreNamed (vs ++ v ∷ []) ps now
   named_variable v name is new square puts =
       let t = either_true (list_any (λ w. same_name v.name w.name) vs) (list_any (λ p. same_name v.name p.name) ps) new in
       record {
@@ -130,7 +131,8 @@ module _ (vs : List Variable) (ps : List Parameter) (has now : List ℕ → Bool
 
       last : IsDistinct same_name (declared_names vs (ps ++ p ∷ []))
       last =
-          subst (IsDistinct same_name) (sym (ap (λ ns. map (λ (v : Variable). v.name) vs ++ ns) (map_last (λ (r : Parameter). r.name) ps p) ∙ append_more (map (λ (v : Variable). v.name) vs) (map (λ (r : Parameter). r.name) ps) p.name))
+          subst (IsDistinct same_name) (sym (ap (λ ns. map (λ (v : Variable). v.name) vs ++ ns) (map_last (λ (r : Parameter). r.name) ps p)
+          ∙ append_more (map (λ (v : Variable). v.name) vs) (map (λ (r : Parameter). r.name) ps) p.name))
           (distinct_last (map (λ (v : Variable). v.name) vs ++ map (λ (r : Parameter). r.name) ps) p.name
           (none_both (λ (v : Variable). v.name) vs (map (λ (r : Parameter). r.name) ps) p.name t.0 (none_of (λ (r : Parameter). r.name) ps p.name t.1)) named.distinct)
 
@@ -142,18 +144,15 @@ module _ (vs : List Variable) (ps : List Parameter) (has now : List ℕ → Bool
     pub variable_came : (v : Variable) (ws : List Variable) → name ≡ v.name → is_among v.name vs ps ≡ false → IsSquare v → OnOk r (ws ≡ vs ++ v ∷ []) → OnErr r (ws ≡ vs) → AreNamed ws ps now
     variable_came v ws is new square pushed stays = by r puts same pushed stays
       where
-        by : (o : Result T E) → OnOk o ((q : List ℕ) → now q ≡ cond (same_name name q) true (has q)) → OnErr o ((q : List ℕ) → now q ≡ has q) → OnOk o (ws ≡ vs ++ v ∷ []) → OnErr o (ws ≡ vs) → AreNamed ws ps now
+        by : (o : Result T E) → OnOk o ((q : List ℕ) → now q ≡ cond (same_name name q) true (has q)) → OnErr o ((q : List ℕ) → now q ≡ has q) → OnOk o (ws ≡ vs ++ v ∷ [])
+            → OnErr o (ws ≡ vs) → AreNamed ws ps now
         by (Ok x) p u e f = subst (λ us. AreNamed us ps now) (sym e) (named_variable v name is new square p)
         by (Err d) p u e f = subst (λ us. AreNamed us ps now) (sym f) (named_as_before u)
 
     pub parameter_came : (p : Parameter) (qs : List Parameter) → name ≡ p.name → is_among p.name vs ps ≡ false → OnOk r (qs ≡ ps ++ p ∷ []) → OnErr r (qs ≡ ps) → AreNamed vs qs now
     parameter_came p qs is new pushed stays = by r puts same pushed stays
       where
-        by : (o : Result T E) → OnOk o ((q : List ℕ) → now q ≡ cond (same_name name q) true (has q)) → OnErr o ((q : List ℕ) → now q ≡ has q) → OnOk o (qs ≡ ps ++ p ∷ []) → OnErr o (qs ≡ ps) → AreNamed vs qs now
+        by : (o : Result T E) → OnOk o ((q : List ℕ) → now q ≡ cond (same_name name q) true (has q)) → OnErr o ((q : List ℕ) → now q ≡ has q) → OnOk o (qs ≡ ps ++ p ∷ [])
+            → OnErr o (qs ≡ ps) → AreNamed vs qs now
         by (Ok x) g u e f = subst (λ rs. AreNamed vs rs now) (sym e) (named_parameter p name is new g)
         by (Err d) g u e f = subst (λ rs. AreNamed vs rs now) (sym f) (named_as_before u)
-
--- nothing is declared
-pub named_start : (has : List ℕ → Bool) → ((q : List ℕ) → has q ≡ false) → AreNamed [] [] has
-unfolding IsDistinct
-named_start has none = record { told = none; distinct = tt; squares = All-nil IsSquare }

@@ -116,12 +116,6 @@ module _ (s : State) (place : Place) (call : Call) (args : List ℕ) (are : AreN
       by (Some sides) e (TooMany what count) h = refused sides e h.new what count h.over
       by (Some sides) e Memory h = tt
 
--- an argument that is no node
-pub push_stray : (s : State) (place : Place) (call : Call) (args : List ℕ) → are_there s.nodes args ≡ false → push place call args s ≡ Err (faults.BadArgument place)
-push_stray s place call args e =
-    ap (λ b. and_then (unless (faults.BadArgument place) b s)
-    (λ _ t. and_then (or_fault (faults.ShapeClash place) (shape_of call (map (sides_at s.nodes) args)) t) (λ sides. found_or_added place (record { call = call; args = args; sides = sides; place = place }) (position_from (is_of call args) 0 s.nodes)))) e
-
 -- ---- what is returned
 abbrev pub seen_at : Place → Result NodeId TreeFault → Result NodeId ElabFault
 seen_at place (Ok id) = Ok id

@@ -32,7 +32,9 @@ use Rattle.dcx_call.specs.declared.linears.LinearCall.TheVariants.{Plus, Minus, 
 use Rattle.dcx_call.specs.declared.call.Call.{Call}
 use Rattle.dcx_call.specs.declared.call.Call.TheVariants as calls
 use Rattle.dcx_script_values.specs.Same.{same_bool, same_shape, same_numbers, same_array, same_axis, same_attribute, same_whole, same_pairing, same_atom, same_linear, same_call}
-use Rattle.dcx_array.proofs.Equals.{shape_from_sides, array_from_parts, index_from_parts}
+use Rattle.dcx_array.proofs.Equals.{index_from_parts}
+use Rattle.dcx_shape.proofs.OneShape.{shape_from_sides}
+use Rattle.dcx_atom.proofs.OneArray.{array_from_parts}
 
 joined : (a b : Bool) → a ≡ true → b ≡ true → (a && b) ≡ true
 joined true true e f = refl
@@ -119,7 +121,8 @@ atoms a b = (λ e. absurd (cc), λ e. absurd (cc))
 indices : (a b : Index) → Decides (same_shape a.from b.from && (same_shape a.to b.to && pointwise nat_eq a.places b.places)) (a ≡ b)
 indices a b =
     two (same_shape a.from b.from) (same_shape a.to b.to && pointwise nat_eq a.places b.places) (shapes_decide a.from b.from)
-    (two {R = (a.to ≡ b.to) × (a.places ≡ b.places)} (same_shape a.to b.to) (pointwise nat_eq a.places b.places) (shapes_decide a.to b.to) (bytes_decides a.places b.places) (λ e f. (e, f)) (λ r. r.0) (λ r. r.1))
+    (two {R = (a.to ≡ b.to) × (a.places ≡ b.places)} (same_shape a.to b.to) (pointwise nat_eq a.places b.places) (shapes_decide a.to b.to)
+    (bytes_decides a.places b.places) (λ e f. (e, f)) (λ r. r.0) (λ r. r.1))
     (λ e r. index_from_parts a b e r.0 r.1) (ap (λ z. z.from)) (λ e. (ap (λ z. z.to) e, ap (λ z. z.places) e))
 
 linears : (a b : LinearCall) → Decides (same_linear a b) (a ≡ b)
@@ -145,14 +148,17 @@ linears a b = (λ e. absurd (cc), λ e. absurd (cc))
 pub calls_decide : (a b : Call) → Decides (same_call a b) (a ≡ b)
 calls_decide (calls.Variable a) (calls.Variable b) =
     two (same_name a.name b.name) (same_shape a.shape b.shape && (same_attribute a.attribute b.attribute && same_whole a.whole b.whole)) (bytes_decides a.name b.name)
-    (two {R = (a.shape ≡ b.shape) × ((a.attribute ≡ b.attribute) × (a.whole ≡ b.whole))} (same_shape a.shape b.shape) (same_attribute a.attribute b.attribute && same_whole a.whole b.whole) (shapes_decide a.shape b.shape)
-    (two {R = (a.attribute ≡ b.attribute) × (a.whole ≡ b.whole)} (same_attribute a.attribute b.attribute) (same_whole a.whole b.whole) (attributes a.attribute b.attribute) (wholes a.whole b.whole) (λ e f. (e, f)) (λ r. r.0) (λ r. r.1))
+    (two {R = (a.shape ≡ b.shape) × ((a.attribute ≡ b.attribute) × (a.whole ≡ b.whole))} (same_shape a.shape b.shape)
+    (same_attribute a.attribute b.attribute && same_whole a.whole b.whole) (shapes_decide a.shape b.shape)
+    (two {R = (a.attribute ≡ b.attribute) × (a.whole ≡ b.whole)} (same_attribute a.attribute b.attribute) (same_whole a.whole b.whole) (attributes a.attribute b.attribute)
+    (wholes a.whole b.whole) (λ e f. (e, f)) (λ r. r.0) (λ r. r.1))
     (λ e f. (e, f)) (λ r. r.0) (λ r. r.1))
     (λ e r. λ i. calls.Variable (record { name = e i; shape = r.0 i; attribute = r.1.0 i; whole = r.1.1 i }))
     (λ e. cc) (λ e. (cc, (cc, cc)))
 calls_decide (calls.Parameter a) (calls.Parameter b) =
     two (same_name a.name b.name) (same_shape a.shape b.shape && same_attribute a.attribute b.attribute) (bytes_decides a.name b.name)
-    (two {R = (a.shape ≡ b.shape) × (a.attribute ≡ b.attribute)} (same_shape a.shape b.shape) (same_attribute a.attribute b.attribute) (shapes_decide a.shape b.shape) (attributes a.attribute b.attribute) (λ e f. (e, f)) (λ r. r.0) (λ r. r.1))
+    (two {R = (a.shape ≡ b.shape) × (a.attribute ≡ b.attribute)} (same_shape a.shape b.shape) (same_attribute a.attribute b.attribute) (shapes_decide a.shape b.shape)
+    (attributes a.attribute b.attribute) (λ e f. (e, f)) (λ r. r.0) (λ r. r.1))
     (λ e r. λ i. calls.Parameter (record { name = e i; shape = r.0 i; attribute = r.1 i }))
     (λ e. cc) (λ e. (cc, cc))
 calls_decide (calls.Constant a) (calls.Constant b) = one (same_array a b) (arrays a b) (ap calls.Constant) (λ e. cc)

@@ -1,14 +1,13 @@
 -- What comes of the steps by which a problem is made, and of the end.
-use Rattle.std.proofs.Common.{◌≡◌, ℕ, Bool, true, false, ◌&&◌, List, [], ◌∷◌, ◌++◌, length, Some, is_none, Result, Ok, Err, refl, sym, ap, ap₂, ◌∙◌, subst, arith}
+use Rattle.std.proofs.Common.{◌≡◌, ℕ, Bool, true, false, ◌&&◌, List, Some, is_none, Result, Ok, Err, sym, ap, ap₂, ◌∙◌, subst}
 use Rattle.std.specs.List.{list_all}
 use Rattle.dcx_shape.specs.declared.place.Place.{Place}
-use Rattle.dcx_point.specs.Pairs.{Pairs}
 use Rattle.dcx_tree.specs.declared.constraint.Sense.{Sense}
 use Rattle.dcx_tree.specs.declared.constraint.Constraint.{Constraint}
 use Rattle.dcx_script_values.specs.declared.fault.ElabFault.{ElabFault}
 use Rattle.dcx_script_values.specs.declared.fault.ElabFault.TheVariants.{BadArgument, TwoProblems}
 use Rattle.dcx_script_values.specs.Values.{Value, objective, problem, Asked, State, and_then, unless}
-use Rattle.dcx_script_state.specs.Declarations.{constraint_list, is_objective, are_sides, make_problem, events_or_end}
+use Rattle.dcx_script_state.specs.Declarations.{constraint_list, is_objective, are_sides, make_problem}
 
 module _ (place : Place) (sense : Sense) (i : ℕ) (p : Place) (vs : List Value) where
   abbrev asked : List Constraint → Asked
@@ -36,13 +35,3 @@ module _ (place : Place) (sense : Sense) (i : ℕ) (p : Place) (vs : List Value)
       ap (make_problem place (objective sense i p) vs) (sym same)
       ∙ ap₂ (made s) (same_may s cs true is e) f
       ∙ ap (λ ds. Ok (problem, record s { asked = Some (asked ds) })) (sym is)
-
--- ---- the end
--- a script without a solve is solved once
-pub events_none : (last end : Pairs) (es after : List Pairs) → length es ≡ 0 → after ≡ es ++ end ∷ [] → end ≡ last → after ≡ events_or_end last es
-events_none last end [] after e puts is = puts ∙ ap (λ p. p ∷ []) is
-events_none last end (x ∷ es) after e puts is = absurd (omega arith)
-
-pub events_some : (last : Pairs) (es after : List Pairs) → ¬ (length es ≡ 0) → after ≡ es → after ≡ events_or_end last es
-events_some last [] after h same = absurd (h refl)
-events_some last (x ∷ es) after h same = same

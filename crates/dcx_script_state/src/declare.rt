@@ -9,7 +9,19 @@ ghost use Rattle.dcx_script_values.specs.Nodes.{push};
 ghost use Rattle.dcx_script_values.specs.Meant.{meant};
 ghost use Rattle.dcx_script_values.specs.View.{extent_sides, read_as, Gives};
 ghost use Rattle.dcx_script_state.specs.Attributes.{may_stand};
-ghost use Rattle.dcx_script_state.specs.Declarations.{is_declared, declared_shape, variable_with, parameter_with, declare_variable, declare_parameter, set_value, first_value, set_first, parameter_of, give};
+ghost use Rattle.dcx_script_state.specs.Declarations.{
+  is_declared,
+  declared_shape,
+  variable_with,
+  parameter_with,
+  declare_variable,
+  declare_parameter,
+  set_value,
+  first_value,
+  set_first,
+  parameter_of,
+  give,
+};
 
 use crate::flags::Flags;
 use crate::problem::put_copy;
@@ -107,7 +119,8 @@ impl State {
         extent: Extent,
         flags: Flags,
     ) -> Result<(), ElabFault>
-        ensures { Gives (λ _. tt) result self.now (and_then (unless (faults.BadArgument place) (may_stand flags && not (is_declared name.now self.now)) self.now) (λ _. unless (faults.ShapeClash place) (not (flags.symmetric || flags.diag) || is_square (extent_sides extent)))) }
+        ensures { Gives (λ _. tt) result self.now (and_then (unless (faults.BadArgument place) (may_stand flags && not (is_declared name.now self.now)) self.now)
+            (λ _. unless (faults.ShapeClash place) (not (flags.symmetric || flags.diag) || is_square (extent_sides extent)))) }
     {
         if !flags.may_stand() || self.declared.has(name) {
             return Err(ElabFault::BadArgument(place));
@@ -128,7 +141,8 @@ impl State {
     ) -> Result<NodeId, ElabFault>
         requires new { is_declared name.now self.old ≡ false }
         requires square { (flags.symmetric || flags.diag) ≡ true → is_square (extent_sides extent) ≡ true }
-        ensures { Gives (λ i. i.0) result self.new (and_then (declared_shape place (extent_sides extent) self.old) (λ shape s. push place (calls.Variable (variable_with name.now shape flags)) [] (record s { variables = s.variables ++ variable_with name.now shape flags ∷ [] }))) }
+        ensures { Gives (λ i. i.0) result self.new (and_then (declared_shape place (extent_sides extent) self.old) (λ shape s. push place
+            (calls.Variable (variable_with name.now shape flags)) [] (record s { variables = s.variables ++ variable_with name.now shape flags ∷ [] }))) }
     {
         let shape = self.declared_shape(place, extent)?;
         let listed = variable(self.alloc, name, shape, flags)?;
@@ -168,7 +182,8 @@ impl State {
         flags: Flags,
         unoffered: bool,
     ) -> Result<(), ElabFault>
-        ensures { Gives (λ _. tt) result self.now (and_then (unless (faults.BadArgument place) (not (flags.nonneg && flags.nonpos) && not (is_declared name.now self.now)) self.now) (λ _. unless (faults.NotOffered place) (not unoffered))) }
+        ensures { Gives (λ _. tt) result self.now (and_then (unless (faults.BadArgument place)
+            (not (flags.nonneg && flags.nonpos) && not (is_declared name.now self.now)) self.now) (λ _. unless (faults.NotOffered place) (not unoffered))) }
     {
         if (flags.nonneg && flags.nonpos) || self.declared.has(name) {
             return Err(ElabFault::BadArgument(place));
@@ -188,7 +203,9 @@ impl State {
         flags: Flags,
     ) -> Result<NodeId, ElabFault>
         requires { is_declared name.now self.old ≡ false }
-        ensures { Gives (λ i. i.0) result self.new (and_then (declared_shape place (extent_sides extent) self.old) (λ shape s. push place (calls.Parameter (parameter_with name.now shape flags.nonneg flags.nonpos)) [] (record s { parameters = s.parameters ++ parameter_with name.now shape flags.nonneg flags.nonpos ∷ [] }))) }
+        ensures { Gives (λ i. i.0) result self.new
+            (and_then (declared_shape place (extent_sides extent) self.old) (λ shape s. push place (calls.Parameter (parameter_with name.now shape flags.nonneg flags.nonpos))
+            [] (record s { parameters = s.parameters ++ parameter_with name.now shape flags.nonneg flags.nonpos ∷ [] }))) }
     {
         let shape = self.declared_shape(place, extent)?;
         let listed = parameter(self.alloc, name, shape, flags)?;

@@ -6,7 +6,21 @@ ghost use Rattle.dcx_arena.specs.Nodes.{positions, sides_at, call_at, AreNodes};
 ghost use Rattle.dcx_call.specs.Calls.{shape_of};
 ghost use Rattle.dcx_tree.specs.Problems.{IsListed};
 ghost use Rattle.dcx_script_values.specs.Values.{and_then};
-ghost use Rattle.dcx_script_values.specs.Nodes.{are_there, given_sides, push, pushed, all_pushed, promoted, all_promoted, operand_sides, common_shape, called, broadcast_called, subtracted, constrained};
+ghost use Rattle.dcx_script_values.specs.Nodes.{
+  are_there,
+  given_sides,
+  push,
+  pushed,
+  all_pushed,
+  promoted,
+  all_promoted,
+  operand_sides,
+  common_shape,
+  called,
+  broadcast_called,
+  subtracted,
+  constrained,
+};
 ghost use Rattle.dcx_script_values.specs.View.{meant_operand, Gives};
 ghost use Rattle.dcx_script_state.specs.Declarations.{is_declaration};
 
@@ -183,7 +197,8 @@ impl State {
         call: &Call,
         operands: &[Operand],
     ) -> Result<Vec<NodeId>, ElabFault>
-        ensures { Gives (λ v. positions v.items) result self.new (and_then (given_sides place call.now (map (operand_sides self.old.nodes) (map meant_operand operands.now)) self.old) (λ _. all_pushed place (map meant_operand operands.now))) }
+        ensures { Gives (λ v. positions v.items) result self.new (and_then (given_sides place call.now
+            (map (operand_sides self.old.nodes) (map meant_operand operands.now)) self.old) (λ _. all_pushed place (map meant_operand operands.now))) }
     {
         let shapes = self.shapes(operands)?;
         if call.shape(&shapes).is_none() {
@@ -214,7 +229,8 @@ impl State {
         place: Place,
         operands: &[Operand],
     ) -> Result<Vec<NodeId>, ElabFault>
-        ensures { Gives (λ v. positions v.items) result self.new (and_then (common_shape place (map meant_operand operands.now) self.old) (λ shape s. and_then (all_pushed place (map meant_operand operands.now) s) (all_promoted place shape))) }
+        ensures { Gives (λ v. positions v.items) result self.new (and_then (common_shape place (map meant_operand operands.now) self.old)
+            (λ shape s. and_then (all_pushed place (map meant_operand operands.now) s) (all_promoted place shape))) }
     {
         let shape = self.shape_of_all(place, operands)?;
         let nodes = self.all_pushed(place, operands)?;

@@ -1,13 +1,13 @@
 -- What comes of a fault and of a value where something is carried out after something else.
-use Rattle.std.specs.Prelude.{◌≡◌, List, [], ◌∷◌, ◌++◌, Result, Ok, Err}
-use Rattle.std.proofs.Common.{refl, sym, ap, subst, append_assoc}
+use Rattle.std.specs.Prelude.{◌≡◌, List, ◌++◌, Result, Ok, Err}
+use Rattle.std.proofs.Common.{sym, ap, subst}
 use Rattle.dcx_shape.specs.declared.place.Place.{Place}
 use Rattle.dcx_script_values.specs.declared.fault.ElabFault.{ElabFault}
 use Rattle.dcx_script_values.specs.declared.fault.ElabFault.TheVariants.{Memory}
 use Rattle.dcx_script_values.specs.Values.{State, Act, and_then, done}
 use Rattle.dcx_script_values.specs.Nodes.{Operand}
 use Rattle.dcx_script_values.specs.Kinds.{Reading}
-use Rattle.dcx_script_values.specs.Operands.{operand_read, each_read}
+use Rattle.dcx_script_values.specs.Operands.{each_read}
 use Rattle.dcx_script_values.specs.View.{Fails, Gives}
 
 -- a fault ends what would follow
@@ -20,7 +20,8 @@ pub Fails-same : {A : Type 0} (e : ElabFault) (m n : Result (A × State) ElabFau
 Fails-same e m n is h = subst (Fails e) (sym is) h
 
 -- a fault that is passed on is the fault that is meant
-pub Gives-err : {X Y : Type 0} (view : X → Y) (r : Result X ElabFault) (after : State) (given : Result (Y × State) ElabFault) (y e : ElabFault) → r ≡ Err y → y ≡ e → Fails e given → Gives view r after given
+pub Gives-err : {X Y : Type 0} (view : X → Y) (r : Result X ElabFault) (after : State) (given : Result (Y × State) ElabFault) (y e : ElabFault) → r ≡ Err y → y ≡ e
+    → Fails e given → Gives view r after given
 Gives-err view r after given y e is same h = subst (λ q. Gives view q after given) (sym is) (subst (λ z. Fails z given) (sym same) h)
 
 -- a value is gone on with
@@ -31,15 +32,3 @@ then_is m f x s e = ap (λ r. and_then r f) e
 -- what was read, and then the rest
 abbrev pub read_on : Place → List Operand → List Reading → Act (List Operand)
 read_on place xs rs s = and_then (each_read place rs s) (λ ys. done (xs ++ ys))
-
-put_behind : (xs : List Operand) (x : Operand) (m : Result (List Operand × State) ElabFault)
-    → and_then (and_then m (λ ys. done (x ∷ ys))) (λ ys. done (xs ++ ys)) ≡ and_then m (λ ys. done ((xs ++ x ∷ []) ++ ys))
-put_behind xs x (Ok p) = ap (λ ys. Ok (ys, p.1)) (sym (append_assoc xs (x ∷ []) p.0))
-put_behind xs x (Err e) = refl
-
-pub read_on-next : (place : Place) (xs : List Operand) (r : Reading) (rs : List Reading) (x : Operand) (s : State) → operand_read place r s ≡ Ok (x, s)
-    → read_on place xs (r ∷ rs) s ≡ read_on place (xs ++ x ∷ []) rs s
-read_on-next place xs r rs x s e = rw e (put_behind xs x (each_read place rs s))
-
-pub read_on-fault : (place : Place) (xs : List Operand) (r : Reading) (rs : List Reading) (e : ElabFault) (s : State) → Fails e (operand_read place r s) → Fails e (read_on place xs (r ∷ rs) s)
-read_on-fault place xs r rs e s h = Fails-then e (each_read place (r ∷ rs) s) _ (Fails-then e (operand_read place r s) _ h)

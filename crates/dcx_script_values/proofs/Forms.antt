@@ -54,7 +54,8 @@ pub is_constant-form : (vs : List Value) → length vs ≤ 20000 → is_constant
 is_constant-form [] few = refl
 is_constant-form (v ∷ vs) few = rw (not_none v vs) (by (list_all is_number (v ∷ vs)) (list_any is_list (v ∷ vs)))
   where
-    by : (b d : Bool) → is_constant_form (if b then forms.Numbers else (if d then forms.Nested else forms.Unfit)) ≡ is_constant (if b then or_unfit (vector_of (v ∷ vs)) else (if d then nested else unfit))
+    by : (b d : Bool) → is_constant_form (if b then forms.Numbers else (if d then forms.Nested else forms.Unfit))
+        ≡ is_constant (if b then or_unfit (vector_of (v ∷ vs)) else (if d then nested else unfit))
     by true d = sym (constant_some _ (shape_with (Vector (length (v ∷ vs)))) (vector_there v vs few))
     by false true = refl
     by false false = refl
@@ -84,14 +85,3 @@ numbers_sides (v ∷ vs) e = by (list_all is_number (v ∷ vs)) (list_any is_lis
 
 pub numbers_sides-many : (vs : List Value) → form_of vs ≡ forms.Numbers → 20000 < length vs → reading_sides [] (list_reading vs) ≡ None
 numbers_sides-many vs e many = numbers_sides vs e ∙ ap (option_map sides_of) (many_none (length vs) many)
-
--- a list of another form has none
-pub other_sides : (vs : List Value) → form_of vs ≢ forms.Numbers → reading_sides [] (list_reading vs) ≡ None
-other_sides [] other = refl
-other_sides (v ∷ vs) other = by (list_all is_number (v ∷ vs)) (list_any is_list (v ∷ vs)) (rw (not_none v vs) at other)
-  where
-    by : (b d : Bool) → (if b then forms.Numbers else (if d then forms.Nested else forms.Unfit)) ≢ forms.Numbers
-        → reading_sides [] (if b then or_unfit (vector_of (v ∷ vs)) else (if d then nested else unfit)) ≡ None
-    by true d f = absurd (f refl)
-    by false true f = refl
-    by false false f = refl

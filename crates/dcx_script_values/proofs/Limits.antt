@@ -3,7 +3,6 @@ use Rattle.std.proofs.Common.{◌≡◌, refl, arith, suc, ◌+◌, ◌<◌, ◌
 use Rattle.std.proofs.lemmas.Bool.{lt-leb, le-leb}
 use Rattle.dcx_shape.specs.declared.place.Place.{Place}
 use Rattle.dcx_arena.specs.declared.fault.Count.TheVariants.{Items}
-use Rattle.dcx_script_values.specs.declared.fault.ElabFault.TheVariants.{BadArgument}
 use Rattle.dcx_script_values.specs.Values.{Value, Values, values_of, items_of, counted, count, depth, State, too_many, with_room, joined}
 use Rattle.dcx_script_values.proofs.Lists.{values_of-items_of, count-items_of}
 
@@ -11,13 +10,7 @@ use Rattle.dcx_script_values.proofs.Lists.{values_of-items_of, count-items_of}
 pub joined-over : (place : Place) (xs ys : Values) (s : State) → 20000 < count xs + count ys → joined place xs ys s ≡ Err (too_many place Items (count xs + count ys))
 joined-over place xs ys s over = rw (count-items_of xs ys, lt-leb (count xs + count ys) 20000 over) refl
 
-pub joined-within : (place : Place) (xs ys : Values) (s : State) → count xs + count ys ≤ 20000 → joined place xs ys s ≡ Ok (values_of (items_of xs ++ items_of ys), s)
-joined-within place xs ys s within = rw (count-items_of xs ys, le-leb (count xs + count ys) 20000 within) refl
-
 -- ---- one item more
-pub room-deep : (place : Place) (vs : Values) (v : Value) (s : State) → 64 ≤ depth v → with_room place vs v s ≡ Err (BadArgument place)
-room-deep place vs v s deep = rw (lt-leb (suc (depth v)) 64 (omega (arith, deep))) refl
-
 pub room-over : (place : Place) (vs : Values) (v : Value) (s : State) → depth v < 64 → 20000 < count vs + counted v → with_room place vs v s ≡ Err (too_many place Items (count vs + counted v))
 room-over place vs v s shallow over = rw (values_of-items_of vs, le-leb (suc (depth v)) 64 (omega (arith, shallow)), lt-leb (suc (count vs + counted v)) 20001 (omega (arith, over))) refl
 

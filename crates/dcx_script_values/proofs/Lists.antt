@@ -1,9 +1,9 @@
 -- Items as a list of values, what they count and how deep they are.
-use Rattle.std.proofs.Common.{◌≡◌, refl, ap, arith, ℕ, ◌+◌, ◌<◌, ◌≤◌, max, Bool, ◌&&◌, List, [], ◌∷◌, ◌++◌, map, length}
-use Rattle.std.specs.List.{list_all}
+use Rattle.std.proofs.Common.{◌≡◌, refl, ap, arith, ℕ, ◌+◌, ◌<◌, ◌≤◌, max, List, [], ◌∷◌, ◌++◌, map, length}
 use Rattle.dcx_shape.specs.Shape.{sides_of}
 use Rattle.dcx_script_values.specs.declared.value.Value as code_value
-use Rattle.dcx_script_values.specs.Values.{Value, Values, end, item, values_of, items_of, counted, count, depth, deepest, plain, text, truth, nothing, tuple, list, range, library, expression, constraint, objective, problem, result}
+use Rattle.dcx_script_values.specs.Values.{Value, Values, end, item, values_of, items_of, counted, count, depth, deepest, plain, text}
+use Rattle.dcx_script_values.specs.Values.{truth, nothing, tuple, list, range, library, expression, constraint, objective, problem, result}
 use Rattle.dcx_script_values.specs.Meant.{meant, items_meant, AreCounted}
 use Rattle.dcx_script_values.specs.Falls.{plain_count-positive}
 
@@ -28,11 +28,6 @@ count-items_of vs ws = rw (count-append (items_of vs) (items_of ws), values_of-i
 
 pub deepest-items_of : (vs ws : Values) → deepest (values_of (items_of vs ++ items_of ws)) ≡ max (deepest vs) (deepest ws)
 deepest-items_of vs ws = rw (deepest-append (items_of vs) (items_of ws), values_of-items_of vs, values_of-items_of ws) refl
-
--- a test of the values that were mapped
-pub list_all-map : {A B : Type 0} (f : A → B) (p : B → Bool) (xs : List A) → list_all p (map f xs) ≡ list_all (λ x. p (f x)) xs
-list_all-map f p [] = refl
-list_all-map f p (x ∷ xs) = ap (λ b. p (f x) && b) (list_all-map f p xs)
 
 -- ---- items that are made longer
 pub items_meant-after : (vs : List code_value.Value) (v : code_value.Value) → items_meant (vs ++ v ∷ []) ≡ values_of (items_of (items_meant vs) ++ meant v ∷ [])

@@ -1,5 +1,29 @@
 -- What a value may stand for: an operand, a whole number, a shape, rows of numbers, an axis.
-use Rattle.std.specs.Prelude.{ℕ, nat_eq, pos, negsuc, int_le, ℤ, unsigned_abs, Bool, true, false, ◌&&◌, ◌||◌, if◌then◌else◌, List, [], ◌∷◌, map, length, Option, Some, None, option_and_then, option_map}
+use Rattle.std.specs.Prelude.{
+  ℕ,
+  nat_eq,
+  pos,
+  negsuc,
+  int_le,
+  ℤ,
+  unsigned_abs,
+  Bool,
+  true,
+  false,
+  ◌&&◌,
+  ◌||◌,
+  if◌then◌else◌,
+  List,
+  [],
+  ◌∷◌,
+  map,
+  length,
+  Option,
+  Some,
+  None,
+  option_and_then,
+  option_map,
+}
 use Rattle.std.specs.List.{list_all, list_any, flat_map}
 use Rattle.dcx_frac.specs.declared.fraction.Frac.{Frac}
 use Rattle.dcx_shape.specs.declared.shape.Sides.{Sides}

@@ -178,9 +178,6 @@ abbrev pub write : (State → State) → Act (Unit {0})
 write f s = Ok (tt, f s)
 
 -- ---- names
-abbrev pub is_name : List ℕ → List ℕ → Bool
-is_name a b = same_name a b
-
 -- what a name is bound to
 abbrev pub bound_to : List ℕ → Act (Option Value)
 bound_to name = read (λ s. lookup (same_name name) s.names)

@@ -10,12 +10,14 @@
 //!
 //! | what must hold | where |
 //! |---|---|
-//! | a list or a tuple counts at most 20,000 items, with all that they hold, and is nested at most 64 deep; both are told without a walk through it | the invariant of `Items`, `AreCounted` of `specs/Meant.antt` |
+//! | a list or a tuple counts at most 20,000 items, with all that they hold, and is nested at most 64 deep | the invariant of `Items`, `AreCounted` of `specs/Meant.antt` |
+//! | both are told without a walk through it | `Items::count`, `Items::depth` |
 //! | one item more, or the fault of the limit that it passes, the depth first | `Items::push` |
 //! | one list after the other, or the count that is too much | `joined` |
 //! | the same value again; what it counts as an item, and how deep it is | `Value::share`, `Value::counted`, `Value::depth` |
 //! | the fault of a script that the fault of an array or of a tree is | `array_fault`, `tree_fault`, `too_many`, `specs/Faults.antt` |
-//! | what a value is where an expression is wanted, whether it may be given there, whether it is numbers without a node, and its shape | `read_value`, `is_fit`, `is_constant`, `plain_shape_of`, `specs/Kinds.antt` |
+//! | what a value is where an expression is wanted, and whether it may be given there | `read_value`, `is_fit`, `specs/Kinds.antt` |
+//! | whether it is numbers without a node, and its shape | `is_constant`, `plain_shape_of`, `specs/Kinds.antt` |
 //! | the operands of a call, or the first fault of what is given, a nested list before an empty one | `operand_read`, `operands_read`, `numbers_read`, `specs/Operands.antt` |
 //! | a plain array as a value, or its fault at the place of what makes it | `as_plain` |
 //! | the number and the whole number that a value is | `is_number`, `are_numbers`, `number_of`, `whole_number` |

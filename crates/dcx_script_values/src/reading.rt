@@ -3,7 +3,24 @@ ghost use Rattle.std.specs.Prelude.{◌≡◌, ◌<◌, ◌++◌, [], map, lengt
 ghost use Rattle.std.specs.List.{list_all, list_any};
 ghost use Rattle.dcx_shape.specs.Shape.{sides_of};
 ghost use Rattle.dcx_shape.specs.Sides.{HasFewEntries};
-ghost use Rattle.dcx_script_values.specs.Kinds.{is_number, number_of, whole_number, is_list, vector_of, or_unfit, list_reading, reading, is_fit, is_constant, reading_sides, is_long, are_rows, rows_sides, row_numbers, rows_array};
+ghost use Rattle.dcx_script_values.specs.Kinds.{
+  is_number,
+  number_of,
+  whole_number,
+  is_list,
+  vector_of,
+  or_unfit,
+  list_reading,
+  reading,
+  is_fit,
+  is_constant,
+  reading_sides,
+  is_long,
+  are_rows,
+  rows_sides,
+  row_numbers,
+  rows_array,
+};
 ghost use Rattle.dcx_script_values.specs.Meant.{meant};
 ghost use Rattle.dcx_script_values.specs.View.{read_as, form_of, is_fit_form, is_constant_form, HasNoNode};
 

@@ -4,8 +4,11 @@ use Rattle.std.specs.Prelude.{nat_le, nat_eq, not, ◌&&◌}
 use Rattle.std.proofs.lemmas.Bool.Decides.{nat_tests}
 use Rattle.std.proofs.lemmas.List.{append-nil, map-append, length-append}
 use Rattle.dcx_settings.specs.Terminal.{Terminal, name, digits, decimal, minus, slash, equal, comma, semicolon, open_square, close_square, newline}
-use Rattle.dcx_settings.specs.Grammar.{Size, integer, point, quotient, size_text, sign_text, Number, number_text, Value, one, row, matrix, preceded, separated, row_text, value_text, Item, item_text, Line, nothing, items, line_text, settings_text, names_of, is_among, are_new, Every, IsGoodSize, IsGoodNumber, IsGoodRow, IsGoodValue, IsGoodLine}
-use Rattle.dcx_settings.specs.Machine.{Part, start, whole_read, complete, Outer, no_matrix, rows_before, Context, alone, in_row, Phase, fresh, named, assigned, bracket, number, row_closed, ended, at, number_of, number_begun, reading, value_read, limit, may_end, row_ended, number_read, width, in_number, step, go, run}
+use Rattle.dcx_settings.specs.Grammar.{Size, integer, point, quotient, size_text, sign_text, Number, number_text, Value, one, row, matrix}
+use Rattle.dcx_settings.specs.Grammar.{preceded, separated, row_text, value_text, Item, item_text, Line, nothing, items, line_text, settings_text}
+use Rattle.dcx_settings.specs.Grammar.{names_of, is_among, are_new, Every, IsGoodSize, IsGoodNumber, IsGoodRow, IsGoodValue, IsGoodLine}
+use Rattle.dcx_settings.specs.Machine.{Part, start, whole_read, complete, Outer, no_matrix, rows_before, Context, alone, in_row, Phase, fresh, named, assigned, bracket, number}
+use Rattle.dcx_settings.specs.Machine.{row_closed, ended, at, number_of, number_begun, reading, value_read, limit, may_end, row_ended, number_read, width, in_number, step, go, run}
 use Rattle.dcx_settings.proofs.Facts.{every_more, not_zero}
 
 -- ---- numbers
@@ -30,10 +33,12 @@ abbrev pub Awaits : List Line → List Item → List ℕ → Context → Phase �
 Awaits lines is n c phase = (t : Terminal) → begins_number t ≡ true → step lines phase t ≡ reading lines is n c (number_begun t)
 
 module _ (lines : List Line) (is : List Item) (n : List ℕ) (c : Context) where
-  run_divisor : (s : Bool) (f d : ℤ) → (d ≡ pos 0 → ⊥) → (ts : List Terminal) → run (slash ∷ digits d ∷ ts) (at lines (number is n c (whole_read s f))) ≡ run ts (at lines (number is n c (part_by s (quotient f d))))
+  run_divisor : (s : Bool) (f d : ℤ) → (d ≡ pos 0 → ⊥) → (ts : List Terminal)
+      → run (slash ∷ digits d ∷ ts) (at lines (number is n c (whole_read s f))) ≡ run ts (at lines (number is n c (part_by s (quotient f d))))
   run_divisor s f d h ts = rw (not_zero d h) refl
 
-  run_begun : (phase : Phase) → Awaits lines is n c phase → (s : Bool) (size : Size) → IsGoodSize size → (ts : List Terminal) → run (sign_text s ++ size_text size ++ ts) (at lines phase) ≡ run ts (at lines (number is n c (part_by s size)))
+  run_begun : (phase : Phase) → Awaits lines is n c phase → (s : Bool) (size : Size) → IsGoodSize size → (ts : List Terminal)
+      → run (sign_text s ++ size_text size ++ ts) (at lines phase) ≡ run ts (at lines (number is n c (part_by s size)))
   run_begun phase a true (integer f) g ts = rw (a minus refl) refl
   run_begun phase a true (point f) g ts = rw (a minus refl) refl
   run_begun phase a true (quotient f d) g ts = rw (a minus refl) (run_divisor true f d g ts)
@@ -41,7 +46,8 @@ module _ (lines : List Line) (is : List Item) (n : List ℕ) (c : Context) where
   run_begun phase a false (point f) g ts = rw (a (decimal f) refl) refl
   run_begun phase a false (quotient f d) g ts = rw (a (digits f) refl) (run_divisor false f d g ts)
 
-  pub run_number : (phase : Phase) → Awaits lines is n c phase → (x : Number) → IsGoodNumber x → (ts : List Terminal) → run (number_text x ++ ts) (at lines phase) ≡ run ts (at lines (number is n c (part_of x)))
+  pub run_number : (phase : Phase) → Awaits lines is n c phase → (x : Number) → IsGoodNumber x → (ts : List Terminal)
+      → run (number_text x ++ ts) (at lines phase) ≡ run ts (at lines (number is n c (part_of x)))
   run_number phase a x g ts = run_begun phase a x.is_negative x.size g ts
 
   -- a number ends at any token but a slash
@@ -73,7 +79,8 @@ module _ (lines : List Line) (is : List Item) (n : List ℕ) (o : Outer) where
   starts xs t h = refl
 
   -- behind number x of a row the others follow
-  pub run_row : (xs : List Number) (x : Number) (part : Part) → Ends lines is n (in_row o xs) part x → (ys : List Number) → Every IsGoodNumber ys → length xs + 1 + length ys ≤ limit o → may_end o (length (xs ++ x ∷ ys)) ≡ true
+  pub run_row : (xs : List Number) (x : Number) (part : Part) → Ends lines is n (in_row o xs) part x → (ys : List Number) → Every IsGoodNumber ys
+      → length xs + 1 + length ys ≤ limit o → may_end o (length (xs ++ x ∷ ys)) ≡ true
       → (ts : List Terminal) → run (preceded comma (map number_text ys) ++ close_square ∷ ts) (at lines (number is n (in_row o xs) part)) ≡ run ts (at lines (row_ended is n o (xs ++ x ∷ ys)))
   run_row xs x part h [] g l e ts = rw (h close_square close_apart, e) refl
   run_row xs x part h (y ∷ ys) g l e ts =
@@ -134,10 +141,12 @@ one_more w rows r more h e = record {
 module _ (lines : List Line) (is : List Item) (n : List ℕ) where
   -- a row of a matrix, behind its bracket
   run_inner : (w : ℕ) (rows : List (List Number)) (more : ℕ) (r : List Number) → HaveRoom w rows (suc more) → IsGoodRow r → length r ≡ w
-      → (ts : List Terminal) → run (separated comma (map number_text r) ++ close_square ∷ ts) (at lines (number is n (in_row (rows_before rows) []) start)) ≡ run ts (at lines (row_closed is n (rows ++ r ∷ [])))
+      → (ts : List Terminal) → run (separated comma (map number_text r) ++ close_square ∷ ts) (at lines (number is n (in_row (rows_before rows) []) start))
+      ≡ run ts (at lines (row_closed is n (rows ++ r ∷ [])))
   run_inner w rows more r h g e ts =
       let l = row_limit w rows more h in
-      run_whole_row lines is n (rows_before rows) (number is n (in_row (rows_before rows) []) start) (starts lines is n (rows_before rows) []) r g (omega (arith, e, l)) (subst (λ k. may_end (rows_before rows) k ≡ true) (sym e) (row_may_end w rows h.widths)) ts
+      run_whole_row lines is n (rows_before rows) (number is n (in_row (rows_before rows) []) start) (starts lines is n (rows_before rows) []) r g (omega (arith, e, l))
+      (subst (λ k. may_end (rows_before rows) k ≡ true) (sym e) (row_may_end w rows h.widths)) ts
 
   -- behind a row the others follow
   run_rows : (w : ℕ) (rows more : List (List Number)) → 0 < length rows → HaveRoom w rows (length more) → Every (λ r. IsGoodRow r × (length r ≡ w)) more
@@ -170,7 +179,8 @@ module _ (lines : List Line) (is : List Item) (n : List ℕ) where
   bracket_awaits t h = cc
 
   -- a value, and a token that isn't a slash
-  pub run_value : (v : Value) → IsGoodValue v → (t : Terminal) → t ≢ slash → (ts : List Terminal) → run (value_text v ++ t ∷ ts) (at lines (assigned is n)) ≡ go (run ts) (value_read lines is n v t) (t ∷ ts)
+  pub run_value : (v : Value) → IsGoodValue v → (t : Terminal) → t ≢ slash → (ts : List Terminal)
+      → run (value_text v ++ t ∷ ts) (at lines (assigned is n)) ≡ go (run ts) (value_read lines is n v t) (t ∷ ts)
   run_value (one x) g t h ts = run_number lines is n alone (assigned is n) equal_awaits x g (t ∷ ts) ∙ ap (λ o. go (run ts) o (t ∷ ts)) (number_ends lines is n alone x t h)
   run_value (row xs) g t h ts =
       ap (λ us. run us (at lines (bracket is n))) (append_assoc (separated comma (map number_text xs)) (close_square ∷ []) (t ∷ ts))
@@ -211,14 +221,16 @@ new_rest before n ns h = by (not (is_among before n)) h
 module _ (lines : List Line) where
   -- behind the name of an item the line goes on
   run_item : (is : List Item) (i : Item) (more : List Item) → Every (λ j. IsGoodValue j.value) (i ∷ more) → are_new (names_of is) (names_of (i ∷ more)) ≡ true
-      → (ts : List Terminal) → run (equal ∷ (value_text i.value ++ (preceded semicolon (map item_text more) ++ newline ∷ ts))) (at lines (named is i.called)) ≡ run ts (at (lines ++ items (is ++ i ∷ more) ∷ []) fresh)
+      → (ts : List Terminal) → run (equal ∷ (value_text i.value ++ (preceded semicolon (map item_text more) ++ newline ∷ ts))) (at lines (named is i.called))
+      ≡ run ts (at (lines ++ items (is ++ i ∷ more) ∷ []) fresh)
   run_item is i [] g h ts = run_value lines is i.called i.value g.0 newline newline_apart ts
   run_item is i (j ∷ more) g h ts =
       let rest = new_rest (names_of is) i.called (names_of (j ∷ more)) h in
       let joined : names_of is ++ i.called ∷ [] ≡ names_of (is ++ i ∷ []) = sym (map-append (λ (k : Item). k.called) is (i ∷ [])) in
       let new : are_new (names_of (is ++ i ∷ [])) (names_of (j ∷ more)) ≡ true = subst (λ ns. are_new ns (names_of (j ∷ more)) ≡ true) joined rest in
       let first : is_among (names_of (is ++ i ∷ [])) j.called ≡ false = not_first (names_of (is ++ i ∷ [])) j.called (names_of more) new in
-      ap (λ us. run (value_text i.value ++ semicolon ∷ name j.called ∷ equal ∷ us) (at lines (assigned is i.called))) (append_assoc (value_text j.value) (preceded semicolon (map item_text more)) (newline ∷ ts))
+      ap (λ us. run (value_text i.value ++ semicolon ∷ name j.called ∷ equal ∷ us) (at lines (assigned is i.called)))
+      (append_assoc (value_text j.value) (preceded semicolon (map item_text more)) (newline ∷ ts))
       ∙ run_value lines is i.called i.value g.0 semicolon semicolon_apart (name j.called ∷ equal ∷ (value_text j.value ++ (preceded semicolon (map item_text more) ++ newline ∷ ts)))
       ∙ rw first (run_item (is ++ i ∷ []) j more g.1 new ts ∙ ap (λ js. run ts (at (lines ++ items js ∷ []) fresh)) (append_assoc is (i ∷ []) (j ∷ more)))
 

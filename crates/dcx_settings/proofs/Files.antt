@@ -1,7 +1,6 @@
 -- Settings files: where digits are divided by 0, where lines begin, and why bytes are refused.
-use Rattle.std.proofs.Common.{◌≡◌, ℕ, zero, suc, ◌+◌, ◌-◌, ◌<◌, ◌≤◌, Bool, true, false, List, [], ◌∷◌, ◌++◌, map, length, take, drop, Option, None, Result, Ok, Err, refl, sym, ap, ◌∙◌, subst, arith, append_assoc, length-append, ⊎_elim, IsTrue, pos, ◌⊎◌}
+use Rattle.std.proofs.Common.{◌≡◌, ℕ, zero, suc, ◌+◌, ◌-◌, ◌<◌, ◌≤◌, Bool, true, false, List, [], ◌∷◌, ◌++◌, map, length, take, drop, Option, None, Result, Ok, Err, refl, sym, ap, ◌∙◌, subst, arith, append_assoc, length-append, ⊎_elim, IsTrue, ◌⊎◌}
 use Rattle.std.specs.Prelude.{◌↔◌, ⊤}
-use Rattle.std.proofs.Math.ListN.{drop_of_length-le}
 use Rattle.std.proofs.Math.Seq.{drop-append_seam, take-length}
 use Rattle.std.proofs.lemmas.List.{length-map, take-append-drop, drop-map, length-drop}
 use Rattle.dcx_shape.specs.declared.place.Place.{Place}
@@ -11,7 +10,7 @@ use Rattle.dcx_tokens.specs.declared.token.Token.{Token}
 use Rattle.dcx_tokens.specs.File.{IsText}
 use Rattle.dcx_tokens.specs.Reading.{IsLexed}
 use Rattle.dcx_settings.specs.declared.settings.SettingItem.{SettingItem}
-use Rattle.dcx_settings.specs.Terminal.{Terminal, digits, slash, comma, semicolon, close_square, newline, terminals, terminal_of}
+use Rattle.dcx_settings.specs.Terminal.{Terminal, comma, semicolon, close_square, newline, terminals, terminal_of}
 use Rattle.dcx_settings.specs.Grammar.{Size, integer, point, quotient, size_text, sign_text, Number, number_text, Value, one, row, matrix, preceded, separated, bracketed, row_text, value_text, Item, item_text, Line, nothing, items, line_text, settings_text, Every}
 use Rattle.dcx_settings.specs.Reading.{IsUnexpected}
 use Rattle.dcx_settings.specs.Meaning.{AreLinesOf, AreSettings}
@@ -128,16 +127,6 @@ none_at text ts i b h e none j l d = ⊎_elim (λ k. none j k d) (λ k. here (om
   where
     here : j ≡ i → ⊥
     here k = false_is b e (h.1 (subst BeginsDividedByZero (ap (λ n. drop n (terminals text ts)) k ∙ sym (from_here text ts i)) d))
-
--- nor behind all tokens
-pub none_in : (text : List ℕ) (ts : List Token) (i : ℕ) → length ts ≤ i → ((j : ℕ) → j < i → DividesByZero (terminals text ts) j → ⊥) → NeverDividesByZero (terminals text ts)
-none_in text ts i l none j d = ⊎_elim (λ k. none j k d) behind (before_or_from i j)
-  where
-    behind : i ≤ j → ⊥
-    behind k =
-        let all = length-map ts (terminal_of text) in
-        let e : [] ≡ digits d.number ∷ slash ∷ digits (pos 0) ∷ d.rest = sym (drop_of_length-le (terminals text ts) (omega (arith, all, l, k))) ∙ d.tokens_are in
-        cc
 
 -- ---- tokens
 -- the rest is what stands behind as many tokens as are in front of it

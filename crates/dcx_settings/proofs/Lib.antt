@@ -1,4 +1,4 @@
--- The lemmas of this crate.
+-- The lemmas by which settings are read exactly as they are spelled, and a file has one answer.
 pub mod Facts
 pub mod Soundness
 pub mod Completeness

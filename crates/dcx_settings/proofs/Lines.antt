@@ -5,18 +5,18 @@ use Rattle.std.specs.List.{list_any}
 use Rattle.std.specs.Ordering.{nat_cmp}
 use Rattle.std.specs.BTreeMap.{is_at}
 use Rattle.std.specs.Cmp.Lexicographic.{slice_cmp}
-use Rattle.std.specs.BTreeSet.{BTreeSet, contains, Updates}
+use Rattle.std.specs.BTreeSet.{BTreeSet, Updates}
 use Rattle.std.proofs.lemmas.Map.Text.{is_eq-slice_cmp}
 use Rattle.std.proofs.lemmas.List.{length-append, map-append}
 use Rattle.dcx_tokens.specs.declared.token.Token.{Token}
 use Rattle.dcx_settings.specs.Terminal.{Terminal, name, equal, semicolon, open_curly, close_curly, newline, terminals}
-use Rattle.dcx_settings.specs.Grammar.{Item, Line, nothing, items, names_of, is_among, are_new, IsGoodValue}
-use Rattle.dcx_settings.specs.Machine.{at, fresh, opened, closed, next_item, named, assigned, value_read}
+use Rattle.dcx_settings.specs.Grammar.{Item, Line, items, names_of, is_among, are_new, IsGoodValue}
+use Rattle.dcx_settings.specs.Machine.{at, fresh, opened, closed, next_item, named, value_read}
 use Rattle.dcx_settings.specs.Meaning.{IsItemOf, AreItemsOf, IsLineOf, AreLinesOf}
 use Rattle.dcx_settings.specs.declared.settings.SettingItem.{SettingItem}
 use Rattle.dcx_settings.specs.declared.stop.Stop.{Stop}
 use Rattle.dcx_settings.specs.declared.stop.Stop.TheVariants.{Memory, At}
-use Rattle.dcx_settings.specs.Steps.{read, read_by, Lacks, LacksName, IsStopAt, IsValueRead, ValueStopsAt, HasNames, IsItemRead, ItemStopsAt, IsNewItemRead, NewItemStopsAt, GainsName, AreItemsRead, IsLineRead, LineStopsAt, AreLinesRead}
+use Rattle.dcx_settings.specs.Steps.{read, read_by, Lacks, LacksName, IsStopAt, HasNames, ItemStopsAt, IsNewItemRead, NewItemStopsAt, GainsName, AreItemsRead, IsLineRead, LineStopsAt, AreLinesRead}
 use Rattle.dcx_settings.specs.Reading.{StopsUnexpected}
 use Rattle.dcx_settings.specs.Meaning.{AreSettings}
 use Rattle.dcx_settings.proofs.Facts.{every_more}
@@ -24,19 +24,6 @@ use Rattle.dcx_settings.proofs.Soundness.{new_more}
 use Rattle.dcx_settings.proofs.Whole.{read_lines, read_unexpected}
 
 -- ---- an item behind its name
-pub item_read : (n : List ℕ) (us vs rest : List Terminal) (item : SettingItem) → us ≡ equal ∷ vs → IsValueRead assigned vs item.shape item.numbers rest → item.name ≡ n → IsItemRead n us item rest
-item_read n us vs rest item e h k = record {
-  value = h.value;
-  good = h.good;
-  name_is = k;
-  item_is = record { name_is = k; sides = h.sides; numbers_are = h.numbers_are };
-  reads = λ lines is. ap (λ ts. read ts (at lines (named is n))) e ∙ h.reads lines is n;
-}
-
-pub item_value_stops : (n text : List ℕ) (us vs : List Terminal) (s : Stop) → us ≡ equal ∷ vs → ValueStopsAt assigned text vs s → ItemStopsAt n text us s
-item_value_stops n text us vs Memory e h = tt
-item_value_stops n text us vs (At there) e h = λ lines is. ap (λ ts. read ts (at lines (named is n))) e ∙ h lines is n
-
 pub item_unnamed : (n text : List ℕ) (ts : List Token) (s : Stop) → IsStopAt ts s → Lacks equal (terminals text ts) → ItemStopsAt n text (terminals text ts) s
 item_unnamed n text ts Memory a l = tt
 item_unnamed n text ts (At there) a l = λ lines is. other lines is (terminals text ts) l ∙ ap (λ xs. Err (terminals text xs)) (sym a)
@@ -74,34 +61,10 @@ pub no_names : (set : BTreeSet (Bor (List ℕ))) → set.keys ≡ [] → HasName
 no_names set e = λ n. ap (list_any (is_at (λ x. slice_cmp nat_cmp n.now x.now))) e
 
 -- ---- a new item
-read_name : (lines : List Line) (is : List Item) (n : List ℕ) (rest us : List Terminal) → us ≡ name n ∷ rest → is_among (names_of is) n ≡ false → read us (at lines (next_item is)) ≡ read rest (at lines (named is n))
-read_name lines is n rest us e h = rw (e, h) refl
-
-read_doubled : (lines : List Line) (is : List Item) (n : List ℕ) (rest us : List Terminal) → us ≡ name n ∷ rest → is_among (names_of is) n ≡ true → read us (at lines (next_item is)) ≡ Err us
-read_doubled lines is n rest us e h = rw (e, h) refl
-
 read_nameless : (lines : List Line) (is : List Item) (us : List Terminal) → LacksName us → read us (at lines (next_item is)) ≡ Err us
 read_nameless lines is [] l = refl
 read_nameless lines is (name n ∷ us) l = absurd (l n us refl)
 read_nameless lines is (t ∷ us) l = refl
-
-module _ (set : BTreeSet (Bor (List ℕ))) (n : Bor (List ℕ)) (us vs : List Terminal) (e : us ≡ name n.now ∷ vs) where
-  pub new_item_read : contains (λ x y. slice_cmp nat_cmp x.now y.now) set n ≡ false → (item : SettingItem) (rest : List Terminal) → IsItemRead n.now vs item rest → IsNewItemRead set us item rest
-  new_item_read new item rest h = record {
-    called = n.now;
-    value = h.value;
-    good = h.good;
-    item_is = h.item_is;
-    new = λ names k. sym (k n) ∙ new;
-    reads = λ lines is k. read_name lines is n.now vs us e (sym (k n) ∙ new) ∙ h.reads lines is;
-  }
-
-  pub new_item_stops : contains (λ x y. slice_cmp nat_cmp x.now y.now) set n ≡ false → (text : List ℕ) (s : Stop) → ItemStopsAt n.now text vs s → NewItemStopsAt set text us s
-  new_item_stops new text Memory h = tt
-  new_item_stops new text (At there) h = λ lines is k. read_name lines is n.now vs us e (sym (k n) ∙ new) ∙ h lines is
-
-  pub doubled_stops : contains (λ x y. slice_cmp nat_cmp x.now y.now) set n ≡ true → (lines : List Line) (is : List Item) → HasNames set (names_of is) → read us (at lines (next_item is)) ≡ Err us
-  doubled_stops old lines is k = read_doubled lines is n.now vs us e (sym (k n) ∙ old)
 
 pub nameless_stops : (set : BTreeSet (Bor (List ℕ))) (us : List Terminal) → LacksName us → (lines : List Line) (is : List Item) → HasNames set (names_of is) → read us (at lines (next_item is)) ≡ Err us
 nameless_stops set us l lines is k = read_nameless lines is us l
@@ -192,14 +155,6 @@ items_none set none text us Memory some l h = tt
 items_none set none text us (At there) some l h = λ lines. read_begun lines us some l ∙ h lines [] none
 
 -- ---- a line with nothing
-pub nothing_read : (us vs ws rest : List Terminal) → us ≡ open_curly ∷ vs → vs ≡ close_curly ∷ ws → ws ≡ newline ∷ rest → IsLineRead us [] rest
-nothing_read us vs ws rest e f g = record {
-  is_line = nothing;
-  good = tt;
-  line_is = refl;
-  reads = λ lines. ap (λ ts. read ts (at lines fresh)) (e ∙ ap (λ ts. open_curly ∷ ts) (f ∙ ap (λ ts. close_curly ∷ ts) g));
-}
-
 pub nothing_unclosed : (text : List ℕ) (us : List Terminal) (ts : List Token) (s : Stop) → us ≡ open_curly ∷ terminals text ts → IsStopAt ts s → Lacks close_curly (terminals text ts) → LineStopsAt text us s
 nothing_unclosed text us ts Memory e a l = tt
 nothing_unclosed text us ts (At there) e a l = λ lines. ap (λ xs. read xs (at lines fresh)) e ∙ other lines (terminals text ts) l ∙ ap (λ xs. Err (terminals text xs)) (sym a)
@@ -219,9 +174,6 @@ nothing_unended text us vs ts (At there) e f a l = λ lines. ap (λ xs. read xs 
     other lines (t ∷ vs) l = refl
 
 -- ---- lines
-pub no_lines : (us : List Terminal) → AreLinesRead us [] us
-no_lines us = record { lines = []; lines_are = tt; reads = refl }
-
 lines_of_more : (ls : List Line) (found : List (List SettingItem)) (l : Line) (line : List SettingItem) → AreLinesOf ls found → IsLineOf l line → AreLinesOf (ls ++ l ∷ []) (found ++ line ∷ [])
 lines_of_more [] [] l line h k = (k, tt)
 lines_of_more (j ∷ ls) (x ∷ found) l line h k = (h.0, lines_of_more ls found l line h.1 k)

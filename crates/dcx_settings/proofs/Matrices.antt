@@ -72,7 +72,8 @@ module _ (w k : ℕ) (us : List Terminal) (fs : List Frac) (from : List Terminal
         within a b c e l = grind arith
 
     -- a comma goes on where there is room for a row
-    row_goes : length fs + w ≤ 20000 → (lines : List Line) (is : List Item) (n : List ℕ) → read_by (number_from lines is n (in_row (rows_before []) [])) us ≡ read_by (before_row lines is n h.rows) rest
+    row_goes : length fs + w ≤ 20000 → (lines : List Line) (is : List Item) (n : List ℕ)
+        → read_by (number_from lines is n (in_row (rows_before []) [])) us ≡ read_by (before_row lines is n h.rows) rest
     row_goes r lines is n =
         h.reads lines is n ∙ ap (λ ts. read ts (at lines (row_closed is n h.rows))) e
         ∙ ap (λ b. further (read rest) (when b (at lines (next_row is n h.rows))) (comma ∷ rest)) (le_is _ _ (room r))
@@ -102,7 +103,8 @@ module _ (w k : ℕ) (us : List Terminal) (fs : List Frac) (from : List Terminal
     rows_unopened_at text ts d r (At there) at l = λ lines is n. rows_unopened r l lines is n ∙ ap Err (d ∙ ap (terminals text) (sym at))
 
     module _ (r : length fs + w ≤ 20000) (inner : List Terminal) (o : rest ≡ open_square ∷ inner) where
-      row_begins : (lines : List Line) (is : List Item) (n : List ℕ) → read_by (number_from lines is n (in_row (rows_before []) [])) us ≡ read_by (number_from lines is n (in_row (rows_before h.rows) [])) inner
+      row_begins : (lines : List Line) (is : List Item) (n : List ℕ)
+          → read_by (number_from lines is n (in_row (rows_before []) [])) us ≡ read_by (number_from lines is n (in_row (rows_before h.rows) [])) inner
       row_begins lines is n = row_goes r lines is n ∙ ap (read_by (before_row lines is n h.rows)) o ∙ read_part lines is n (in_row (rows_before h.rows) []) start inner
 
       -- one more row
@@ -116,7 +118,8 @@ module _ (w k : ℕ) (us : List Terminal) (fs : List Frac) (from : List Terminal
             rows = h.rows ++ g.numbers ∷ [];
             good = record { some = omega (arith, l); rows_are = every_more (λ xs. IsGoodRow xs × (length xs ≡ w)) h.rows g.numbers h.good.rows_are (g.good, same) };
             counted = omega (arith, l, c);
-            numbers_are = map-append value fs gs ∙ ap₂ (λ a b. a ++ b) h.numbers_are g.numbers_are ∙ sym (map-append number_value (joined h.rows) g.numbers) ∙ ap (map number_value) (sym (joined_more h.rows g.numbers));
+            numbers_are = map-append value fs gs ∙ ap₂ (λ a b. a ++ b) h.numbers_are g.numbers_are ∙ sym (map-append number_value (joined h.rows) g.numbers)
+                ∙ ap (map number_value) (sym (joined_more h.rows g.numbers));
             few = within (length h.rows) (length (h.rows ++ g.numbers ∷ [])) w (omega (arith, l)) (omega (arith, r, t));
             reads = λ lines is n. row_begins lines is n ∙ g.reads lines is n (rows_before h.rows) (stands w h.rows h.good);
           }
@@ -133,7 +136,8 @@ module _ (w k : ℕ) (us : List Terminal) (fs : List Frac) (from : List Terminal
       rows_stop text (At there) g = λ lines is n. row_begins lines is n ∙ g lines is n (rows_before h.rows) (stands w h.rows h.good)
 
   -- the matrix ends
-  pub rows_close : (rest : List Terminal) → from ≡ close_square ∷ rest → (lines : List Line) (is : List Item) (n : List ℕ) → read_by (number_from lines is n (in_row (rows_before []) [])) us ≡ read rest (at lines (ended is n (matrix h.rows)))
+  pub rows_close : (rest : List Terminal) → from ≡ close_square ∷ rest → (lines : List Line) (is : List Item) (n : List ℕ)
+      → read_by (number_from lines is n (in_row (rows_before []) [])) us ≡ read rest (at lines (ended is n (matrix h.rows)))
   rows_close rest e lines is n = h.reads lines is n ∙ ap (λ ts. read ts (at lines (row_closed is n h.rows))) e
 
   -- it goes on with neither a comma nor a bracket
@@ -157,9 +161,6 @@ module _ (w k : ℕ) (us : List Terminal) (fs : List Frac) (from : List Terminal
 
   pub rows_some : 0 < k
   rows_some = let s = h.good.some in let c = h.counted in omega (arith, s, c)
-
-  pub rows_few : length fs ≤ 20000
-  rows_few = let t = rows_total w k us fs from h in let f = h.few in omega (arith, t, f)
 
   product_few : k * w ≤ 20000
   product_few = subst (λ a. a * w ≤ 20000) h.counted h.few

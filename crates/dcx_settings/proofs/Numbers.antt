@@ -14,7 +14,7 @@ use Rattle.dcx_frac.proofs.Representable.{representable_quotient}
 use Rattle.dcx_settings.proofs.Facts.{not_zero}
 use Rattle.dcx_settings.specs.declared.stop.Stop.{Stop}
 use Rattle.dcx_settings.specs.declared.stop.Stop.TheVariants.{Memory, At}
-use Rattle.dcx_settings.specs.Steps.{IsWhole, StopsAt, read, read_by, Lacks, LacksDigits, LacksDecimal, IsNumberRead, number_from, size_from, digits_from, divisor_from}
+use Rattle.dcx_settings.specs.Steps.{IsWhole, StopsAt, read, read_by, Lacks, IsNumberRead, number_from, size_from, digits_from, divisor_from}
 
 module _ (lines : List Line) (is : List Item) (n : List ℕ) (c : Context) where
   -- within a number reading goes on by its part
@@ -22,16 +22,9 @@ module _ (lines : List Line) (is : List Item) (n : List ℕ) (c : Context) where
   read_part part [] = refl
   read_part part (t ∷ ts) = refl
 
-  divisor_goes : (s : Bool) (f d : ℤ) (rest us : List Terminal) → us ≡ digits d ∷ rest → d ≢ pos 0 → read_by (divisor_from s f lines is n c) us ≡ read_by (number_read lines is n c (number_of s (quotient f d))) rest
+  divisor_goes : (s : Bool) (f d : ℤ) (rest us : List Terminal) → us ≡ digits d ∷ rest → d ≢ pos 0
+      → read_by (divisor_from s f lines is n c) us ≡ read_by (number_read lines is n c (number_of s (quotient f d))) rest
   divisor_goes s f d rest us e h = rw (e, not_zero d h) (read_part (complete (number_of s (quotient f d))) rest)
-
-  pub divisor_zero : (s : Bool) (f d : ℤ) (rest us : List Terminal) → us ≡ digits d ∷ rest → d ≡ pos 0 → read_by (divisor_from s f lines is n c) us ≡ Err us
-  divisor_zero s f d rest us e h = rw (e, h) refl
-
-  pub divisor_stops : (s : Bool) (f : ℤ) (us : List Terminal) → LacksDigits us → read_by (divisor_from s f lines is n c) us ≡ Err us
-  divisor_stops s f [] h = refl
-  divisor_stops s f (digits d ∷ ts) h = absurd (h d ts refl)
-  divisor_stops s f (t ∷ ts) h = refl
 
   pub digits_slash : (s : Bool) (f : ℤ) (rest us : List Terminal) → us ≡ slash ∷ rest → read_by (digits_from s f lines is n c) us ≡ read_by (divisor_from s f lines is n c) rest
   digits_slash s f rest us e = rw e (read_part (divided s f) rest)
@@ -47,12 +40,6 @@ module _ (lines : List Line) (is : List Item) (n : List ℕ) (c : Context) where
   size_decimal : (s : Bool) (f : Frac) (rest us : List Terminal) → us ≡ decimal f ∷ rest → read_by (size_from s lines is n c) us ≡ read_by (number_read lines is n c (number_of s (point f))) rest
   size_decimal s f rest us e = rw e (read_part (complete (number_of s (point f))) rest)
 
-  size_stops : (s : Bool) (us : List Terminal) → LacksDigits us → LacksDecimal us → read_by (size_from s lines is n c) us ≡ Err us
-  size_stops s [] h g = refl
-  size_stops s (digits d ∷ ts) h g = absurd (h d ts refl)
-  size_stops s (decimal d ∷ ts) h g = absurd (g d ts refl)
-  size_stops s (t ∷ ts) h g = refl
-
   pub number_minus : (rest us : List Terminal) → us ≡ minus ∷ rest → read_by (number_from lines is n c) us ≡ read_by (size_from true lines is n c) rest
   number_minus rest us e = rw e (read_part negated rest)
 
@@ -62,7 +49,8 @@ module _ (lines : List Line) (is : List Item) (n : List ℕ) (c : Context) where
   number_plain (t ∷ ts) h = refl
 
 -- a quotient is read
-pub quotient_read_is : (s : Bool) (f d : ℤ) (x y : Frac) (rest us : List Terminal) → us ≡ digits d ∷ rest → d ≢ pos 0 → value x ≡ whole f /ℚ whole d → value y ≡ signed_value s (value x) → IsNumberRead (divisor_from s f) us y rest
+pub quotient_read_is : (s : Bool) (f d : ℤ) (x y : Frac) (rest us : List Terminal) → us ≡ digits d ∷ rest → d ≢ pos 0 → value x ≡ whole f /ℚ whole d
+    → value y ≡ signed_value s (value x) → IsNumberRead (divisor_from s f) us y rest
 quotient_read_is s f d x y rest us e h v w = record {
   number = number_of s (quotient f d);
   good = h;
@@ -71,10 +59,14 @@ quotient_read_is s f d x y rest us e h v w = record {
 }
 
 -- a reading that goes on as another one
-pub read_further : (from next : List Line → List Item → List ℕ → Context → Terminal → Option State) (us vs rest : List Terminal) (f : Frac) → ((lines : List Line) (is : List Item) (n : List ℕ) (c : Context) → read_by (from lines is n c) us ≡ read_by (next lines is n c) vs) → IsNumberRead next vs f rest → IsNumberRead from us f rest
+pub read_further : (from next : List Line → List Item → List ℕ → Context → Terminal → Option State) (us vs rest : List Terminal) (f : Frac)
+    → ((lines : List Line) (is : List Item) (n : List ℕ) (c : Context) → read_by (from lines is n c) us ≡ read_by (next lines is n c) vs)
+    → IsNumberRead next vs f rest → IsNumberRead from us f rest
 read_further from next us vs rest f e h = record { number = h.number; good = h.good; value_is = h.value_is; reads = λ lines is n c. e lines is n c ∙ h.reads lines is n c }
 
-pub stop_further : (from next : List Line → List Item → List ℕ → Context → Terminal → Option State) (text : List ℕ) (us vs : List Terminal) (e : Stop) → ((lines : List Line) (is : List Item) (n : List ℕ) (c : Context) → read_by (from lines is n c) us ≡ read_by (next lines is n c) vs) → StopsAt next text vs e → StopsAt from text us e
+pub stop_further : (from next : List Line → List Item → List ℕ → Context → Terminal → Option State) (text : List ℕ) (us vs : List Terminal) (e : Stop)
+    → ((lines : List Line) (is : List Item) (n : List ℕ) (c : Context) → read_by (from lines is n c) us ≡ read_by (next lines is n c) vs)
+    → StopsAt next text vs e → StopsAt from text us e
 stop_further from next text us vs Memory e h = tt
 stop_further from next text us vs (At rest) e h = λ lines is n c. e lines is n c ∙ h lines is n c
 
@@ -129,4 +121,5 @@ none_zero None f g e = by g.num refl
 
 -- the same, by other names for the parts
 pub none_zero_by : (o : Option Frac) (n d : ℤ) (f g : Frac) → n ≡ f.num → d ≡ g.num → (IsSome o ↔ ((d ≢ pos 0) × IsRepresentable (whole n /ℚ whole d))) → IfNone o (g.num ≡ pos 0)
-none_zero_by o n d f g e k i = none_zero o f g (subst (λ x. IsSome o ↔ ((g.num ≢ pos 0) × IsRepresentable (whole x /ℚ whole g.num))) e (subst (λ x. IsSome o ↔ ((x ≢ pos 0) × IsRepresentable (whole n /ℚ whole x))) k i))
+none_zero_by o n d f g e k i = none_zero o f g
+    (subst (λ x. IsSome o ↔ ((g.num ≢ pos 0) × IsRepresentable (whole x /ℚ whole g.num))) e (subst (λ x. IsSome o ↔ ((x ≢ pos 0) × IsRepresentable (whole n /ℚ whole x))) k i))

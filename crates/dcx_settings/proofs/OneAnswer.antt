@@ -12,7 +12,8 @@ use Rattle.dcx_settings.specs.declared.settings.SettingItem.{SettingItem}
 use Rattle.dcx_settings.specs.Terminal.{Terminal, terminals, terminal_of}
 use Rattle.dcx_settings.specs.Grammar.{settings_text}
 use Rattle.dcx_settings.specs.Reading.{GoesOn, IsUnexpected}
-use Rattle.dcx_settings.specs.File.{most_settings, place_at, place_or_end, HasFault, divided, ended, AreNoSettings, unexpected, too_many, AreFewSettings, HasTokens, HasAllTokens, IsRefused, no_text, no_tokens, no_settings, SpellSettings}
+use Rattle.dcx_settings.specs.File.{most_settings, place_at, place_or_end, HasFault, divided, ended, AreNoSettings, unexpected, too_many}
+use Rattle.dcx_settings.specs.File.{AreFewSettings, HasTokens, HasAllTokens, IsRefused, no_text, no_tokens, no_settings, SpellSettings}
 use Rattle.dcx_settings.proofs.OneReading.{spelled_apart}
 use Rattle.dcx_settings.proofs.Viability.{one_spelling}
 use Rattle.dcx_settings.proofs.Files.{before_or_from, length-lines}
@@ -36,7 +37,8 @@ same_front us rest other u v =
 left : (us : List Terminal) (i : ℕ) (u : IsUnexpected us (drop i us)) → length us ≡ length u.front + (length us - i)
 left us i u = ap length u.parts ∙ length-append u.front (drop i us) ∙ ap (λ n. length u.front + n) (length-drop i us)
 
-same_place : (text : List ℕ) (ts : List Token) (i j : ℕ) → IsUnexpected (terminals text ts) (drop i (terminals text ts)) → IsUnexpected (terminals text ts) (drop j (terminals text ts)) → place_at text ts i ≡ place_at text ts j
+same_place : (text : List ℕ) (ts : List Token) (i j : ℕ) → IsUnexpected (terminals text ts) (drop i (terminals text ts))
+    → IsUnexpected (terminals text ts) (drop j (terminals text ts)) → place_at text ts i ≡ place_at text ts j
 same_place text ts i j u v = ⊎_elim inside behind (before_or_from (length ts) i)
   where
     all : length (terminals text ts) ≡ length ts

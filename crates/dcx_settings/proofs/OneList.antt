@@ -1,14 +1,8 @@
 -- Bytes spell one list of settings.
 use Rattle.std.proofs.Common.{◌≡◌, List, [], ◌∷◌, map, refl, sym, ap₂, ◌∙◌, subst}
-use Rattle.std.proofs.Props.{props}
-use mathlib.Core.HLevel.{is_prop→PathP}
 use Rattle.dcx_frac.specs.declared.fraction.Frac.{Frac}
 use Rattle.dcx_frac.specs.Frac.{value}
 use Rattle.dcx_frac.proofs.Parts.{value_injective}
-use Rattle.dcx_shape.specs.declared.shape.Sides.{Sides}
-use Rattle.dcx_shape.specs.declared.shape.Shape.{Shape}
-use Rattle.dcx_shape.specs.Shape.{sides_of}
-use Rattle.dcx_shape.specs.Sides.{HasFewEntries}
 use Rattle.dcx_tokens.proofs.OneReading.{one_reading}
 use Rattle.dcx_settings.specs.declared.settings.SettingItem.{SettingItem}
 use Rattle.dcx_settings.specs.Terminal.{Terminal, terminals}
@@ -17,15 +11,9 @@ use Rattle.dcx_settings.specs.Meaning.{IsItemOf, AreItemsOf, IsLineOf, AreLinesO
 use Rattle.dcx_settings.specs.File.{AreFewSettings}
 use Rattle.dcx_settings.specs.Laws.{SettingsAreOne}
 use Rattle.dcx_settings.proofs.Viability.{one_spelling}
+use Rattle.dcx_shape.proofs.OneShape.{shape_from_sides}
 
 -- ---- values
-few_prop : (s : Sides) → IsProp (HasFewEntries s)
-few_prop s = hlevel props
-
--- shapes with the same sides are equal
-pub one_shape : (a b : Shape) → sides_of a ≡ sides_of b → a ≡ b
-one_shape a b p = λ i. record { sides = p i; few = is_prop→PathP (λ j. HasFewEntries (p j)) (λ j. few_prop (p j)) a.few b.few i }
-
 -- fractions of the same values are equal
 one_numbers : (fs gs : List Frac) → map value fs ≡ map value gs → fs ≡ gs
 one_numbers [] [] e = refl
@@ -39,7 +27,7 @@ one_numbers (f ∷ fs) [] e = cc
 one_item : (i : Item) (a b : SettingItem) → IsItemOf i a → IsItemOf i b → a ≡ b
 one_item i a b h k =
     let name = h.name_is ∙ sym k.name_is in
-    let shape = one_shape a.shape b.shape (h.sides ∙ sym k.sides) in
+    let shape = shape_from_sides a.shape b.shape (h.sides ∙ sym k.sides) in
     let numbers = one_numbers a.numbers b.numbers (h.numbers_are ∙ sym k.numbers_are) in
     λ j. record { name = name j; shape = shape j; numbers = numbers j }
 

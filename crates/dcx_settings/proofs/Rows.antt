@@ -1,18 +1,18 @@
 -- Reading a row of numbers, step by step.
 use Rattle.std.proofs.Common.{◌≡◌, ℕ, ◌+◌, ◌<◌, ◌≤◌, true, false, List, [], ◌∷◌, ◌++◌, length, Option, Some, None, Result, Ok, Err, refl, sym, ap, ap₂, ◌∙◌, subst, arith}
-use Rattle.std.specs.Prelude.{nat_le, nat_eq, IfErr}
+use Rattle.std.specs.Prelude.{nat_le, IfErr}
 use Rattle.std.specs.Result.{IsErrAnd}
 use Rattle.std.proofs.lemmas.Bool.Decides.{nat_tests}
 use Rattle.std.proofs.lemmas.List.{length-append, map-append, length-map}
 use Rattle.dcx_frac.specs.declared.fraction.Frac.{Frac}
 use Rattle.dcx_frac.specs.Frac.{value}
-use Rattle.dcx_settings.specs.Terminal.{Terminal, comma, close_square}
+use Rattle.dcx_settings.specs.Terminal.{Terminal, comma}
 use Rattle.dcx_settings.specs.Grammar.{Number, Item, Line, IsGoodNumber}
-use Rattle.dcx_settings.specs.Machine.{at, start, in_row, Outer, no_matrix, rows_before, number, number_read, in_row_read, limit, may_end, row_ended, when}
+use Rattle.dcx_settings.specs.Machine.{at, start, in_row, Outer, no_matrix, rows_before, number, number_read, limit, when}
 use Rattle.dcx_settings.specs.Meaning.{number_value, AreNumbers}
 use Rattle.dcx_settings.specs.declared.stop.Stop.{Stop}
 use Rattle.dcx_settings.specs.declared.stop.Stop.TheVariants.{Memory, At}
-use Rattle.dcx_settings.specs.Steps.{further, read, read_by, Lacks, StopsAt, IsNumberRead, number_from, most_numbers, is_full_row, HasWidth, IsRowBegun, IsRowRead, RowStopsAt}
+use Rattle.dcx_settings.specs.Steps.{further, read, read_by, StopsAt, IsNumberRead, number_from, most_numbers, HasWidth, IsRowBegun, RowStopsAt}
 use Rattle.dcx_settings.proofs.Numbers.{read_part}
 use Rattle.dcx_settings.proofs.Facts.{every_more}
 
@@ -23,14 +23,6 @@ limit_is (rows_before []) None h = refl
 limit_is (rows_before []) (Some w) h = absurd h
 limit_is (rows_before (r ∷ rs)) None h = absurd h
 limit_is (rows_before (r ∷ rs)) (Some w) h = h
-
-may_end_is : (o : Outer) (width : Option ℕ) (k : ℕ) → HasWidth o width → may_end o k ≡ is_full_row width k
-may_end_is no_matrix None k h = refl
-may_end_is no_matrix (Some w) k h = absurd h
-may_end_is (rows_before []) None k h = refl
-may_end_is (rows_before []) (Some w) k h = absurd h
-may_end_is (rows_before (r ∷ rs)) None k h = absurd h
-may_end_is (rows_before (r ∷ rs)) (Some w) k h = ap (nat_eq k) h
 
 pub le_is : (a b : ℕ) → a ≤ b → nat_le a b ≡ true
 le_is a b h = grind (arith, nat_tests)
@@ -98,41 +90,3 @@ module _ (width : Option ℕ) (us : List Terminal) (fs : List Frac) where
     pub row_stops : length fs < most_numbers width → (text : List ℕ) (e : Stop) → StopsAt number_from text rest e → RowStopsAt width text us e
     row_stops room text Memory g = tt
     row_stops room text (At there) g = λ lines is n o w. comma_goes room lines is n o w ∙ g lines is n (in_row o (h.before ++ h.last ∷ []))
-
-  module _ (from : List Terminal) (h : IsRowBegun width us fs from) where
-    -- the row ends where it may
-    pub row_closes : (rest : List Terminal) → from ≡ close_square ∷ rest → is_full_row width (length fs) ≡ true → IsRowRead width us fs rest
-    row_closes rest e full =
-        let c = count from h in
-        let d = length-append h.before (h.last ∷ []) in
-        let same : length fs ≡ length (h.before ++ h.last ∷ []) = c ∙ sym d in
-        record {
-          numbers = h.before ++ h.last ∷ [];
-          good = record { some = omega (arith, d); numbers = h.good };
-          numbers_are = h.numbers_are;
-          few = let k = h.few in omega (arith, d, k);
-          full = ap (is_full_row width) (sym same) ∙ full;
-          reads = λ lines is n o w. h.reads lines is n o w ∙ ap (read_by (number_read lines is n (in_row o h.before) h.last)) e
-              ∙ ap (λ b. further (read rest) (when b (at lines (row_ended is n o (h.before ++ h.last ∷ [])))) (close_square ∷ rest)) (may_end_is o width _ w ∙ ap (is_full_row width) (sym same) ∙ full);
-        }
-
-    -- it is too short
-    pub row_short : (rest : List Terminal) → from ≡ close_square ∷ rest → is_full_row width (length fs) ≡ false → (lines : List Line) (is : List Item) (n : List ℕ) (o : Outer) → HasWidth o width
-        → read_by (number_from lines is n (in_row o [])) us ≡ Err from
-    row_short rest e short lines is n o w =
-        let c = count from h in
-        let d = length-append h.before (h.last ∷ []) in
-        let same : length fs ≡ length (h.before ++ h.last ∷ []) = c ∙ sym d in
-        h.reads lines is n o w ∙ ap (read_by (number_read lines is n (in_row o h.before) h.last)) e
-        ∙ ap (λ b. further (read rest) (when b (at lines (row_ended is n o (h.before ++ h.last ∷ [])))) (close_square ∷ rest)) (may_end_is o width _ w ∙ ap (is_full_row width) (sym same) ∙ short) ∙ ap Err (sym e)
-
-    -- it goes on with neither a comma nor a bracket
-    pub row_open : Lacks comma from → Lacks close_square from → (lines : List Line) (is : List Item) (n : List ℕ) (o : Outer) → HasWidth o width
-        → read_by (number_from lines is n (in_row o [])) us ≡ Err from
-    row_open k l lines is n o w = h.reads lines is n o w ∙ other lines is n o (h.before ++ h.last ∷ []) from k l
-      where
-        other : (lines : List Line) (is : List Item) (n : List ℕ) (o : Outer) (xs : List Number) (ts : List Terminal) → Lacks comma ts → Lacks close_square ts → read_by (in_row_read lines is n o xs) ts ≡ Err ts
-        other lines is n o xs [] k l = refl
-        other lines is n o xs (comma ∷ ts) k l = absurd (k ts refl)
-        other lines is n o xs (close_square ∷ ts) k l = absurd (l ts refl)
-        other lines is n o xs (t ∷ ts) k l = refl

@@ -1,5 +1,5 @@
 -- What is read so far is spelled by the tokens so far, and is good.
-use Rattle.std.proofs.Common.{◌≡◌, ℕ, suc, ◌+◌, ◌*◌, ◌<◌, ◌≤◌, Bool, true, false, IsTrue, ℤ, pos, List, [], ◌∷◌, ◌++◌, map, length, Option, Some, None, Result, Ok, Err, refl, sym, ap, ◌∙◌, subst, arith, append_assoc}
+use Rattle.std.proofs.Common.{◌≡◌, ℕ, ◌+◌, ◌*◌, ◌<◌, ◌≤◌, Bool, true, false, IsTrue, ℤ, pos, List, [], ◌∷◌, ◌++◌, map, length, Option, Some, None, Result, Ok, Err, refl, sym, ap, ◌∙◌, subst, arith, append_assoc}
 use Rattle.std.specs.Prelude.{⊤, nat_le, nat_eq, ◌&&◌, if◌then◌else◌}
 use Rattle.std.proofs.lemmas.Bool.Decides.{nat_tests}
 use Rattle.std.proofs.lemmas.List.{append-nil, map-append, length-append}
@@ -193,14 +193,6 @@ kept_when true lines phase next t s ls e g k = kept lines phase next t s ls e (g
 kept_when false lines phase next t s ls e g k = cc
 
 -- ---- behind a number of a row
-outer_room : (o : Outer) → IsGoodOuter o → limit o ≤ 20000
-outer_room no_matrix h = omega arith
-outer_room (rows_before []) h = omega arith
-outer_room (rows_before (r ∷ rs)) h = let k = h.1 in fits (length rs) (length r) k
-  where
-    fits : (m w : ℕ) → (suc m + 1) * w ≤ 20000 → w ≤ 20000
-    fits m w h = grind arith
-
 -- a row of xs ends
 row_sound : (is : List Item) (n : List ℕ) (o : Outer) (xs : List Number) → IsGoodName is n → IsGoodOuter o → IsGoodRow xs → length xs ≤ limit o → may_end o (length xs) ≡ true → IsGoodPhase (row_ended is n o xs)
 row_sound is n no_matrix xs g h r l e = (g, (r, l))

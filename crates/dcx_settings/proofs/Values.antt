@@ -1,5 +1,5 @@
 -- Reading a value, step by step.
-use Rattle.std.proofs.Common.{◌≡◌, ℕ, ◌<◌, ◌≤◌, List, [], ◌∷◌, map, length, None, Err, refl, sym, ap, ap₂, ◌∙◌, arith}
+use Rattle.std.proofs.Common.{◌≡◌, ℕ, List, [], ◌∷◌, map, length, None, Err, refl, sym, ap, ap₂, ◌∙◌, arith}
 use Rattle.dcx_frac.specs.declared.fraction.Frac.{Frac}
 use Rattle.dcx_frac.specs.Frac.{value}
 use Rattle.dcx_shape.specs.declared.shape.Shape.{Shape}
@@ -68,9 +68,6 @@ vector_read us rest fs l h shape s = record {
 pub vector_stops : (text : List ℕ) (us : List Terminal) (s : Stop) → Lacks open_square us → RowStopsAt None text us s → ValueStopsAt bracket text us s
 vector_stops text us Memory l h = tt
 vector_stops text us (At there) l h = λ lines is n. read_list lines is n us l ∙ h lines is n no_matrix tt
-
-pub row_counts : (us rest : List Terminal) (fs : List Frac) → IsRowRead None us fs rest → (0 < length fs) × (length fs ≤ 20000)
-row_counts us rest fs h = let e = same_length h.numbers fs h.numbers_are in let s = h.good.some in let f = h.few in (omega (arith, e, s), omega (arith, e, f))
 
 pub scalar_read : (us rest : List Terminal) (f : Frac) (fs : List Frac) → fs ≡ f ∷ [] → Lacks open_square us → IsNumberRead number_from us f rest → (shape : Shape) → sides_of shape ≡ Scalar → IsValueRead assigned us shape fs rest
 scalar_read us rest f fs e l h shape s = record {

@@ -1,13 +1,16 @@
 -- Every good state leads to good settings, so the first token that may not follow is the first that is unexpected.
-use Rattle.std.proofs.Common.{◌≡◌, ◌≢◌, ℕ, zero, suc, ◌+◌, ◌-◌, ◌<◌, ◌≤◌, Bool, true, false, List, [], ◌∷◌, ◌++◌, map, length, replicate, None, Result, Ok, Err, refl, sym, ap, ◌∙◌, subst, arith, append_assoc, pos}
+use Rattle.std.proofs.Common.{◌≡◌, ◌≢◌, ℕ, zero, suc, ◌+◌, ◌-◌, ◌<◌, ◌≤◌, Bool, true, false, List, [], ◌∷◌, ◌++◌, map}
+use Rattle.std.proofs.Common.{length, replicate, None, Result, Ok, Err, refl, sym, ap, ◌∙◌, subst, arith, append_assoc, pos}
 use Rattle.std.specs.Prelude.{nat_eq, bytes_eq}
 use Rattle.std.proofs.lemmas.Slice.Eq.{bytes_eq-Decides}
 use Rattle.std.proofs.lemmas.Bool.Decides.{nat_tests}
 use Rattle.std.proofs.lemmas.List.{append-nil, length-append, length-replicate}
 use Rattle.dcx_settings.specs.Terminal.{Terminal, name, digits, slash, equal, comma, open_square, close_square, close_curly, newline}
-use Rattle.dcx_settings.specs.Grammar.{integer, quotient, Number, number_text, Value, one, row, matrix, preceded, Item, Line, nothing, items, settings_text, names_of, is_among, Every, IsGoodNumber, IsGoodLine}
+use Rattle.dcx_settings.specs.Grammar.{integer, quotient, Number, number_text, Value, one, row, matrix, preceded, Item, Line}
+use Rattle.dcx_settings.specs.Grammar.{nothing, items, settings_text, names_of, is_among, Every, IsGoodNumber, IsGoodLine}
 use Rattle.dcx_settings.specs.Reading.{AreSpelled, GoesOn, IsUnexpected}
-use Rattle.dcx_settings.specs.Machine.{Part, start, negated, whole_read, divided, complete, Outer, no_matrix, rows_before, Context, alone, in_row, Phase, fresh, opened, closed, next_item, named, assigned, bracket, number, row_closed, next_row, ended, State, at, number_of, with_item, limit, may_end, row_ended, step, go, run}
+use Rattle.dcx_settings.specs.Machine.{Part, start, negated, whole_read, divided, complete, Outer, no_matrix, rows_before, Context, alone, in_row, Phase, fresh, opened, closed, next_item}
+use Rattle.dcx_settings.specs.Machine.{named, assigned, bracket, number, row_closed, next_row, ended, State, at, number_of, with_item, limit, may_end, row_ended, step, go, run}
 use Rattle.dcx_settings.proofs.Soundness.{state_text, IsGoodContext, IsGoodPhase, IsGoodState, Leads, IsLed, run_sound, rows_outer}
 use Rattle.dcx_settings.proofs.Completeness.{part_of, Ends, number_ends, run_row, run_lines}
 
@@ -44,7 +47,8 @@ module _ (lines : List Line) (is : List Item) (n : List ℕ) where
   lacking (rows_before []) k = 0
   lacking (rows_before (r ∷ rs)) k = length r - k
 
-  filled : (o : Outer) (xs : List Number) (x : Number) → length xs + 1 ≤ limit o → (length xs + 1 + lacking o (length xs + 1) ≤ limit o) × (may_end o (length (xs ++ x ∷ replicate (lacking o (length xs + 1)) some_number)) ≡ true)
+  filled : (o : Outer) (xs : List Number) (x : Number) → length xs + 1 ≤ limit o
+      → (length xs + 1 + lacking o (length xs + 1) ≤ limit o) × (may_end o (length (xs ++ x ∷ replicate (lacking o (length xs + 1)) some_number)) ≡ true)
   unfolding lacking
   filled no_matrix xs x h = (omega (arith, h), refl)
   filled (rows_before []) xs x h = (omega (arith, h), refl)
@@ -80,9 +84,11 @@ module _ (lines : List Line) (is : List Item) (n : List ℕ) where
 
   part_completes : (c : Context) (part : Part) → IsGoodContext c → Completes (at lines (number is n c part))
   part_completes c start g = behind _ (at lines (number is n c (part_of some_number))) (digits (pos 1) ∷ []) (λ more. refl) (read_completes c some_number g)
-  part_completes c negated g = behind _ (at lines (number is n c (part_of (number_of true (integer (pos 1)))))) (digits (pos 1) ∷ []) (λ more. refl) (read_completes c (number_of true (integer (pos 1))) g)
+  part_completes c negated g = behind _ (at lines (number is n c (part_of (number_of true (integer (pos 1)))))) (digits (pos 1) ∷ []) (λ more. refl)
+      (read_completes c (number_of true (integer (pos 1))) g)
   part_completes c (whole_read s f) g = read_completes c (number_of s (integer f)) g
-  part_completes c (divided s f) g = behind _ (at lines (number is n c (part_of (number_of s (quotient f (pos 1)))))) (digits (pos 1) ∷ []) (λ more. refl) (read_completes c (number_of s (quotient f (pos 1))) g)
+  part_completes c (divided s f) g = behind _ (at lines (number is n c (part_of (number_of s (quotient f (pos 1)))))) (digits (pos 1) ∷ []) (λ more. refl)
+      (read_completes c (number_of s (quotient f (pos 1))) g)
   part_completes c (complete x) g = number_completes c x (complete x) (λ t h. refl) g
 
   assigned_completes : Completes (at lines (assigned is n))
@@ -113,7 +119,8 @@ unfolding long_name
 new_name ns = let e = length-replicate {A = ℕ} (suc (longest ns)) 97 in (long_name (longest ns), none_among ns (long_name (longest ns)) (omega (arith, e)))
 
 next_row_completes : (lines : List Line) (is : List Item) (n : List ℕ) (rows : List (List Number)) → IsGoodPhase (next_row is n rows) → Completes (at lines (next_row is n rows))
-next_row_completes lines is n rows g = behind _ (at lines (number is n (in_row (rows_before rows) []) start)) (open_square ∷ []) (λ more. refl) (part_completes lines is n (in_row (rows_before rows) []) start (rows_outer rows g.1 g.2))
+next_row_completes lines is n rows g = behind _ (at lines (number is n (in_row (rows_before rows) []) start)) (open_square ∷ []) (λ more. refl)
+    (part_completes lines is n (in_row (rows_before rows) []) start (rows_outer rows g.1 g.2))
 
 -- every good state can be completed
 completes : (lines : List Line) (phase : Phase) → IsGoodPhase phase → Completes (at lines phase)
@@ -125,7 +132,8 @@ completes lines (next_item is) g =
     behind _ (at lines (named is n.0)) (name n.0 ∷ []) (λ more. rw n.1 refl) (behind _ (at lines (assigned is n.0)) (equal ∷ []) (λ more. refl) (assigned_completes lines is n.0))
 completes lines (named is n) g = behind _ (at lines (assigned is n)) (equal ∷ []) (λ more. refl) (assigned_completes lines is n)
 completes lines (assigned is n) g = assigned_completes lines is n
-completes lines (bracket is n) g = behind _ (at lines (number is n (in_row no_matrix []) (part_of (number_of false (integer (pos 1)))))) (digits (pos 1) ∷ []) (λ more. refl) (read_completes lines is n (in_row no_matrix []) (number_of false (integer (pos 1))) (tt, tt, omega arith))
+completes lines (bracket is n) g = behind _ (at lines (number is n (in_row no_matrix []) (part_of (number_of false (integer (pos 1)))))) (digits (pos 1) ∷ []) (λ more. refl)
+    (read_completes lines is n (in_row no_matrix []) (number_of false (integer (pos 1))) (tt, tt, omega arith))
 completes lines (number is n c part) g = part_completes lines is n c part g.1
 completes lines (row_closed is n rows) g = closed_completes lines is n rows
 completes lines (next_row is n rows) g = next_row_completes lines is n rows g

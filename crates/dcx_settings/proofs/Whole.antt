@@ -36,7 +36,8 @@ pub read_lines : (us : List Terminal) (lines : List Line) → read us (at [] fre
 read_lines us lines e = by (run us begin) refl
   where
     by : (r : Result State (List Terminal)) → run us begin ≡ r → AreSpelled us lines
-    by (Ok s) d = let f : at_end s.lines s.phase ≡ Ok lines = ap final (sym d) ∙ sym (read_run us begin) ∙ e in read_spelled us lines (subst (Leads begin us) (end_lines s.lines lines s.phase f) (read_at us (Ok s) d))
+    by (Ok s) d = let f : at_end s.lines s.phase ≡ Ok lines = ap final (sym d) ∙ sym (read_run us begin) ∙ e in
+        read_spelled us lines (subst (Leads begin us) (end_lines s.lines lines s.phase f) (read_at us (Ok s) d))
     by (Err rest) d = let f : Err rest ≡ Ok lines = ap final (sym d) ∙ sym (read_run us begin) ∙ e in cc
 
 -- reading stops: no good lines go on so

@@ -1,4 +1,4 @@
--- The words that contracts cite.
+-- What contracts cite: the grammar of settings, reading token by token, what they mean, files, and the laws.
 pub mod Terminal
 pub mod Grammar
 pub mod Reading

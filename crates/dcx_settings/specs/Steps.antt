@@ -18,7 +18,31 @@ use Rattle.dcx_settings.specs.declared.stop.Stop.{Stop}
 use Rattle.dcx_settings.specs.declared.stop.Stop.TheVariants.{Memory, At}
 use Rattle.dcx_settings.specs.Terminal.{Terminal, name, digits, decimal, minus, slash, equal, comma, semicolon, open_square, close_square, open_curly, close_curly, newline, other, terminals}
 use Rattle.dcx_settings.specs.Grammar.{Number, Line, Item, Value, Every, IsGoodNumber, IsGoodRow, AreGoodRows, IsGoodValue, AreGoodItems, IsGoodLine, names_of, is_among}
-use Rattle.dcx_settings.specs.Machine.{State, at, Phase, fresh, next_item, named, number, Context, in_row, start, Outer, no_matrix, rows_before, number_begun, size_begun, divisor_read, whole_read_on, reading, number_read, value_read, row_ended, row_closed, step}
+use Rattle.dcx_settings.specs.Machine.{
+  State,
+  at,
+  Phase,
+  fresh,
+  next_item,
+  named,
+  number,
+  Context,
+  in_row,
+  start,
+  Outer,
+  no_matrix,
+  rows_before,
+  number_begun,
+  size_begun,
+  divisor_read,
+  whole_read_on,
+  reading,
+  number_read,
+  value_read,
+  row_ended,
+  row_closed,
+  step,
+}
 use Rattle.dcx_settings.specs.Meaning.{number_value, AreNumbers, joined, value_sides, value_numbers, IsItemOf, AreItemsOf, IsLineOf, AreLinesOf}
 
 -- ---- reading to the end
@@ -140,7 +164,8 @@ pub record IsRowBegun (width : Option ℕ) (us : List Terminal) (fs : List Frac)
   pub good : Every IsGoodNumber (before ++ last ∷ [])
   pub numbers_are : AreNumbers (before ++ last ∷ []) fs
   pub few : length before + 1 ≤ most_numbers width
-  pub reads : (lines : List Line) (is : List Item) (n : List ℕ) (o : Outer) → HasWidth o width → read_by (number_from lines is n (in_row o [])) us ≡ read_by (number_read lines is n (in_row o before) last) rest
+  pub reads : (lines : List Line) (is : List Item) (n : List ℕ) (o : Outer) → HasWidth o width
+      → read_by (number_from lines is n (in_row o [])) us ≡ read_by (number_read lines is n (in_row o before) last) rest
 
 -- the tokens up to the rest are a row, behind its bracket
 pub record IsRowRead (width : Option ℕ) (us : List Terminal) (fs : List Frac) (rest : List Terminal) : Type 0 where
@@ -153,7 +178,8 @@ pub record IsRowRead (width : Option ℕ) (us : List Terminal) (fs : List Frac) 
 
 abbrev pub RowStopsAt : Option ℕ → List ℕ → List Terminal → Stop → Type 0
 RowStopsAt width text us Memory = ⊤
-RowStopsAt width text us (At rest) = (lines : List Line) (is : List Item) (n : List ℕ) (o : Outer) → HasWidth o width → read_by (number_from lines is n (in_row o [])) us ≡ Err (terminals text rest.now)
+RowStopsAt width text us (At rest) =
+    (lines : List Line) (is : List Item) (n : List ℕ) (o : Outer) → HasWidth o width → read_by (number_from lines is n (in_row o [])) us ≡ Err (terminals text rest.now)
 
 -- ---- matrices
 -- the tokens up to the rest are rows of a matrix, behind both brackets of the first

@@ -70,7 +70,8 @@ fn push_item<'a, 'b>(
     names: &mut BTreeSet<&'b [u8]>,
     found: &mut Vec<SettingItem>,
 ) -> Result<&'a [Token], Stop<'a>>
-    ensures ok { IfOk result (λ rest. (next : SettingItem) × IsNewItemRead names.old (terminals text.now tokens.now) next (terminals text.now rest.now) × GainsName names.old names.new next.name × (found.new.items ≡ found.old.items ++ next ∷ [])) }
+    ensures ok { IfOk result (λ rest. (next : SettingItem) × IsNewItemRead names.old (terminals text.now tokens.now) next (terminals text.now rest.now)
+        × GainsName names.old names.new next.name × (found.new.items ≡ found.old.items ++ next ∷ [])) }
     ensures stop { IfErr result (NewItemStopsAt names.old text.now (terminals text.now tokens.now)) }
     ensures shorter { IfOk result (λ rest. length rest.now < length tokens.now) }
 {

@@ -11,20 +11,23 @@ use Rattle.dcx_shape.proofs.Entries.{entries_are, factor_pos}
 use Rattle.std.proofs.lemmas.Nat.{mul-le}
 
 -- the sides from the third on are 1
-joined : (a b c : Sides) → IsJoinedSide (cols_of a) (cols_of b) (cols_of c) → IsJoinedSide (rows_of a) (rows_of b) (rows_of c) → (k : ℕ) → IsJoinedSide (side_from_right a k) (side_from_right b k) (side_from_right c k)
+joined : (a b c : Sides) → IsJoinedSide (cols_of a) (cols_of b) (cols_of c) → IsJoinedSide (rows_of a) (rows_of b) (rows_of c) → (k : ℕ)
+    → IsJoinedSide (side_from_right a k) (side_from_right b k) (side_from_right c k)
 joined a b c columns rows zero = columns
 joined a b c columns rows (suc zero) = rows
 joined a b c columns rows (suc (suc k)) = record { fits = inl refl; greater = refl }
 
 -- what has the joined rows and columns and the greater rank is the broadcast
-pub broadcast_from_form : (a b c : Sides) (rank rows columns : ℕ) → IsJoinedSide (rows_of a) (rows_of b) rows → IsJoinedSide (cols_of a) (cols_of b) columns → rank ≡ max (rank_of a) (rank_of b) → HasForm rank rows columns c → IsBroadcast a b c
+pub broadcast_from_form : (a b c : Sides) (rank rows columns : ℕ) → IsJoinedSide (rows_of a) (rows_of b) rows → IsJoinedSide (cols_of a) (cols_of b) columns
+    → rank ≡ max (rank_of a) (rank_of b) → HasForm rank rows columns c → IsBroadcast a b c
 broadcast_from_form a b c rank rows columns r s e f = record {
   rank = f.is_rank ∙ e;
   sides = joined a b c (record { fits = s.fits; greater = f.is_columns ∙ s.greater }) (record { fits = r.fits; greater = f.is_rows ∙ r.greater });
 }
 
 -- and the other way round
-pub form_from_broadcast : (a b c : Sides) (rank rows columns : ℕ) → IsJoinedSide (rows_of a) (rows_of b) rows → IsJoinedSide (cols_of a) (cols_of b) columns → rank ≡ max (rank_of a) (rank_of b) → IsBroadcast a b c → HasForm rank rows columns c
+pub form_from_broadcast : (a b c : Sides) (rank rows columns : ℕ) → IsJoinedSide (rows_of a) (rows_of b) rows → IsJoinedSide (cols_of a) (cols_of b) columns
+    → rank ≡ max (rank_of a) (rank_of b) → IsBroadcast a b c → HasForm rank rows columns c
 form_from_broadcast a b c rank rows columns r s e h = record {
   is_rank = h.rank ∙ sym e;
   is_rows = (h.sides 1).greater ∙ sym r.greater;
@@ -47,7 +50,8 @@ pub not_joined_columns : (a b : Sides) (m n : ℕ) {X : Type 0} (r : Option X) �
 not_joined_columns a b m n r p q e never = lacking r e (λ (c, h, few). false≢true (never (rw (p, q) (cols_of c, h.sides 0))))
 
 -- where both are, the broadcast is what has the joined form
-pub shared_from_form : (a b : Sides) (rank rows columns : ℕ) {P : Type 0} → IsJoinedSide (rows_of a) (rows_of b) rows → IsJoinedSide (cols_of a) (cols_of b) columns → rank ≡ max (rank_of a) (rank_of b) → (P ↔ ((c : Sides) × HasForm rank rows columns c × HasFewEntries c)) → P ↔ Shared a b
+pub shared_from_form : (a b : Sides) (rank rows columns : ℕ) {P : Type 0} → IsJoinedSide (rows_of a) (rows_of b) rows → IsJoinedSide (cols_of a) (cols_of b) columns
+    → rank ≡ max (rank_of a) (rank_of b) → (P ↔ ((c : Sides) × HasForm rank rows columns c × HasFewEntries c)) → P ↔ Shared a b
 shared_from_form a b rank rows columns r s e h = (
   (λ p. let f = h.0 p in (f.0, broadcast_from_form a b f.0 rank rows columns r s e f.1, f.2)),
   (λ (c, b', few). h.1 (c, form_from_broadcast a b c rank rows columns r s e b', few)),
@@ -125,7 +129,7 @@ form_exists (suc zero) rows columns h m n = (Vector columns, record { is_rank = 
 form_exists (suc (suc zero)) rows columns h m n = (Matrix rows columns, record { is_rank = refl; is_rows = refl; is_columns = refl })
 form_exists (suc (suc (suc rank))) rows columns h m n = absurd (omega arith)
 
-some_sides : (s : Sides) → HasFewEntries s → (0 < rows_of s) × (0 < cols_of s)
+pub some_sides : (s : Sides) → HasFewEntries s → (0 < rows_of s) × (0 < cols_of s)
 some_sides s few = factor_pos 0 (rows_of s) (cols_of s) (omega (arith, few.some, entries_are s))
 
 -- sides that are no longer have no more entries
@@ -135,23 +139,33 @@ fewer c d p q m n few = record {
   most = omega (arith, entries_are c, entries_are d, few.most, mul-le (rows_of c) (cols_of c) (rows_of d) (cols_of d) m n);
 }
 
-pub broadcast_regroups : (a b c d : Sides) → HasFewEntries a → HasFewEntries b → HasFewEntries c → ((x : Sides) × Broadcasts a b x × Broadcasts x c d) → ((y : Sides) × Broadcasts b c y × Broadcasts a y d)
+pub broadcast_regroups : (a b c d : Sides) → HasFewEntries a → HasFewEntries b → HasFewEntries c → ((x : Sides) × Broadcasts a b x × Broadcasts x c d)
+    → ((y : Sides) × Broadcasts b c y × Broadcasts a y d)
 broadcast_regroups a b c d p q r (x, first, second) =
     let pa : (0 < rows_of a) × (0 < cols_of a) = some_sides a p in
     let pb : (0 < rows_of b) × (0 < cols_of b) = some_sides b q in
     let pc : (0 < rows_of c) × (0 < cols_of c) = some_sides c r in
-    let rows : IsJoinedSide (rows_of b) (rows_of c) (max (rows_of b) (rows_of c)) = joined_inner (rows_of a) (rows_of b) (rows_of c) (rows_of d) pa.0 pb.0 pc.0 (rows_of x) (first.is.sides 1) (second.is.sides 1) in
-    let columns : IsJoinedSide (cols_of b) (cols_of c) (max (cols_of b) (cols_of c)) = joined_inner (cols_of a) (cols_of b) (cols_of c) (cols_of d) pa.1 pb.1 pc.1 (cols_of x) (first.is.sides 0) (second.is.sides 0) in
-    let all_rows : IsJoinedSide (rows_of a) (max (rows_of b) (rows_of c)) (rows_of d) = joined_outer (rows_of a) (rows_of b) (rows_of c) (rows_of d) pa.0 pb.0 pc.0 (rows_of x) (first.is.sides 1) (second.is.sides 1) in
-    let all_columns : IsJoinedSide (cols_of a) (max (cols_of b) (cols_of c)) (cols_of d) = joined_outer (cols_of a) (cols_of b) (cols_of c) (cols_of d) pa.1 pb.1 pc.1 (cols_of x) (first.is.sides 0) (second.is.sides 0) in
-    let y = form_exists (max (rank_of b) (rank_of c)) (max (rows_of b) (rows_of c)) (max (cols_of b) (cols_of c)) (omega (arith, most_sides b, most_sides c)) (λ low. omega (arith, one_row b (omega arith), one_row c (omega arith))) (λ low. omega (arith, one_column b (omega arith), one_column c (omega arith))) in
+    let rows : IsJoinedSide (rows_of b) (rows_of c) (max (rows_of b) (rows_of c)) =
+    joined_inner (rows_of a) (rows_of b) (rows_of c) (rows_of d) pa.0 pb.0 pc.0 (rows_of x) (first.is.sides 1) (second.is.sides 1) in
+    let columns : IsJoinedSide (cols_of b) (cols_of c) (max (cols_of b) (cols_of c)) =
+    joined_inner (cols_of a) (cols_of b) (cols_of c) (cols_of d) pa.1 pb.1 pc.1 (cols_of x) (first.is.sides 0) (second.is.sides 0) in
+    let all_rows : IsJoinedSide (rows_of a) (max (rows_of b) (rows_of c)) (rows_of d) =
+    joined_outer (rows_of a) (rows_of b) (rows_of c) (rows_of d) pa.0 pb.0 pc.0 (rows_of x) (first.is.sides 1) (second.is.sides 1) in
+    let all_columns : IsJoinedSide (cols_of a) (max (cols_of b) (cols_of c)) (cols_of d) =
+    joined_outer (cols_of a) (cols_of b) (cols_of c) (cols_of d) pa.1 pb.1 pc.1 (cols_of x) (first.is.sides 0) (second.is.sides 0) in
+    let y = form_exists (max (rank_of b) (rank_of c)) (max (rows_of b) (rows_of c)) (max (cols_of b) (cols_of c)) (omega (arith, most_sides b, most_sides c))
+    (λ low. omega (arith, one_row b (omega arith), one_row c (omega arith))) (λ low. omega (arith, one_column b (omega arith), one_column c (omega arith))) in
     let inner : IsBroadcast b c y.0 = broadcast_from_form b c y.0 _ _ _ rows columns refl y.1 in
     let outer : IsBroadcast a y.0 d = record {
       rank = omega (arith, second.is.rank, first.is.rank, y.1.is_rank);
       sides = joined a y.0 d (rw y.1.is_columns all_columns) (rw y.1.is_rows all_rows);
     } in (
       y.0,
-      record { is = inner; few = fewer y.0 d (omega (arith, y.1.is_rows)) (omega (arith, y.1.is_columns)) (omega (arith, y.1.is_rows, all_rows.greater)) (omega (arith, y.1.is_columns, all_columns.greater)) second.few },
+      record {
+        is = inner;
+        few = fewer y.0 d (omega (arith, y.1.is_rows)) (omega (arith, y.1.is_columns)) (omega (arith, y.1.is_rows, all_rows.greater))
+            (omega (arith, y.1.is_columns, all_columns.greater)) second.few;
+      },
       record { is = outer; few = second.few },
     )
 

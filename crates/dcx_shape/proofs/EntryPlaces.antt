@@ -1,9 +1,8 @@
 -- The row and the column of an entry, and the place of its mirror.
-use Rattle.std.proofs.Common.{◌≡◌, ℕ, zero, suc, ◌*◌, ◌/◌, ◌%◌, ◌<◌, ◌≤◌, false, sym, ◌∙◌, subst, arith}
-use Rattle.std.proofs.lemmas.Nat.{div-add-mod', div_below, mod_below, mul-le}
+use Rattle.std.proofs.Common.{◌≡◌, ℕ, ◌*◌, ◌/◌, ◌%◌, ◌<◌, false, sym, ◌∙◌, subst, arith}
+use Rattle.std.proofs.lemmas.Nat.{div-add-mod', div_below, mod_below}
 use Rattle.dcx_shape.specs.declared.shape.Sides.{Sides}
-use Rattle.dcx_shape.specs.declared.shape.Sides.TheVariants.{Scalar, Vector, Matrix}
-use Rattle.dcx_shape.specs.Sides.{rows_of, cols_of, entries_of, HasFewEntries}
+use Rattle.dcx_shape.specs.Sides.{rows_of, cols_of, entries_of}
 use Rattle.dcx_shape.specs.Places.{HasEntry, row_place}
 use Rattle.dcx_shape.proofs.Entries.{entries_are, factor_pos, same_entry}
 
@@ -27,21 +26,3 @@ module _ (s : Sides) (k : ℕ) (lt : k < entries_of s) where
   only_here P p i j e at =
       let same : (k / cols_of s ≡ i) × (k % cols_of s ≡ j) = same_entry false s (k / cols_of s) (k % cols_of s) i j entry_here e (sym place_here ∙ at) in
       subst (λ r. P r j) same.0 (subst (λ c. P (k / cols_of s) c) same.1 p)
-
--- a factor of at most as many entries
-factor_few : (m n : ℕ) → 0 < m * n → m * n ≤ 20000 → n ≤ 20000
-factor_few zero n some most = absurd (omega arith)
-factor_few (suc m) n some most = omega arith
-
-pub cols_few : (s : Sides) → HasFewEntries s → cols_of s ≤ 20000
-cols_few Scalar few = omega arith
-cols_few (Vector n) few = few.most
-cols_few (Matrix m n) few = factor_few m n few.some few.most
-
--- the place of a mirror is no large number
-pub mirror_small : (s : Sides) → HasFewEntries s → (k : ℕ) → k < entries_of s → (k % cols_of s * cols_of s ≤ 400000000) × (k / cols_of s ≤ 20000)
-mirror_small s few k lt =
-    let narrow = cols_few s few in
-    let column : k % cols_of s ≤ 20000 = let m = (entry_here s k lt).column in omega (arith, m, narrow) in
-    let most : entries_of s ≤ 20000 = few.most in
-    (mul-le (k % cols_of s) (cols_of s) 20000 20000 column narrow, omega (arith, lt, most))

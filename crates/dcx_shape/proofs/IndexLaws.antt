@@ -52,7 +52,8 @@ whole_rows Scalar picks rows h t = takes_only rows t
 whole_rows (Vector n) picks rows h t = takes_only rows t
 whole_rows (Matrix m n) picks rows h t = takes_whole m _ rows (pick_whole picks 0 h) t
 
-whole_columns : (from : Sides) (picks : List Pick) (columns : List ℕ) → All (λ p. p ≡ Range whole_slice) picks → Takes (cols_of from) (column_pick from picks) columns → columns ≡ places_below (cols_of from)
+whole_columns : (from : Sides) (picks : List Pick) (columns : List ℕ) → All (λ p. p ≡ Range whole_slice) picks → Takes (cols_of from) (column_pick from picks) columns
+    → columns ≡ places_below (cols_of from)
 whole_columns Scalar picks columns h t = takes_only columns t
 whole_columns (Vector n) picks columns h t = takes_whole n _ columns (pick_whole picks 0 h) t
 whole_columns (Matrix m n) picks columns h t = takes_whole n _ columns (pick_whole picks 1 h) t
@@ -69,7 +70,8 @@ crossed_whole from xs c =
     same_number_lists xs (places_below (entries_of from)) (size ∙ sym (entries_are from) ∙ sym (length-range_with_len 0 (entries_of from))) (λ k h.
     let below : k < rows_of from * cols_of from = omega (arith, h, size) in
     let wide : 0 < cols_of from = (factor_pos k (rows_of from) (cols_of from) below).1 in
-    let here : get_or xs k 0 ≡ row_place from (get_or (places_below (rows_of from)) (k / cols_of from) 0) (get_or (places_below (cols_of from)) (k % cols_of from) 0) = rw (length-range_with_len 0 (cols_of from)) at (crossed_at from (places_below (rows_of from)) (places_below (cols_of from)) xs c k h) in
+    let here : get_or xs k 0 ≡ row_place from (get_or (places_below (rows_of from)) (k / cols_of from) 0) (get_or (places_below (cols_of from)) (k % cols_of from) 0) =
+    rw (length-range_with_len 0 (cols_of from)) at (crossed_at from (places_below (rows_of from)) (places_below (cols_of from)) xs c k h) in
     let row = get_or-range_with_len 0 (rows_of from) (k / cols_of from) 0 (div_below k (cols_of from) (rows_of from) wide below) in
     let column = get_or-range_with_len 0 (cols_of from) (k % cols_of from) 0 (mod_below k (cols_of from) wide) in
     let at : get_or (places_below (entries_of from)) k 0 ≡ 0 + k = get_or-range_with_len 0 (entries_of from) k 0 (omega (arith, below, entries_are from)) in

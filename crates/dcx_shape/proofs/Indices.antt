@@ -71,7 +71,8 @@ kept_entries m n (At i) (Range t) xs ys (a, below, is, e) u = rw e (omega arith)
 kept_entries m n (Range s) (At j) xs ys t (b, under, at, f) = rw f (omega arith)
 kept_entries m n (Range s) (Range t) xs ys r u = refl
 
-pub index_entries : (from : Sides) (picks : List Pick) (rows columns : List ℕ) → TakesBoth from picks rows columns → entries_of (kept_sides (row_pick from picks) (length rows) (column_pick from picks) (length columns)) ≡ length rows * length columns
+pub index_entries : (from : Sides) (picks : List Pick) (rows columns : List ℕ) → TakesBoth from picks rows columns
+    → entries_of (kept_sides (row_pick from picks) (length rows) (column_pick from picks) (length columns)) ≡ length rows * length columns
 index_entries from picks rows columns t = kept_entries _ _ (row_pick from picks) (column_pick from picks) rows columns t.takes_rows t.takes_columns
 
 -- the picks take no more entries than there are, and at least one
@@ -84,9 +85,11 @@ takes_few from picks rows columns h t =
 product_pos : (m n : ℕ) → 0 < m → 0 < n → 0 < m * n
 product_pos m n h k = mul-pos h k
 
-pub kept_few : (from : Sides) (picks : List Pick) (rows columns : List ℕ) → HasFewEntries from → All HasStep picks → TakesBoth from picks rows columns → HasFewEntries (kept_sides (row_pick from picks) (length rows) (column_pick from picks) (length columns))
+pub kept_few : (from : Sides) (picks : List Pick) (rows columns : List ℕ) → HasFewEntries from → All HasStep picks → TakesBoth from picks rows columns
+    → HasFewEntries (kept_sides (row_pick from picks) (length rows) (column_pick from picks) (length columns))
 kept_few from picks rows columns few h t = record {
-  some = rw (index_entries from picks rows columns t) (product_pos (length rows) (length columns) (takes_some _ (row_pick from picks) rows t.takes_rows) (takes_some _ (column_pick from picks) columns t.takes_columns));
+  some = rw (index_entries from picks rows columns t)
+      (product_pos (length rows) (length columns) (takes_some _ (row_pick from picks) rows t.takes_rows) (takes_some _ (column_pick from picks) columns t.takes_columns));
   most = rw (index_entries from picks rows columns t) (omega (arith, takes_few from picks rows columns h t, few.most));
 }
 
@@ -99,13 +102,16 @@ columns_below from picks rows columns h t = takes_below _ (column_pick from pick
 -- ---- rows and columns crossed
 
 -- place k of the crossing
-pub crossed_at : (from : Sides) (rows columns places : List ℕ) → IsCrossed from rows columns places → (k : ℕ) → k < length places → get_or places k 0 ≡ row_place from (get_or rows (k / length columns) 0) (get_or columns (k % length columns) 0)
+pub crossed_at : (from : Sides) (rows columns places : List ℕ) → IsCrossed from rows columns places → (k : ℕ) → k < length places
+    → get_or places k 0 ≡ row_place from (get_or rows (k / length columns) 0) (get_or columns (k % length columns) 0)
 crossed_at from rows columns places c k h =
     let below : k < length rows * length columns = omega (arith, h, c.count) in
     let wide : 0 < length columns = (factor_pos k (length rows) (length columns) below).1 in
-    ap (λ q. get_or places q 0) (sym (div-add-mod' k (length columns))) ∙ c.entries (k / length columns) (k % length columns) (div_below k (length columns) (length rows) wide below) (mod_below k (length columns) wide)
+    ap (λ q. get_or places q 0) (sym (div-add-mod' k (length columns)))
+    ∙ c.entries (k / length columns) (k % length columns) (div_below k (length columns) (length rows) wide below) (mod_below k (length columns) wide)
 
-pub crossed_below : (from : Sides) (rows columns places : List ℕ) → All (λ p. p < rows_of from) rows → All (λ p. p < cols_of from) columns → IsCrossed from rows columns places → All (λ p. p < entries_of from) places
+pub crossed_below : (from : Sides) (rows columns places : List ℕ) → All (λ p. p < rows_of from) rows → All (λ p. p < cols_of from) columns → IsCrossed from rows columns places
+    → All (λ p. p < entries_of from) places
 crossed_below from rows columns places r s c k d h =
     let below : k < length rows * length columns = omega (arith, h, c.count) in
     let wide : 0 < length columns = (factor_pos k (length rows) (length columns) below).1 in
@@ -114,7 +120,8 @@ crossed_below from rows columns places r s c k d h =
     rw (get_or_default places k d 0 h, crossed_at from rows columns places c k h) (place_below false from _ _ (record { row = row; column = column }))
 
 -- places that are found by quotient and remainder are the crossing
-pub crossed_from_places : (from : Sides) (rows columns places : List ℕ) → length places ≡ length rows * length columns → ((k : ℕ) → k < length places → get_or places k 0 ≡ row_place from (get_or rows (k / length columns) 0) (get_or columns (k % length columns) 0)) → IsCrossed from rows columns places
+pub crossed_from_places : (from : Sides) (rows columns places : List ℕ) → length places ≡ length rows * length columns → ((k : ℕ) → k < length places
+    → get_or places k 0 ≡ row_place from (get_or rows (k / length columns) 0) (get_or columns (k % length columns) 0)) → IsCrossed from rows columns places
 crossed_from_places from rows columns places count each = record {
   count = count;
   entries = λ i j h k.
@@ -165,23 +172,34 @@ takes_no_index_fault from picks rows columns Empty t f = takes_no_first_fault fr
 takes_no_index_fault from picks rows columns Memory t f = f
 
 -- a result that is the index's fault is no other
-pub same_fault : (from : Sides) (picks : List Pick) {X : Type 0} (r : Result X ShapeFault) (fault other : ShapeFault) → r ≡ Err fault → IsIndexFault from picks fault → (r ≡ Err other) ↔ IsIndexFault from picks other
+pub same_fault : (from : Sides) (picks : List Pick) {X : Type 0} (r : Result X ShapeFault) (fault other : ShapeFault) → r ≡ Err fault → IsIndexFault from picks fault
+    → (r ≡ Err other) ↔ IsIndexFault from picks other
 same_fault from picks r fault other is f = (
   (λ e. let same : fault ≡ other = cc in rw (← same) f),
   (λ g. is ∙ ap Err (index_fault_one from picks fault other f g)),
 )
 
 -- where the picks take something, a result that isn't this fault has it exactly where the index has
-pub never_fault : (from : Sides) (picks : List Pick) (rows columns : List ℕ) {X : Type 0} (r : Result X ShapeFault) (fault : ShapeFault) → TakesBoth from picks rows columns → (r ≡ Err fault → ⊥) → (r ≡ Err fault) ↔ IsIndexFault from picks fault
+pub never_fault : (from : Sides) (picks : List Pick) (rows columns : List ℕ) {X : Type 0} (r : Result X ShapeFault) (fault : ShapeFault) → TakesBoth from picks rows columns
+    → (r ≡ Err fault → ⊥) → (r ≡ Err fault) ↔ IsIndexFault from picks fault
 never_fault from picks rows columns r fault t never = ((λ e. absurd (never e)), (λ f. absurd (takes_no_index_fault from picks rows columns fault t f)))
 
 -- the same of two runs
-pub crossed_from_runs : (from : Sides) (rows columns : Run) (places : List ℕ) → length places ≡ rows.count * columns.count → ((k : ℕ) → k < length places → get_or places k 0 ≡ row_place from (run_place rows (k / columns.count)) (run_place columns (k % columns.count))) → IsCrossed from (places_of rows) (places_of columns) places
+pub crossed_from_runs : (from : Sides) (rows columns : Run) (places : List ℕ) → length places ≡ rows.count * columns.count
+    → ((k : ℕ) → k < length places → get_or places k 0 ≡ row_place from (run_place rows (k / columns.count)) (run_place columns (k % columns.count)))
+    → IsCrossed from (places_of rows) (places_of columns) places
 crossed_from_runs from rows columns places count each =
-    crossed_from_places from (places_of rows) (places_of columns) places (rw (length-places_from rows.first rows.step rows.count, length-places_from columns.first columns.step columns.count) count) (λ k h.
+    crossed_from_places from (places_of rows) (places_of columns) places
+    (rw (length-places_from rows.first rows.step rows.count, length-places_from columns.first columns.step columns.count) count) (λ k h.
     let below : k < rows.count * columns.count = omega (arith, h, count) in
     let wide : 0 < columns.count = (factor_pos k rows.count columns.count below).1 in
-    rw (length-places_from columns.first columns.step columns.count, get_or-places_from rows.first rows.step rows.count (k / columns.count) 0 (div_below k columns.count rows.count wide below), get_or-places_from columns.first columns.step columns.count (k % columns.count) 0 (mod_below k columns.count wide)) (each k h))
+    rw (
+      length-places_from columns.first columns.step columns.count,
+      get_or-places_from rows.first rows.step rows.count (k / columns.count) 0
+          (div_below k columns.count rows.count wide below),
+      get_or-places_from columns.first columns.step columns.count (k % columns.count) 0
+          (mod_below k columns.count wide),
+    ) (each k h))
 
 -- ---- the index
 

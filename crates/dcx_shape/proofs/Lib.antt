@@ -1,4 +1,4 @@
--- The lemmas by which the functions and the laws of this crate are proved.
+-- The lemmas on broadcasting, slices, indices and reshapes, and on entries and their places.
 pub mod Broadcasts
 pub mod Entries
 pub mod Reshapes
@@ -10,3 +10,4 @@ pub mod Indices
 pub mod SliceLaws
 pub mod IndexLaws
 pub mod EntryPlaces
+pub mod OneShape

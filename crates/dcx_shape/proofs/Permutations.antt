@@ -4,7 +4,8 @@ use Rattle.std.specs.List.{All, Contains, remove, range_with_len}
 use Rattle.std.specs.List.Sorted.{IsPermutation}
 use Rattle.std.proofs.lemmas.List.{nil_from_length}
 use Rattle.std.proofs.lemmas.List.FromFn.{length-range_with_len, get_or-range_with_len}
-use Rattle.std.proofs.lemmas.List.Sorted.{IsPermutation-refl, IsPermutation-sym, IsPermutation-trans, IsPermutation-cons, IsPermutation-remove, IsPermutation-to_front, Contains-permutation, All-permutation, length_permutation}
+use Rattle.std.proofs.lemmas.List.Sorted.{IsPermutation-refl, IsPermutation-sym, IsPermutation-trans, IsPermutation-cons, IsPermutation-remove}
+use Rattle.std.proofs.lemmas.List.Sorted.{IsPermutation-to_front, Contains-permutation, All-permutation, length_permutation}
 use Rattle.dcx_shape.specs.Places.{places_below}
 
 range-more : (a n : ℕ) → range_with_len a (suc n) ≡ range_with_len a n ++ (a + n) ∷ []
@@ -31,4 +32,5 @@ permutation_from_each (suc n) xs e each =
 
 -- each place of a permutation of the places is below their number
 pub within_from_permutation : (n : ℕ) (xs : List ℕ) → IsPermutation (places_below n) xs → All (λ p. p < n) xs
-within_from_permutation n xs h = All-permutation (λ p. p < n) (places_below n) xs h (λ k d b. let below : k < n = omega (arith, length-range_with_len 0 n) in rw (get_or-range_with_len 0 n k d below) (omega arith))
+within_from_permutation n xs h = All-permutation (λ p. p < n) (places_below n) xs h
+    (λ k d b. let below : k < n = omega (arith, length-range_with_len 0 n) in rw (get_or-range_with_len 0 n k d below) (omega arith))

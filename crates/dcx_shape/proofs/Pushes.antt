@@ -3,7 +3,8 @@ use Rattle.std.proofs.Common.{◌≡◌, ℕ, ◌+◌, ◌<◌, List, [], ◌∷
 use Rattle.std.proofs.lemmas.Bool.{cases_lt}
 use Rattle.std.proofs.lemmas.List.{length_push, get_or_push, get_or_append_left}
 
-pub each_pushed : (P : ℕ → ℕ → Type 0) (xs ys : List ℕ) (x k : ℕ) → ys ≡ xs ++ x ∷ [] → length xs ≡ k → ((q : ℕ) → q < k → P q (get_or xs q 0)) → P k x → (length ys ≡ k + 1) × ((q : ℕ) → q < k + 1 → P q (get_or ys q 0))
+pub each_pushed : (P : ℕ → ℕ → Type 0) (xs ys : List ℕ) (x k : ℕ) → ys ≡ xs ++ x ∷ [] → length xs ≡ k → ((q : ℕ) → q < k → P q (get_or xs q 0)) → P k x
+    → (length ys ≡ k + 1) × ((q : ℕ) → q < k + 1 → P q (get_or ys q 0))
 each_pushed P xs ys x k pushed count each last = (
   ap length pushed ∙ length_push xs x ∙ ap (λ n. n + 1) count,
   (λ q h. elim (cases_lt q k) [

@@ -32,7 +32,8 @@ same_place false from to k e sizes h =
     }
 
 -- an entry of the source at the same place is the one that was found
-pub source_is : (c : Bool) (from to : Sides) (k p : ℕ) → IsSource c from to k p → (i j a b : ℕ) → HasEntry from i j → HasEntry to a b → place_of c from i j ≡ place_of c to a b → k ≡ row_place to a b → p ≡ row_place from i j
+pub source_is : (c : Bool) (from to : Sides) (k p : ℕ) → IsSource c from to k p → (i j a b : ℕ) → HasEntry from i j → HasEntry to a b → place_of c from i j ≡ place_of c to a b
+    → k ≡ row_place to a b → p ≡ row_place from i j
 source_is c from to k p s i j a b e f same is_to =
     let t : (s.to_row ≡ a) × (s.to_column ≡ b) = same_entry false to s.to_row s.to_column a b s.to_entry f (sym s.is_to ∙ is_to) in
     let w : place_of c from s.row s.column ≡ place_of c from i j = s.same ∙ rw (t.0, t.1) (sym same) in
@@ -40,7 +41,8 @@ source_is c from to k p s i j a b e f same is_to =
     s.is_from ∙ rw (u.0, u.1) refl
 
 -- the sources of all entries make the reshape
-pub reshape_from_sources : (c : Bool) (from to : Sides) (places : List ℕ) → entries_of from ≡ entries_of to → length places ≡ entries_of to → ((k : ℕ) → k < entries_of to → IsSource c from to k (get_or places k 0)) → IsReshape c from to places
+pub reshape_from_sources : (c : Bool) (from to : Sides) (places : List ℕ) → entries_of from ≡ entries_of to → length places ≡ entries_of to
+    → ((k : ℕ) → k < entries_of to → IsSource c from to k (get_or places k 0)) → IsReshape c from to places
 reshape_from_sources c from to places sizes count each = record {
   sizes = sizes;
   count = count;
@@ -74,7 +76,8 @@ reshape_back c from to there back r s k h =
     ap (λ x. get_or there x 0) way ∙ r.entries _ _ _ _ e.entry t.entry t.is_place ∙ sym e.is_place
 
 -- place k of a reshape, by the entry that has the same place
-reshape_at : (c : Bool) (from to : Sides) (places : List ℕ) → IsReshape c from to places → (k : ℕ) (e : Entry false to k) (f : Entry c from (place_of c to e.row e.column)) → get_or places k 0 ≡ row_place from f.row f.column
+reshape_at : (c : Bool) (from to : Sides) (places : List ℕ) → IsReshape c from to places → (k : ℕ) (e : Entry false to k) (f : Entry c from (place_of c to e.row e.column))
+    → get_or places k 0 ≡ row_place from f.row f.column
 reshape_at c from to places r k e f = ap (λ q. get_or places q 0) e.is_place ∙ r.entries _ _ _ _ f.entry e.entry (sym f.is_place)
 
 reshape_one : (c : Bool) (from to : Sides) (xs ys : List ℕ) → IsReshape c from to xs → IsReshape c from to ys → xs ≡ ys

@@ -1,5 +1,6 @@
 -- Slices: how many places one has, and where they lie.
-use Rattle.std.proofs.Common.{◌≡◌, ◌≢◌, ℕ, zero, suc, ◌+◌, ◌*◌, ◌<◌, ◌≤◌, ◌^◌, List, [], ◌∷◌, length, get_or, Option, Some, None, refl, ◌∙◌, ap, arith, zero-add, zero-mul, mul-suc, lt_of_mul-lt-mul_right, le_antisymm, inl, inr}
+use Rattle.std.proofs.Common.{◌≡◌, ◌≢◌, ℕ, zero, suc, ◌+◌, ◌*◌, ◌<◌, ◌≤◌, ◌^◌, List, [], ◌∷◌, length, get_or, Option, Some, None}
+use Rattle.std.proofs.Common.{refl, ◌∙◌, ap, arith, zero-add, zero-mul, mul-suc, lt_of_mul-lt-mul_right, le_antisymm, inl, inr}
 use Rattle.std.specs.Prelude.{ℤ, pos, negsuc, neg_ℤ, ◌+ℤ◌, ◌-ℤ◌, ◌*ℤ◌, ◌≤ℤ◌, ◌<ℤ◌, ◌↔◌, unsigned_abs}
 use Rattle.std.specs.Int.{w32, FitsUnsigned, div_ceil, int_max}
 use Rattle.std.proofs.lemmas.List.FromFn.{length-map-range_with_len, get_or-map-range_with_len}
@@ -42,7 +43,8 @@ ahead_down (pos (suc s)) start stop g n h e d = absurd (omega (arith, ints))
 ahead_down (negsuc s) start stop g n h e d = ((λ b. omega (arith, ints, clamps)), (λ b. omega (arith, ints, clamps)))
 
 -- how many steps come before the stop
-pub steps_before : (step start stop : ℤ) (g count : ℕ) → step ≢ pos 0 → ((d : ℕ) → (d < g) ↔ IsBefore step (moved step start d) stop) → count ≡ div_ceil g (unsigned_abs step) → (k : ℕ) → (k < count) ↔ IsBefore step (start +ℤ pos k *ℤ step) stop
+pub steps_before : (step start stop : ℤ) (g count : ℕ) → step ≢ pos 0 → ((d : ℕ) → (d < g) ↔ IsBefore step (moved step start d) stop) → count ≡ div_ceil g (unsigned_abs step)
+    → (k : ℕ) → (k < count) ↔ IsBefore step (start +ℤ pos k *ℤ step) stop
 steps_before step start stop g count n ahead e k =
     let c : (k < div_ceil g (unsigned_abs step)) ↔ (k * unsigned_abs step < g) = ceil_steps g (unsigned_abs step) k (size_pos step n) in
     let a : (k * unsigned_abs step < g) ↔ IsBefore step (moved step start (k * unsigned_abs step)) stop = ahead (k * unsigned_abs step) in
@@ -56,7 +58,8 @@ end_within n low high default (Some i) b l h = (omega (arith, ints, clamps), ome
 up_end : (n : ℕ) (default : ℤ) (end : Option ℤ) → pos 0 ≤ℤ default → default ≤ℤ pos n → (pos 0 ≤ℤ end_of n (pos 0) (pos n) default end) × (end_of n (pos 0) (pos n) default end ≤ℤ pos n)
 up_end n default end l h = end_within n (pos 0) (pos n) default end (omega (arith, ints)) l h
 
-down_end : (n : ℕ) (default : ℤ) (end : Option ℤ) → negsuc 0 ≤ℤ default → default ≤ℤ (pos n -ℤ pos 1) → (negsuc 0 ≤ℤ end_of n (negsuc 0) (pos n -ℤ pos 1) default end) × (end_of n (negsuc 0) (pos n -ℤ pos 1) default end ≤ℤ (pos n -ℤ pos 1))
+down_end : (n : ℕ) (default : ℤ) (end : Option ℤ) → negsuc 0 ≤ℤ default → default ≤ℤ (pos n -ℤ pos 1)
+    → (negsuc 0 ≤ℤ end_of n (negsuc 0) (pos n -ℤ pos 1) default end) × (end_of n (negsuc 0) (pos n -ℤ pos 1) default end ≤ℤ (pos n -ℤ pos 1))
 down_end n default end l h = end_within n (negsuc 0) (pos n -ℤ pos 1) default end (omega (arith, ints)) l h
 
 -- the ends of a slice are no further apart than the side is long, and it starts at most behind the last entry
@@ -76,7 +79,8 @@ ends_near n (negsuc s) start stop =
     record { up = omega (arith, ints, first, last); down = omega (arith, ints, first, last); first = omega (arith, ints, first.1) }
 
 -- what comes before the stop lies on the side
-place_within : (n : ℕ) (step : ℤ) (start stop : Option ℤ) (k : ℕ) → step ≢ pos 0 → IsBefore step (start_for n step start +ℤ pos k *ℤ step) (stop_for n step stop) → (pos 0 ≤ℤ (start_for n step start +ℤ pos k *ℤ step)) × ((start_for n step start +ℤ pos k *ℤ step) <ℤ pos n)
+place_within : (n : ℕ) (step : ℤ) (start stop : Option ℤ) (k : ℕ) → step ≢ pos 0 → IsBefore step (start_for n step start +ℤ pos k *ℤ step) (stop_for n step stop)
+    → (pos 0 ≤ℤ (start_for n step start +ℤ pos k *ℤ step)) × ((start_for n step start +ℤ pos k *ℤ step) <ℤ pos n)
 place_within n (pos s) start stop k ne b =
     let first = up_end n (pos 0) start (omega (arith, ints)) (omega (arith, ints)) in
     let last = up_end n (pos n) stop (omega (arith, ints)) (omega (arith, ints)) in
@@ -93,7 +97,7 @@ pub record IsRunOf (n : ℕ) (s : Slice) (first : ℕ) (step : ℤ) (count : ℕ
   pub is_first : pos first ≡ int_max (start_for n s.step s.start) (pos 0)
   pub some : (k : ℕ) → (k < count) ↔ IsBefore s.step (slice_place n s k) (stop_for n s.step s.stop)
 
-zero_times : (z : ℤ) → pos 0 *ℤ z ≡ pos 0
+pub zero_times : (z : ℤ) → pos 0 *ℤ z ≡ pos 0
 zero_times (pos m) = ap pos (zero-mul m)
 zero_times (negsuc m) = ap (λ x. neg_ℤ (pos x)) (zero-mul (suc m))
 
@@ -120,7 +124,7 @@ length-places_from first step count = length-map-range_with_len (place_from firs
 pub get_or-places_from : (first : ℕ) (step : ℤ) (count k d : ℕ) → k < count → get_or (places_from first step count) k d ≡ place_from first step k
 get_or-places_from first step count k d h = get_or-map-range_with_len (place_from first step) 0 count k k d h (zero-add k)
 
-pos-unsigned_abs : (z : ℤ) → pos 0 ≤ℤ z → pos (unsigned_abs z) ≡ z
+pub pos-unsigned_abs : (z : ℤ) → pos 0 ≤ℤ z → pos (unsigned_abs z) ≡ z
 pos-unsigned_abs z h = omega (arith, ints)
 
 pub slice_runs : (n : ℕ) (s : Slice) (first : ℕ) (step : ℤ) (count : ℕ) → IsRunOf n s first step count → IsSlice n s (places_from first step count)
@@ -133,7 +137,8 @@ slice_runs n s first step count r = record {
 }
 
 -- what the code computes is the run of the slice
-pub run_of : (n : ℕ) (s : Slice) (start stop step : ℤ) (first count : ℕ) → s.step ≢ pos 0 → step ≡ s.step → start ≡ start_for n step s.start → stop ≡ stop_for n step s.stop → pos first ≡ int_max start (pos 0) → ((k : ℕ) → (k < count) ↔ IsBefore step (start +ℤ pos k *ℤ step) stop) → IsRunOf n s first step count
+pub run_of : (n : ℕ) (s : Slice) (start stop step : ℤ) (first count : ℕ) → s.step ≢ pos 0 → step ≡ s.step → start ≡ start_for n step s.start → stop ≡ stop_for n step s.stop
+    → pos first ≡ int_max start (pos 0) → ((k : ℕ) → (k < count) ↔ IsBefore step (start +ℤ pos k *ℤ step) stop) → IsRunOf n s first step count
 run_of n s start stop step first count ne e p q f some = record {
   steps = ne;
   is_step = e;

@@ -1,4 +1,4 @@
--- What the contracts of this crate cite.
+-- What contracts cite: sides, shapes and places, broadcasting, products, reshapes, slices and indices, the laws.
 pub mod Sides
 pub mod Shape
 pub mod Places

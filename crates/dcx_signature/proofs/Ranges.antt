@@ -1,5 +1,5 @@
 -- The numbers of a range are whole numbers of 128 bits, and as such they are fractions.
-use Rattle.std.specs.Prelude.{◌≡◌, ℕ, suc, ◌*◌, ◌<◌, pos, negsuc, ℤ, ◌+ℤ◌, ◌-ℤ◌, ◌*ℤ◌, ◌<ℤ◌, ◌≤ℤ◌, int_le, unsigned_abs, Bool, true, false, if◌then◌else◌, length, slice_get, Some, None}
+use Rattle.std.specs.Prelude.{◌≡◌, ℕ, suc, ◌*◌, ◌<◌, pos, negsuc, ℤ, ◌+ℤ◌, ◌-ℤ◌, ◌*ℤ◌, ◌<ℤ◌, ◌≤ℤ◌, unsigned_abs, length, slice_get, Some}
 use Rattle.std.proofs.Common.{ap, ◌∙◌, subst, arith, lit<}
 use Rattle.std.specs.Int.{saturate_signed}
 use Rattle.std.proofs.lemmas.Int.{ints}
@@ -10,16 +10,11 @@ use Rattle.dcx_math.specs.Rational.{whole, ◌/ℚ◌}
 use Rattle.dcx_math.proofs.Ratios.{ratio-one, ratio-is-/ℚ}
 use Rattle.dcx_frac.specs.declared.fraction.Frac.{Frac}
 use Rattle.dcx_frac.specs.Fits.{Fits, IsRepresentable}
-use Rattle.dcx_frac.specs.Frac.{value, num_of, den_of}
+use Rattle.dcx_frac.specs.Frac.{value}
 use Rattle.dcx_frac.proofs.Representable.{representable_quotient}
-use Rattle.dcx_shape.specs.declared.shape.Sides.{Sides}
-use Rattle.dcx_shape.specs.declared.shape.Sides.TheVariants.{Scalar, Vector, Matrix}
-use Rattle.dcx_shape.specs.Shape.{sides_of}
 use Rattle.dcx_atom.specs.Formed.{frac_at}
 use Rattle.dcx_atom.proofs.FormedSums.{frac_at-value}
-use Rattle.dcx_array.specs.Arrays.{entry, whole_entry}
-use Rattle.dcx_script_values.specs.Values.{Value, plain, nothing}
-use Rattle.dcx_script_values.specs.Kinds.{whole_number}
+use Rattle.dcx_script_values.specs.Values.{Value, nothing}
 use Rattle.dcx_script_values.specs.Ranges.{AreInside}
 use Rattle.dcx_signature.specs.Turns.{range_items, whole_value}
 
@@ -57,20 +52,6 @@ is_fraction n f = representable_quotient n (pos 1) f (lit< tt) one_is_some
 
 pub frac_at-is : (n : ℤ) (f : Frac) → value f ≡ whole n /ℚ whole (pos 1) → frac_at (whole n) ≡ f
 frac_at-is n f e = subst (λ x. frac_at x ≡ f) (e ∙ whole_is n) (frac_at-value f)
-
--- a whole number of a value fits
-whole_entry-fits : (s : Sides) (x : Frac) (z : ℤ) → whole_entry s x ≡ Some z → Fits z
-whole_entry-fits Scalar x z h = by (int_le (den_of x) (pos 1)) h
-  where
-    by : (b : Bool) → (if b then Some (num_of x) else None) ≡ Some z → Fits z
-    by true h = let e : num_of x ≡ z = cc in subst Fits e x.num_fits
-    by false h = absurd (cc)
-whole_entry-fits (Vector n) x z h = absurd (cc)
-whole_entry-fits (Matrix m n) x z h = absurd (cc)
-
-pub whole_number-fits : (v : Value) (z : ℤ) → whole_number v ≡ Some z → Fits z
-whole_number-fits (plain a) z h = whole_entry-fits (sides_of a.shape) (entry a 0) z h
-whole_number-fits v z h = absurd (cc)
 
 -- ---- the items that are gone through
 pub range_items-length : (first step : ℤ) (n : ℕ) → length (range_items first step n) ≡ n

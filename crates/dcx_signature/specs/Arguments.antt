@@ -1,5 +1,30 @@
 -- How arguments are given, by position and by name, and the order of the faults that they cause.
-use Rattle.std.specs.Prelude.{ℕ, ◌+◌, nat_le, Bool, false, not, ◌&&◌, ◌||◌, if◌then◌else◌, List, [], ◌∷◌, ◌++◌, filter, filter_map, find, length, slice_get, Option, Some, None, option_and_then, option_map, is_some}
+use Rattle.std.specs.Prelude.{
+  ℕ,
+  ◌+◌,
+  nat_le,
+  Bool,
+  false,
+  not,
+  ◌&&◌,
+  ◌||◌,
+  if◌then◌else◌,
+  List,
+  [],
+  ◌∷◌,
+  ◌++◌,
+  filter,
+  filter_map,
+  find,
+  length,
+  slice_get,
+  Option,
+  Some,
+  None,
+  option_and_then,
+  option_map,
+  is_some,
+}
 use Rattle.std.specs.List.{list_all, list_any}
 use Rattle.std.specs.Map.{lookup}
 use Rattle.dcx_shape.specs.declared.shape.Sides.{Sides}

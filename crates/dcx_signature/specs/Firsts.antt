@@ -1,7 +1,32 @@
 -- The place of the first token of an expression.
 use Rattle.std.specs.Prelude.{[], ◌∷◌}
 use Rattle.dcx_shape.specs.declared.place.Place.{Place}
-use Rattle.dcx_syntax.specs.Expressions.{Expr, expr, Sum, sum, Term, term, Factor, factor, Power, power_of, Postfix, postfix, Primary, number_at, text_at, name_at, truth_at, none_at, unit, round, tuple, empty_list, list, comprehension}
+use Rattle.dcx_syntax.specs.Expressions.{
+  Expr,
+  expr,
+  Sum,
+  sum,
+  Term,
+  term,
+  Factor,
+  factor,
+  Power,
+  power_of,
+  Postfix,
+  postfix,
+  Primary,
+  number_at,
+  text_at,
+  name_at,
+  truth_at,
+  none_at,
+  unit,
+  round,
+  tuple,
+  empty_list,
+  list,
+  comprehension,
+}
 
 abbrev pub primary_place : Primary → Place
 primary_place (number_at x p) = p

@@ -203,7 +203,3 @@ functions_of Numpy = (codes "array", functions.Array) ∷ (codes "ones", functio
 
 abbrev pub function_named : Module → List ℕ → Option Function
 function_named m name = lookup (same_name name) (functions_of m)
-
-abbrev pub module_name : Module → List ℕ
-module_name Cvxpy = codes "cvxpy"
-module_name Numpy = codes "numpy"

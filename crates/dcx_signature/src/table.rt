@@ -3,7 +3,8 @@ ghost use Rattle.std.specs.Prelude.{◌≡◌, map, MatchOption};
 ghost use Rattle.std.specs.List.{list_any};
 ghost use Rattle.std.specs.Map.{lookup};
 ghost use Rattle.dcx_point.specs.Pairs.{same_name};
-ghost use Rattle.dcx_signature.specs.Table.{function_named, ignored_words, module_name};
+ghost use Rattle.dcx_syntax.specs.Statements.{module_bytes};
+ghost use Rattle.dcx_signature.specs.Table.{function_named, ignored_words};
 ghost use Rattle.dcx_signature.specs.Table as table;
 ghost use Rattle.dcx_signature.specs.View.{param_seen, row_seen, entry_seen};
 
@@ -633,7 +634,7 @@ pub fn function_named(library: Module, name: &Name) -> Option<Function>
 
 /// The name of a module.
 pub fn module_word(library: Module) -> &'static str
-    ensures { result.now ≡ module_name library }
+    ensures { result.now ≡ module_bytes library }
 {
     match library {
         Module::Cvxpy => "cvxpy",

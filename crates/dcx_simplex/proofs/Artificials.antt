@@ -27,7 +27,8 @@ term_up w a o c e ha ho hc =
 sum_zero : (d v a z : ℤ) → d *ℤ v +ℤ z ≡ pos 0 → v ≡ pos 1 *ℤ a → a ≡ pos 0 → z <ℤ pos 0 → ⊥
 sum_zero d v a z e f h n = let g : v ≡ pos 0 = omega (arith, ints, f, h) in let m = times_zero d v g in absurd (omega (arith, ints, m, e, n))
 
-module _ (equations : List Row) (t : Table) (tableau : IsOf equations t) (feasible : IsFeasible t) (n : ℕ) (rows : length t.rows ≡ n + 2) (basics : (i : ℕ) → i + 2 < length t.rows → basic_at t.basis i < t.columns)
+module _ (equations : List Row) (t : Table) (tableau : IsOf equations t) (feasible : IsFeasible t) (n : ℕ) (rows : length t.rows ≡ n + 2)
+    (basics : (i : ℕ) → i + 2 < length t.rows → basic_at t.basis i < t.columns)
     (objective : basic_at t.basis n ≡ t.columns) (phase : basic_at t.basis (n + 1) ≡ t.columns + 1) (row : Row) (sum : IsSumRow equations t row) (low : right_at t (n + 1) ≤ℤ pos 0) where
   held : (x : Assignment) → Solves t.rows x → int_dot row x ≡ pos 0
   held x h = sum.holds x (tableau.only x h)
@@ -47,7 +48,8 @@ module _ (equations : List Row) (t : Table) (tableau : IsOf equations t) (feasib
 
   o'_pos : (k : ℕ) → k < length t.rows → pos 0 <ℤ o' k
   unfolding o'
-  o'_pos k h = pos_factor (entry (row_at t.rows k) (basic_at t.basis k)) _ _ (tableau.form.basic k h).positive (o_is (t.columns + 3) t.basis t.rows tableau.form row held k h) (d_pos (t.columns + 3) t.basis t.rows tableau.form row held)
+  o'_pos k h = pos_factor (entry (row_at t.rows k) (basic_at t.basis k)) _ _ (tableau.form.basic k h).positive (o_is (t.columns + 3) t.basis t.rows tableau.form row held k h)
+      (d_pos (t.columns + 3) t.basis t.rows tableau.form row held)
 
   total : d' *ℤ int_dot row (int_scaled (pos 1) (unit (t.columns + 2))) +ℤ weighted (λ k. neg_ℤ (w k *ℤ o' k)) t.basis row ≡ pos 0
   unfolding d' o' w

@@ -30,11 +30,14 @@ w_row : (d a z b w c v : ℚ) → a ≡ whole (pos 0) → ((d +ℚ a *ℚ z) +�
 w_row d a z b w c v e = rw e (ring (d ∷ z ∷ b ∷ w ∷ c ∷ v ∷ []) (search reads depth 30) tt)
 
 module _ (p : Program) (xs : List ℚ) (z w v : ℚ) (count : length xs ≡ length p.columns) where
-  front : (es : List ℤ) (a b c : ℤ) → length es ≡ length p.columns → rat_dot (wholes (es ++ a ∷ b ∷ c ∷ [])) (full xs z w v) ≡ ((rat_dot (wholes es) xs +ℚ whole a *ℚ z) +ℚ whole b *ℚ w) +ℚ whole c *ℚ v
+  front : (es : List ℤ) (a b c : ℤ) → length es ≡ length p.columns → rat_dot (wholes (es ++ a ∷ b ∷ c ∷ [])) (full xs z w v)
+      ≡ ((rat_dot (wholes es) xs +ℚ whole a *ℚ z) +ℚ whole b *ℚ w) +ℚ whole c *ℚ v
   front es a b c e =
       dot_full (es ++ a ∷ b ∷ c ∷ []) xs z w v (length p.columns) count
-      ∙ ap (λ d. ((d +ℚ whole (entry (es ++ a ∷ b ∷ c ∷ []) (length p.columns)) *ℚ z) +ℚ whole (entry (es ++ a ∷ b ∷ c ∷ []) (length p.columns + 1)) *ℚ w) +ℚ whole (entry (es ++ a ∷ b ∷ c ∷ []) (length p.columns + 2)) *ℚ v) (dot_front es (a ∷ b ∷ c ∷ []) xs (omega (arith, e, count)))
-      ∙ ap (λ q. ((rat_dot (wholes es) xs +ℚ whole q *ℚ z) +ℚ whole (entry (es ++ a ∷ b ∷ c ∷ []) (length p.columns + 1)) *ℚ w) +ℚ whole (entry (es ++ a ∷ b ∷ c ∷ []) (length p.columns + 2)) *ℚ v) (entry_z es a b c (length p.columns) e)
+      ∙ ap (λ d. ((d +ℚ whole (entry (es ++ a ∷ b ∷ c ∷ []) (length p.columns)) *ℚ z) +ℚ whole (entry (es ++ a ∷ b ∷ c ∷ []) (length p.columns + 1)) *ℚ w)
+      +ℚ whole (entry (es ++ a ∷ b ∷ c ∷ []) (length p.columns + 2)) *ℚ v) (dot_front es (a ∷ b ∷ c ∷ []) xs (omega (arith, e, count)))
+      ∙ ap (λ q. ((rat_dot (wholes es) xs +ℚ whole q *ℚ z) +ℚ whole (entry (es ++ a ∷ b ∷ c ∷ []) (length p.columns + 1)) *ℚ w) +ℚ whole (entry (es ++ a ∷ b ∷ c ∷ []) (length p.columns + 2)) *ℚ v)
+      (entry_z es a b c (length p.columns) e)
       ∙ ap (λ q. ((rat_dot (wholes es) xs +ℚ whole a *ℚ z) +ℚ whole q *ℚ w) +ℚ whole (entry (es ++ a ∷ b ∷ c ∷ []) (length p.columns + 2)) *ℚ v) (entry_w es a b c (length p.columns) e)
       ∙ ap (λ q. ((rat_dot (wholes es) xs +ℚ whole a *ℚ z) +ℚ whole b *ℚ w) +ℚ whole q *ℚ v) (entry_right es a b c (length p.columns) e)
 
@@ -46,12 +49,14 @@ module _ (p : Program) (xs : List ℚ) (z w v : ℚ) (count : length xs ≡ leng
       ∙ front r.row.entries (pos 0) (pos 0) r.row.right f.width ∙ plain_row _ _ z _ w _ v refl refl
       ∙ ap₂ (λ es b. rat_dot (wholes es) xs +ℚ whole b *ℚ v) (sym (map_at entries_of p.rows i r.row [] r.is)) (sym (map_at right_of p.rows i r.row (pos 0) r.is))
 
-  pub at_program_cost : rat_dot (wholes (row_at (first_tableau p).rows (length p.rows))) (full xs z w v) ≡ (rat_dot (wholes p.objective.entries) xs +ℚ whole p.objective.lead *ℚ z) +ℚ whole p.objective.right *ℚ v
+  pub at_program_cost : rat_dot (wholes (row_at (first_tableau p).rows (length p.rows))) (full xs z w v)
+      ≡ (rat_dot (wholes p.objective.entries) xs +ℚ whole p.objective.lead *ℚ z) +ℚ whole p.objective.right *ℚ v
   at_program_cost =
       ap (λ row. rat_dot (wholes row) (full xs z w v)) (at_objective p.rows p.columns p.objective p.phase p.form)
       ∙ front p.objective.entries p.objective.lead (pos 0) p.objective.right p.form.cost.width ∙ z_row _ _ z _ w _ v refl
 
-  pub at_program_phase : rat_dot (wholes (row_at (first_tableau p).rows (length p.rows + 1))) (full xs z w v) ≡ (rat_dot (wholes p.phase.entries) xs +ℚ whole p.phase.lead *ℚ w) +ℚ whole p.phase.right *ℚ v
+  pub at_program_phase : rat_dot (wholes (row_at (first_tableau p).rows (length p.rows + 1))) (full xs z w v)
+      ≡ (rat_dot (wholes p.phase.entries) xs +ℚ whole p.phase.lead *ℚ w) +ℚ whole p.phase.right *ℚ v
   at_program_phase =
       ap (λ row. rat_dot (wholes row) (full xs z w v)) (at_phase p.rows p.columns p.objective p.phase p.form)
       ∙ front p.phase.entries (pos 0) p.phase.lead p.phase.right p.form.sum.width ∙ w_row _ _ z _ w _ v refl
@@ -59,7 +64,8 @@ module _ (p : Program) (xs : List ℚ) (z w v : ℚ) (count : length xs ≡ leng
   solves_by : ((i : ℕ) → i < length p.rows → row_at_columns p i xs +ℚ whole (right_side_at p.rows i) *ℚ v ≡ whole (pos 0))
       → (rat_dot (wholes p.objective.entries) xs +ℚ whole p.objective.lead *ℚ z) +ℚ whole p.objective.right *ℚ v ≡ whole (pos 0)
       → (rat_dot (wholes p.phase.entries) xs +ℚ whole p.phase.lead *ℚ w) +ℚ whole p.phase.right *ℚ v ≡ whole (pos 0)
-      → (i : ℕ) → i < length p.rows + 2 → (i < length p.rows) ⊎ (length p.rows ≤ i) → (i < length p.rows + 1) ⊎ (length p.rows + 1 ≤ i) → rat_dot (wholes (row_at (first_tableau p).rows i)) (full xs z w v) ≡ whole (pos 0)
+      → (i : ℕ) → i < length p.rows + 2 → (i < length p.rows) ⊎ (length p.rows ≤ i) → (i < length p.rows + 1) ⊎ (length p.rows + 1 ≤ i)
+      → rat_dot (wholes (row_at (first_tableau p).rows i)) (full xs z w v) ≡ whole (pos 0)
   solves_by f g h i l (inl a) b = at_program_row i a ∙ f i a
   solves_by f g h i l (inr a) (inl b) = let e : i ≡ length p.rows = omega (arith, a, b) in ap (λ k. rat_dot (wholes (row_at (first_tableau p).rows k)) (full xs z w v)) e ∙ at_program_cost ∙ g
   solves_by f g h i l (inr a) (inr b) = let e : i ≡ length p.rows + 1 = omega (arith, l, b) in ap (λ k. rat_dot (wholes (row_at (first_tableau p).rows k)) (full xs z w v)) e ∙ at_program_phase ∙ h
@@ -92,7 +98,8 @@ module _ (p : Program) (ys : List ℚ) (assigned : IsAssignment p ys) where
 
   pub length_put_out : length put_out ≡ length p.columns
   unfolding put_out
-  length_put_out = let c = assigned.count in let l = length_placed short (own_column p) (length p.rows) (length p.columns) (own_column_low p) in length_added ys (placed short (own_column p) (length p.rows)) (omega (arith, c, l)) ∙ c
+  length_put_out = let c = assigned.count in let l = length_placed short (own_column p) (length p.rows) (length p.columns) (own_column_low p) in
+      length_added ys (placed short (own_column p) (length p.rows)) (omega (arith, c, l)) ∙ c
 
   -- a row's sum over the columns that were put out
   pub dot_put_out : (row : Row) → rat_dot (wholes row) put_out ≡ rat_dot (wholes row) ys +ℚ rat_sum_below (length p.rows) (λ k. short k *ℚ whole (entry row (own_column p k)))
@@ -116,13 +123,15 @@ module _ (p : Program) (ys : List ℚ) (assigned : IsAssignment p ys) where
   row_put_out i h =
       dot_put_out (entries_at p.rows i)
       ∙ ap (λ u. row_at_columns p i ys +ℚ u)
-      (rat_sum_below-one (length p.rows) i (λ k. short k *ℚ whole (entry (entries_at p.rows i) (own_column p k))) h (λ k l n. zero_right (short k) _ (ap whole (other_zero p i k h l n))) ∙ short_twice i h)
+      (rat_sum_below-one (length p.rows) i (λ k. short k *ℚ whole (entry (entries_at p.rows i) (own_column p k))) h (λ k l n. zero_right (short k) _ (ap whole (other_zero p i k h l n)))
+      ∙ short_twice i h)
       ∙ regain (row_at_columns p i ys) (whole (right_side_at p.rows i))
 
   pub cost_put_out : rat_dot (wholes p.objective.entries) put_out ≡ rat_dot (wholes p.objective.entries) ys
   cost_put_out =
       dot_put_out p.objective.entries
-      ∙ ap (λ u. rat_dot (wholes p.objective.entries) ys +ℚ u) (rat_sum_below-same (length p.rows) _ (λ _. whole (pos 0)) (λ k l. zero_right (short k) _ (ap whole (own_cost_zero p k l))) ∙ rat_sum_below-zero (length p.rows))
+      ∙ ap (λ u. rat_dot (wholes p.objective.entries) ys +ℚ u) (rat_sum_below-same (length p.rows) _ (λ _. whole (pos 0)) (λ k l. zero_right (short k) _ (ap whole (own_cost_zero p k l)))
+      ∙ rat_sum_below-zero (length p.rows))
       ∙ +ℚ_idr (rat_dot (wholes p.objective.entries) ys)
 
   pub rest : ℚ
@@ -145,7 +154,8 @@ module _ (p : Program) (ys : List ℚ) (assigned : IsAssignment p ys) where
   put_out_solves =
       solves_first p put_out (cost_at_columns p.objective ys) rest (whole (negsuc 0)) length_put_out
       (λ i h. ap (λ u. u +ℚ whole (right_side_at p.rows i) *ℚ whole (negsuc 0)) (row_put_out i h) ∙ cancelled (whole (right_side_at p.rows i)))
-      (ap (λ u. (u +ℚ whole p.objective.lead *ℚ cost_at_columns p.objective ys) +ℚ whole p.objective.right *ℚ whole (negsuc 0)) cost_put_out ∙ cost_holds (rat_dot (wholes p.objective.entries) ys) (whole p.objective.lead) (whole p.objective.right) (lead_some_of p.objective.lead p.form.cost.lead))
+      (ap (λ u. (u +ℚ whole p.objective.lead *ℚ cost_at_columns p.objective ys) +ℚ whole p.objective.right *ℚ whole (negsuc 0)) cost_put_out
+      ∙ cost_holds (rat_dot (wholes p.objective.entries) ys) (whole p.objective.lead) (whole p.objective.right) (lead_some_of p.objective.lead p.form.cost.lead))
       (phase_holds (rat_dot (wholes p.phase.entries) put_out) (whole p.phase.right) p.phase.lead p.form.sum.lead)
 
   -- what the own columns have in a row, over its lead, times what the rows are short
@@ -171,4 +181,5 @@ module _ (p : Program) (ys : List ℚ) (assigned : IsAssignment p ys) where
     pub cost_bound : right /ℚ whole lead ≤ℚ (x +ℚ rates row lead)
     cost_bound =
         *ℚ-≤ℚ_cancel (whole-<ℤ (pos 0) lead positive)
-        (scaled_bound (rat_dot (wholes row) ys) _ (rates row lead) (whole lead) x right (right /ℚ whole lead) low (ap (λ u. u +ℚ whole lead *ℚ x) (sym (dot_put_out row)) ∙ holds) rates_is (/ℚ-*ℚ right (whole lead) (lead_some_of lead positive)))
+        (scaled_bound (rat_dot (wholes row) ys) _ (rates row lead) (whole lead) x right (right /ℚ whole lead) low (ap (λ u. u +ℚ whole lead *ℚ x) (sym (dot_put_out row)) ∙ holds) rates_is
+        (/ℚ-*ℚ right (whole lead) (lead_some_of lead positive)))

@@ -49,9 +49,11 @@ lead_of equations cost bound t ready = (ready.tableau.form.basic cost ready.cost
 pub not_above_self : (cost : ℕ) (t : Table) → IsNotAbove cost t t
 not_above_self cost t = omega (arith, ints)
 
-pub not_above_trans : (equations : List Row) (cost bound : ℕ) (t u v : Table) → IsReady equations cost bound t → IsReady equations cost bound u → IsReady equations cost bound v → IsNotAbove cost t u → IsNotAbove cost u v → IsNotAbove cost t v
+pub not_above_trans : (equations : List Row) (cost bound : ℕ) (t u v : Table) → IsReady equations cost bound t → IsReady equations cost bound u → IsReady equations cost bound v
+    → IsNotAbove cost t u → IsNotAbove cost u v → IsNotAbove cost t v
 not_above_trans equations cost bound t u v a b c h k =
-    cross_trans (right_at t cost) (lead_at t cost) (right_at u cost) (lead_at u cost) (right_at v cost) (lead_at v cost) (lead_of equations cost bound t a) (lead_of equations cost bound u b) (lead_of equations cost bound v c) h k
+    cross_trans (right_at t cost) (lead_at t cost) (right_at u cost) (lead_at u cost) (right_at v cost) (lead_at v cost) (lead_of equations cost bound t a) (lead_of equations cost bound u b)
+    (lead_of equations cost bound v c) h k
 
 pub chain_none : (equations : List Row) (cost bound : ℕ) (t : Table) → IsReady equations cost bound t → Chain equations cost bound t t 0
 chain_none equations cost bound t ready = record {
@@ -121,7 +123,8 @@ pub record Found (equations : List Row) (cost bound : ℕ) (t u : Table) (n m : 
   pub chain : Chain equations cost bound t u count
   pub counts : n + count ≡ m
 
-pub chain_of : (equations : List Row) (cost bound limit : ℕ) (t : Table) (n : ℕ) (u : Table) (m : ℕ) → Leads cost bound limit t n u m → IsReady equations cost bound t → Found equations cost bound t u n m
+pub chain_of : (equations : List Row) (cost bound limit : ℕ) (t : Table) (n : ℕ) (u : Table) (m : ℕ) → Leads cost bound limit t n u m → IsReady equations cost bound t
+    → Found equations cost bound t u n m
 chain_of equations cost bound limit t n u m Here ready = record { count = 0; chain = chain_none equations cost bound t ready; counts = omega arith }
 chain_of equations cost bound limit t n u m (Then v k r c leads next below formed) ready =
     let f = chain_of equations cost bound limit t n v k leads ready in

@@ -1,5 +1,6 @@
 -- Rows that pass the test have the form of a program.
-use Rattle.std.proofs.Common.{◌≡◌, ℕ, zero, suc, ◌+◌, ◌<◌, ◌≤◌, ◌^◌, Bool, true, false, not, nat_eq, nat_lt, nat_le, List, [], ◌∷◌, ◌++◌, map, length, get_or, slice_get, Some, ℤ, pos, neg_ℤ, ◌<ℤ◌, ◌≤ℤ◌, ◌+ℤ◌, unsigned_abs, arith, refl, sym, ap, ap₂, ◌∙◌, subst, ◌⊎◌, inl, inr}
+use Rattle.std.proofs.Common.{◌≡◌, ℕ, zero, suc, ◌+◌, ◌<◌, ◌≤◌, ◌^◌, Bool, true, false, not, nat_eq, nat_lt, nat_le, List, [], ◌∷◌, ◌++◌, map, length, get_or}
+use Rattle.std.proofs.Common.{slice_get, Some, ℤ, pos, neg_ℤ, ◌<ℤ◌, ◌≤ℤ◌, ◌+ℤ◌, unsigned_abs, arith, refl, sym, ap, ap₂, ◌∙◌, subst, ◌⊎◌, inl, inr}
 use Rattle.std.specs.Prelude.{◌||◌, if◌then◌else◌, int_lt, All}
 use Rattle.std.specs.Option.{unwrap_or}
 use Rattle.std.proofs.lemmas.Option.{slice_get_within, unwrap_or-slice_get}
@@ -17,9 +18,11 @@ use Rattle.dcx_tab.specs.declared.rows.ColumnKind.TheVariants.{Unknown, Slack, A
 use Rattle.dcx_tab.specs.declared.rows.IntRow.{IntRow}
 use Rattle.dcx_tab.specs.declared.rows.CostRow.{CostRow}
 use Rattle.dcx_tab.specs.Rows.{entry, AllSmall}
-use Rattle.dcx_tab.specs.Program.{IsProgram, IsProgramRow, IsTurned, kind_at, plain_count, is_plain, told_entry, may_start, unknown_entry, sum_started, first_basic_at, entries_of, entries_at, right_of}
+use Rattle.dcx_tab.specs.Program.{IsProgram, IsProgramRow, IsTurned, kind_at, plain_count, is_plain, told_entry, may_start}
+use Rattle.dcx_tab.specs.Program.{unknown_entry, sum_started, first_basic_at, entries_of, entries_at, right_of}
 use Rattle.dcx_tab.proofs.Programs.{has_row, map_at, plain_count_le}
-use Rattle.dcx_simplex.specs.Checked.{Shape, shape_of, each_below, same_bool, each_small, low, divisor_of, right_order, is_slack_of, basic_of, right_kind, right_kinds, right_pair, right_pairs, right_row, right_rows, right_cost, sum_of, right_sum, has_form}
+use Rattle.dcx_simplex.specs.Checked.{Shape, shape_of, each_below, same_bool, each_small, low, divisor_of, right_order, is_slack_of, basic_of, right_kind}
+use Rattle.dcx_simplex.specs.Checked.{right_kinds, right_pair, right_pairs, right_row, right_rows, right_cost, sum_of, right_sum, has_form}
 use Rattle.dcx_simplex.proofs.Owns.{slack_low, artificial_low}
 
 -- ---- tests
@@ -90,11 +93,13 @@ sums : (plain : ℕ) (f : Shape → ℤ) (g : IntRow → ℤ) → ((r : IntRow) 
 sums plain f g e [] = refl
 sums plain f g e (r ∷ rows) = ap₂ (λ x y. (if nat_le plain r.basic then x else pos 0) +ℤ y) (e r) (sums plain f g e rows)
 
-rows_at : (kinds : List ColumnKind) (rows : List IntRow) (k i : ℕ) (r : IntRow) → right_rows kinds k (map shape_of rows) ≡ true → slice_get rows i ≡ Some r → right_row kinds (k + i) (shape_of r) ≡ true
+rows_at : (kinds : List ColumnKind) (rows : List IntRow) (k i : ℕ) (r : IntRow) → right_rows kinds k (map shape_of rows) ≡ true → slice_get rows i ≡ Some r
+    → right_row kinds (k + i) (shape_of r) ≡ true
 rows_at kinds [] k i r h e = cc
 rows_at kinds (s ∷ rows) k zero r h e =
     let q : s ≡ r = cc in
-    subst (λ t. right_row kinds (k + 0) (shape_of t) ≡ true) q (subst (λ n. right_row kinds n (shape_of s) ≡ true) (omega arith) (and_parts (right_row kinds k (shape_of s)) (right_rows kinds (suc k) (map shape_of rows)) h).0)
+    subst (λ t. right_row kinds (k + 0) (shape_of t) ≡ true) q (subst (λ n. right_row kinds n (shape_of s) ≡ true) (omega arith)
+    (and_parts (right_row kinds k (shape_of s)) (right_rows kinds (suc k) (map shape_of rows)) h).0)
 rows_at kinds (s ∷ rows) k (suc i) r h e =
     subst (λ n. right_row kinds n (shape_of r) ≡ true) (omega arith) (rows_at kinds rows (suc k) i r (and_parts (right_row kinds k (shape_of s)) (right_rows kinds (suc k) (map shape_of rows)) h).1 e)
 
@@ -215,7 +220,8 @@ module _ (rows : List IntRow) (kinds : List ColumnKind) (objective phase : CostR
         width = eqb-true (length r.entries) (length kinds) p.width;
         small = smalls (r.entries ++ pos 0 ∷ pos 0 ∷ r.right ∷ []) p.small;
         right = lows (pos 0) r.right p.right;
-        told = λ j l. equal (entry r.entries j) (told_entry i r.negated (kind_at kinds j) (entry r.entries j)) (each_at (length kinds) (λ j. int_eq (entry r.entries j) (told_entry i r.negated (kind_at kinds j) (entry r.entries j))) p.told j l);
+        told = λ j l. equal (entry r.entries j) (told_entry i r.negated (kind_at kinds j) (entry r.entries j))
+            (each_at (length kinds) (λ j. int_eq (entry r.entries j) (told_entry i r.negated (kind_at kinds j) (entry r.entries j))) p.told j l);
         basic = low_nat r.basic (length kinds) p.basic;
         starts = p.starts;
         factor = factors i r e;
@@ -230,7 +236,8 @@ module _ (rows : List IntRow) (kinds : List ColumnKind) (objective phase : CostR
   sum_at : (j : ℕ) → j < length kinds → entry phase.entries j ≡ (if nat_lt j (plain_count kinds) then sum_of (plain_count kinds) (λ s. entry s.entries j) (map shape_of rows) else pos 0)
   sum_at j l =
       equal (entry phase.entries j) (if nat_lt j (plain_count kinds) then sum_of (plain_count kinds) (λ s. entry s.entries j) (map shape_of rows) else pos 0)
-      (each_at (length kinds) (λ j. int_eq (entry phase.entries j) (if nat_lt j (plain_count kinds) then sum_of (plain_count kinds) (λ s. entry s.entries j) (map shape_of rows) else pos 0)) (passed_sum (map shape_of rows) kinds phase all.sum).each j l)
+      (each_at (length kinds) (λ j. int_eq (entry phase.entries j) (if nat_lt j (plain_count kinds) then sum_of (plain_count kinds) (λ s. entry s.entries j) (map shape_of rows) else pos 0))
+      (passed_sum (map shape_of rows) kinds phase all.sum).each j l)
 
   plain_part : (j : ℕ) → j < plain_count kinds → entry phase.entries j ≡ sum_started (plain_count kinds) (λ r. entry r.entries j) rows
   plain_part j l =
@@ -250,7 +257,8 @@ module _ (rows : List IntRow) (kinds : List ColumnKind) (objective phase : CostR
       record {
         few_rows = omega (arith, n, few);
         few_columns = at_most (plain_count kinds) 2400 all.columns;
-        ordered = λ j l. same_bools (is_plain (kind_at kinds j)) (nat_lt j (plain_count kinds)) (each_at (length kinds) (λ j. same_bool (is_plain (kind_at kinds j)) (nat_lt j (plain_count kinds))) all.order j l);
+        ordered = λ j l. same_bools (is_plain (kind_at kinds j)) (nat_lt j (plain_count kinds))
+            (each_at (length kinds) (λ j. same_bool (is_plain (kind_at kinds j)) (nat_lt j (plain_count kinds))) all.order j l);
         each_row = row_form;
         slack = λ j i e.
             let k = low_nat i (length (map shape_of rows)) (and_parts _ _ (kind j (Slack i) (slack_low kinds j i e) e)).0 in
@@ -267,9 +275,13 @@ module _ (rows : List IntRow) (kinds : List ColumnKind) (objective phase : CostR
         cost = record {
           width = eqb-true (length objective.entries) (length kinds) c.width;
           small = smalls (objective.entries ++ objective.lead ∷ pos 0 ∷ objective.right ∷ []) c.small;
-          told = λ j l. equal (entry objective.entries j) (unknown_entry (kind_at kinds j) (entry objective.entries j)) (each_at (length kinds) (λ j. int_eq (entry objective.entries j) (unknown_entry (kind_at kinds j) (entry objective.entries j))) c.told j l);
+          told = λ j l. equal (entry objective.entries j) (unknown_entry (kind_at kinds j) (entry objective.entries j))
+              (each_at (length kinds) (λ j. int_eq (entry objective.entries j) (unknown_entry (kind_at kinds j) (entry objective.entries j))) c.told j l);
           lead = above (pos 0) objective.lead c.lead;
-          primitive = record { one = divisors (objective.entries ++ objective.lead ∷ pos 0 ∷ objective.right ∷ []) ∙ eqb-true (divisor_of (objective.entries ++ objective.lead ∷ pos 0 ∷ objective.right ∷ [])) 1 c.one };
+          primitive = record {
+            one = divisors (objective.entries ++ objective.lead ∷ pos 0 ∷ objective.right ∷ [])
+                ∙ eqb-true (divisor_of (objective.entries ++ objective.lead ∷ pos 0 ∷ objective.right ∷ [])) 1 c.one;
+          };
         };
         sum = record {
           width = eqb-true (length phase.entries) (length kinds) s.width;
@@ -290,7 +302,9 @@ factor_one rows all i r e =
 
 -- rows of these shapes, with factors 1
 pub form_by : (shapes : List Shape) (kinds : List ColumnKind) (objective phase : CostRow) → has_form shapes kinds objective phase ≡ true
-    → (rows : List IntRow) (like : List ColumnKind) (o p : CostRow) → map shape_of rows ≡ shapes → All (λ r. value r.factor ≡ whole (pos 1)) rows → like ≡ kinds → o ≡ objective → p ≡ phase → IsProgram rows like o p
+    → (rows : List IntRow) (like : List ColumnKind) (o p : CostRow) → map shape_of rows ≡ shapes → All (λ r. value r.factor ≡ whole (pos 1)) rows → like ≡ kinds → o ≡ objective → p ≡ phase
+    → IsProgram rows like o p
 form_by shapes kinds objective phase h rows like o p s all k e f =
     form_from_test rows like o p (factor_one rows all)
-    (subst (λ ss. has_form ss like o p ≡ true) (sym s) (subst (λ ks. has_form shapes ks o p ≡ true) (sym k) (subst (λ c. has_form shapes kinds c p ≡ true) (sym e) (subst (λ c. has_form shapes kinds objective c ≡ true) (sym f) h))))
+    (subst (λ ss. has_form ss like o p ≡ true) (sym s) (subst (λ ks. has_form shapes ks o p ≡ true) (sym k)
+    (subst (λ c. has_form shapes kinds c p ≡ true) (sym e) (subst (λ c. has_form shapes kinds objective c ≡ true) (sym f) h))))

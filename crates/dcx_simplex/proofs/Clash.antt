@@ -23,7 +23,8 @@ weighted_low f (b ∷ bs) row h =
     omega (arith, ints, h0, ih)
 
 -- where no term is above 0, one below 0 makes the sum negative
-pub weighted_negative : (f : ℕ → ℤ) (bs : List ℕ) (row : Row) (i : ℕ) → i < length bs → ((k : ℕ) → k < length bs → (f k *ℤ entry row (basic_at bs k)) ≤ℤ pos 0) → (f i *ℤ entry row (basic_at bs i)) <ℤ pos 0
+pub weighted_negative : (f : ℕ → ℤ) (bs : List ℕ) (row : Row) (i : ℕ) → i < length bs → ((k : ℕ) → k < length bs → (f k *ℤ entry row (basic_at bs k)) ≤ℤ pos 0)
+    → (f i *ℤ entry row (basic_at bs i)) <ℤ pos 0
     → weighted f bs row <ℤ pos 0
 weighted_negative f [] row i l h n = absurd (omega arith)
 weighted_negative f (b ∷ bs) row zero l h n =
@@ -42,7 +43,8 @@ weighted_none f (b ∷ bs) row h =
     omega (arith, ints, h0, ih)
 
 -- where all terms but one are 0
-pub weighted_one : (f : ℕ → ℤ) (bs : List ℕ) (row : Row) (i : ℕ) → i < length bs → ((k : ℕ) → k < length bs → k ≢ i → entry row (basic_at bs k) ≡ pos 0) → weighted f bs row ≡ f i *ℤ entry row (basic_at bs i)
+pub weighted_one : (f : ℕ → ℤ) (bs : List ℕ) (row : Row) (i : ℕ) → i < length bs → ((k : ℕ) → k < length bs → k ≢ i → entry row (basic_at bs k) ≡ pos 0)
+    → weighted f bs row ≡ f i *ℤ entry row (basic_at bs i)
 weighted_one f [] row i l h = absurd (omega arith)
 weighted_one f (b ∷ bs) row zero l h =
     let ih = weighted_none (λ k. f (suc k)) bs row (λ k l. h (suc k) (omega arith) (omega arith)) in
@@ -61,7 +63,8 @@ sum_negative d w s z e hd f hs hz =
 no_less : (a b c d : ℤ) → a ≡ pos 0 → c ≡ pos 0 → (a *ℤ b) <ℤ (c *ℤ d) → ⊥
 no_less a b c d e f h = let x = zero_times a b e in let y = zero_times c d f in absurd (omega (arith, ints, x, y, h))
 
-module _ (equations : List Row) (cost bound : ℕ) (t t' : Table) (ready : IsReady equations cost bound t) (ready' : IsReady equations cost bound t') (r s q : ℕ) (next : IsNext cost bound t r s) (enters : IsEntering cost t' q)
+module _ (equations : List Row) (cost bound : ℕ) (t t' : Table) (ready : IsReady equations cost bound t) (ready' : IsReady equations cost bound t') (r s q : ℕ) (next : IsNext cost bound t r s)
+    (enters : IsEntering cost t' q)
     (leaves : basic_at t.basis r ≡ q) (rows : length t'.rows ≡ length t.rows) (last : (k : ℕ) → k < length t.rows → length t.rows ≤ k + 2 → basic_at t'.basis k ≡ basic_at t.basis k)
     (below : s < q) (zero_r : right_at t r ≡ pos 0)
     (basic_or : (k : ℕ) → k + 2 < length t.rows → IsBasic t' (basic_at t.basis k) ⊎ ((basic_at t.basis k ≤ q) × (right_at t k ≡ pos 0))) where
@@ -88,7 +91,8 @@ module _ (equations : List Row) (cost bound : ℕ) (t t' : Table) (ready : IsRea
 
   o'_pos : (k : ℕ) → k < length t.rows → pos 0 <ℤ o' k
   unfolding o'
-  o'_pos k h = pos_factor (entry (row_at t.rows k) (basic_at t.basis k)) _ _ (ready.tableau.form.basic k h).positive (o_is (t.columns + 3) t.basis t.rows ready.tableau.form (row_at t'.rows cost) held k h) (d_pos (t.columns + 3) t.basis t.rows ready.tableau.form (row_at t'.rows cost) held)
+  o'_pos k h = pos_factor (entry (row_at t.rows k) (basic_at t.basis k)) _ _ (ready.tableau.form.basic k h).positive
+      (o_is (t.columns + 3) t.basis t.rows ready.tableau.form (row_at t'.rows cost) held k h) (d_pos (t.columns + 3) t.basis t.rows ready.tableau.form (row_at t'.rows cost) held)
 
   total : d' *ℤ int_dot (row_at t'.rows cost) (int_scaled (pos 1) (unit s)) +ℤ weighted (λ k. neg_ℤ (w k *ℤ o' k)) t.basis (row_at t'.rows cost) ≡ pos 0
   unfolding d' o' w
@@ -138,7 +142,8 @@ module _ (equations : List Row) (cost bound : ℕ) (t t' : Table) (ready : IsRea
       (λ p. absurd (not_first k h lt z p))
       (λ p. term_low (w k) (entry_at t k s) (o' k) _ (w_is k) p (o'_pos k (omega arith)) (enters.least (basic_at t.basis k) lt))
 
-  row_low : (k : ℕ) → k + 2 < length t.rows → (k ≡ r) ⊎ (k ≢ r) → IsBasic t' (basic_at t.basis k) ⊎ ((basic_at t.basis k ≤ q) × (right_at t k ≡ pos 0)) → (neg_ℤ (w k *ℤ o' k) *ℤ entry_at t' cost (basic_at t.basis k)) ≤ℤ pos 0
+  row_low : (k : ℕ) → k + 2 < length t.rows → (k ≡ r) ⊎ (k ≢ r) → IsBasic t' (basic_at t.basis k) ⊎ ((basic_at t.basis k ≤ q) × (right_at t k ≡ pos 0))
+      → (neg_ℤ (w k *ℤ o' k) *ℤ entry_at t' cost (basic_at t.basis k)) ≤ℤ pos 0
   row_low k h c (inl b) = term_zero (w k) (o' k) _ (basic_zero (basic_at t.basis k) b)
   row_low k h (inl e) (inr b) =
       let c' : pos 0 <ℤ entry_at t' cost (basic_at t.basis k) = subst (λ j. pos 0 <ℤ entry_at t' cost j) (sym (ap (basic_at t.basis) e ∙ leaves)) enters.eligible in

@@ -32,7 +32,8 @@ code_low t (suc n) =
     omega (arith, ih, p, d)
 
 -- the last digits are the same, and so are the numbers before
-last_same : (t u : Table) (n x y w : ℕ) (d : IsBasic t n ⊎ ¬ (IsBasic t n)) (e : IsBasic u n ⊎ ¬ (IsBasic u n)) → x < w → y < w → x + digit t n w d ≡ y + digit u n w e → (x ≡ y) × (IsBasic t n → IsBasic u n)
+last_same : (t u : Table) (n x y w : ℕ) (d : IsBasic t n ⊎ ¬ (IsBasic t n)) (e : IsBasic u n ⊎ ¬ (IsBasic u n)) → x < w → y < w → x + digit t n w d ≡ y + digit u n w e
+    → (x ≡ y) × (IsBasic t n → IsBasic u n)
 last_same t u n x y w (inl d) (inl e) p q h = (omega arith, λ b. e)
 last_same t u n x y w (inl d) (inr e) p q h = absurd (omega arith)
 last_same t u n x y w (inr d) (inl e) p q h = absurd (omega arith)

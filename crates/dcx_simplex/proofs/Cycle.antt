@@ -74,11 +74,13 @@ not_basic equations cost bound t ready r c next b =
     absurd (omega (arith, ints, p, f))
 
 -- ---- the value at tableaus with the same basic columns
-one_left : (d v s w n lead right lead' right' o : ℤ) → pos 0 <ℤ d → d *ℤ v +ℤ n ≡ pos 0 → v ≡ pos 1 *ℤ right' → n ≡ neg_ℤ (w *ℤ o) *ℤ lead' → w ≡ pos 1 *ℤ right → lead *ℤ o ≡ d → right' *ℤ lead ≡ right *ℤ lead'
+one_left : (d v s w n lead right lead' right' o : ℤ) → pos 0 <ℤ d → d *ℤ v +ℤ n ≡ pos 0 → v ≡ pos 1 *ℤ right' → n ≡ neg_ℤ (w *ℤ o) *ℤ lead' → w ≡ pos 1 *ℤ right → lead *ℤ o ≡ d
+    → right' *ℤ lead ≡ right *ℤ lead'
 one_left d v s w n lead right lead' right' o hd e hv hn hw ho =
     let a : v ≡ right' = omega (arith, ints, hv) in
     let b : w ≡ right = omega (arith, ints, hw) in
-    let c : d *ℤ right' +ℤ neg_ℤ (right *ℤ o) *ℤ lead' ≡ pos 0 = subst (λ x. d *ℤ x +ℤ neg_ℤ (right *ℤ o) *ℤ lead' ≡ pos 0) a (subst (λ x. d *ℤ v +ℤ neg_ℤ (x *ℤ o) *ℤ lead' ≡ pos 0) b (subst (λ x. d *ℤ v +ℤ x ≡ pos 0) hn e)) in
+    let c : d *ℤ right' +ℤ neg_ℤ (right *ℤ o) *ℤ lead' ≡ pos 0 =
+    subst (λ x. d *ℤ x +ℤ neg_ℤ (right *ℤ o) *ℤ lead' ≡ pos 0) a (subst (λ x. d *ℤ v +ℤ neg_ℤ (x *ℤ o) *ℤ lead' ≡ pos 0) b (subst (λ x. d *ℤ v +ℤ x ≡ pos 0) hn e)) in
     let g = ap (λ x. lead *ℤ x) c in
     let k = ap (λ x. x *ℤ (right *ℤ lead')) ho in
     let f : d *ℤ (right' *ℤ lead) ≡ d *ℤ (right *ℤ lead') = simp ring (omega (arith, ints, simp ring at g, g, simp ring at k, k)) in
@@ -103,10 +105,12 @@ module _ (equations : List Row) (cost bound : ℕ) (t u : Table) (ready : IsRead
       let row = row_at u.rows cost in
       let size = ready.tableau.form.size in
       let i = identity (t.columns + 3) t.basis t.rows ready.tableau.form row held (int_scaled (pos 1) (unit j)) in
-      let one = weighted_one (λ k. neg_ℤ (int_dot (row_at t.rows k) (int_scaled (pos 1) (unit j)) *ℤ o (t.columns + 3) t.basis t.rows ready.tableau.form row held k)) t.basis row cost (omega (arith, size, ready.cost_row))
+      let one = weighted_one (λ k. neg_ℤ (int_dot (row_at t.rows k) (int_scaled (pos 1) (unit j)) *ℤ o (t.columns + 3) t.basis t.rows ready.tableau.form row held k)) t.basis row cost
+      (omega (arith, size, ready.cost_row))
       (λ k h n. others_by k (omega (arith, size)) n (cases_lt (k + 2) (length t.rows))) in
       let lead_same : entry row (basic_at t.basis cost) ≡ lead_at u cost = ap (entry row) (sym (kin.last cost ready.cost_row ready.cost_last)) in
-      let e = one_left _ _ (pos 0) _ _ (lead_at t cost) (right_at t cost) (entry row (basic_at t.basis cost)) (entry row j) _ (d_pos (t.columns + 3) t.basis t.rows ready.tableau.form row held) i (int_dot-unit row (pos 1) j) one
+      let e = one_left _ _ (pos 0) _ _ (lead_at t cost) (right_at t cost) (entry row (basic_at t.basis cost)) (entry row j) _ (d_pos (t.columns + 3) t.basis t.rows ready.tableau.form row held) i
+      (int_dot-unit row (pos 1) j) one
       (int_dot-unit (row_at t.rows cost) (pos 1) j) (o_is (t.columns + 3) t.basis t.rows ready.tableau.form row held cost ready.cost_row) in
       ap (λ q. entry row (q + 2) *ℤ lead_at t cost) kin.columns ∙ e ∙ ap (λ q. right_at t cost *ℤ q) lead_same
 
@@ -115,7 +119,8 @@ greatest_other : (f : ℕ → ℕ) (n i l : ℕ) → ((l : ℕ) → l < suc n �
 greatest_other f n i l h m k (inl e) = subst (λ x. f x ≤ f i) (sym e) m
 greatest_other f n i l h m k (inr e) = h l (omega (arith, e))
 
-greatest_by : (f : ℕ → ℕ) (n : ℕ) (g : (i : ℕ) × (i < suc n) × ((l : ℕ) → l < suc n → f l ≤ f i)) → (f (suc n) ≤ f g.0) ⊎ (f g.0 < f (suc n)) → (i : ℕ) × (i < suc (suc n)) × ((l : ℕ) → l < suc (suc n) → f l ≤ f i)
+greatest_by : (f : ℕ → ℕ) (n : ℕ) (g : (i : ℕ) × (i < suc n) × ((l : ℕ) → l < suc n → f l ≤ f i)) → (f (suc n) ≤ f g.0) ⊎ (f g.0 < f (suc n))
+    → (i : ℕ) × (i < suc (suc n)) × ((l : ℕ) → l < suc (suc n) → f l ≤ f i)
 greatest_by f n g (inl h) = (g.0, (let x = g.1 in omega arith), λ l k. greatest_other f n g.0 l g.2 h k (cases_eq l (suc n)))
 greatest_by f n g (inr h) = (suc n, omega arith, λ l k. greatest_other f n (suc n) l (λ m lm. let y = g.2 m lm in omega (arith, y, h)) (omega arith) k (cases_eq l (suc n)))
 
@@ -173,8 +178,10 @@ module _ (equations : List Row) (cost bound : ℕ) (t u : Table) (n : ℕ) (ch :
       let b = ch.ready i (omega arith) in
       let c = ch.ready (suc i) (omega arith) in
       let z = ch.ready (suc n) (omega arith) in
-      let s = subst (λ w. (right_at w cost *ℤ lead_at (ch.tables (suc i)) cost) <ℤ (right_at (ch.tables (suc i)) cost *ℤ lead_at w cost)) (sym (ch.after i h)) (value_strict equations cost bound (ch.tables (suc i)) c (ch.row i) (ch.column i) (ch.next i h) p) in
-      cross_lt (right_at (ch.tables 0) cost) (lead_at (ch.tables 0) cost) (right_at (ch.tables i) cost) (lead_at (ch.tables i) cost) (right_at (ch.tables (suc i)) cost) (lead_at (ch.tables (suc i)) cost)
+      let s = subst (λ w. (right_at w cost *ℤ lead_at (ch.tables (suc i)) cost) <ℤ (right_at (ch.tables (suc i)) cost *ℤ lead_at w cost)) (sym (ch.after i h))
+      (value_strict equations cost bound (ch.tables (suc i)) c (ch.row i) (ch.column i) (ch.next i h) p) in
+      cross_lt (right_at (ch.tables 0) cost) (lead_at (ch.tables 0) cost) (right_at (ch.tables i) cost) (lead_at (ch.tables i) cost) (right_at (ch.tables (suc i)) cost)
+      (lead_at (ch.tables (suc i)) cost)
       (lead_of equations cost bound (ch.tables 0) a) (lead_of equations cost bound (ch.tables i) b) (lead_of equations cost bound (ch.tables (suc i)) c)
       (ch.falls 0 i (omega arith) (omega arith)) s
       (not_above_trans equations cost bound (ch.tables (suc i)) (ch.tables (suc n)) (ch.tables 0) c z a (ch.falls (suc i) (suc n) (omega arith) (omega arith)) returns)
@@ -208,7 +215,8 @@ module _ (equations : List Row) (cost bound : ℕ) (t u : Table) (n : ℕ) (ch :
   gained_step j b h x y = (b, h, gained cost bound (ch.tables (suc b)) (ch.row b) (ch.column b) (ch.next b h) (size (suc b) h) j x (subst (λ w. IsBasic w j) (ch.after b h) y))
 
   -- with the induction's hypothesis at b
-  lost_by_cases : (j a b : ℕ) → a ≤ suc b → suc b ≤ suc n → IsBasic (ch.tables (suc b)) j → ¬ (IsBasic (ch.tables a) j) → (a ≤ b → IsBasic (ch.tables b) j → Leaves j) → (a ≡ suc b) ⊎ (a ≢ suc b) → IsBasic (ch.tables b) j ⊎ ¬ (IsBasic (ch.tables b) j) → Leaves j
+  lost_by_cases : (j a b : ℕ) → a ≤ suc b → suc b ≤ suc n → IsBasic (ch.tables (suc b)) j → ¬ (IsBasic (ch.tables a) j) → (a ≤ b → IsBasic (ch.tables b) j → Leaves j) → (a ≡ suc b) ⊎ (a ≢ suc b)
+      → IsBasic (ch.tables b) j ⊎ ¬ (IsBasic (ch.tables b) j) → Leaves j
   lost_by_cases j a b h l x y ih (inl e) d = absurd (y (subst (λ i. IsBasic (ch.tables i) j) (sym e) x))
   lost_by_cases j a b h l x y ih (inr e) (inl d) = ih (omega (arith, e)) d
   lost_by_cases j a b h l x y ih (inr e) (inr d) = lost_step j b (omega arith) x d
@@ -217,7 +225,8 @@ module _ (equations : List Row) (cost bound : ℕ) (t u : Table) (n : ℕ) (ch :
   lost_between j a zero h l x y = let e : zero ≡ a = omega arith in absurd (y (subst (λ i. IsBasic (ch.tables i) j) e x))
   lost_between j a (suc b) h l x y = lost_by_cases j a b h l x y (λ k d. lost_between j a b k (omega arith) d y) (cases_eq a (suc b)) (is_basic (ch.tables b) j)
 
-  gained_by_cases : (j a b : ℕ) → a ≤ suc b → suc b ≤ suc n → ¬ (IsBasic (ch.tables (suc b)) j) → IsBasic (ch.tables a) j → (a ≤ b → ¬ (IsBasic (ch.tables b) j) → Enters j) → (a ≡ suc b) ⊎ (a ≢ suc b) → IsBasic (ch.tables b) j ⊎ ¬ (IsBasic (ch.tables b) j) → Enters j
+  gained_by_cases : (j a b : ℕ) → a ≤ suc b → suc b ≤ suc n → ¬ (IsBasic (ch.tables (suc b)) j) → IsBasic (ch.tables a) j → (a ≤ b → ¬ (IsBasic (ch.tables b) j) → Enters j)
+      → (a ≡ suc b) ⊎ (a ≢ suc b) → IsBasic (ch.tables b) j ⊎ ¬ (IsBasic (ch.tables b) j) → Enters j
   gained_by_cases j a b h l x y ih (inl e) d = absurd (x (subst (λ i. IsBasic (ch.tables i) j) e y))
   gained_by_cases j a b h l x y ih (inr e) (inl d) = gained_step j b (omega arith) x d
   gained_by_cases j a b h l x y ih (inr e) (inr d) = ih (omega (arith, e)) d
@@ -229,9 +238,11 @@ module _ (equations : List Row) (cost bound : ℕ) (t u : Table) (n : ℕ) (ch :
   -- a column that enters leaves
   leaves_by : (e : ℕ) → e < suc n → IsBasic (ch.tables 0) (ch.column e) ⊎ ¬ (IsBasic (ch.tables 0) (ch.column e)) → Leaves (ch.column e)
   leaves_by e h (inl b) =
-      lost_between (ch.column e) (suc e) (suc n) (omega arith) (omega arith) ((ends_same (ch.column e)).1 b) (not_basic equations cost bound (ch.tables (suc e)) (ch.ready (suc e) h) (ch.row e) (ch.column e) (ch.next e h))
+      lost_between (ch.column e) (suc e) (suc n) (omega arith) (omega arith) ((ends_same (ch.column e)).1 b)
+      (not_basic equations cost bound (ch.tables (suc e)) (ch.ready (suc e) h) (ch.row e) (ch.column e) (ch.next e h))
   leaves_by e h (inr b) =
-      lost_between (ch.column e) 0 e (omega arith) (omega arith) (subst (λ w. IsBasic w (ch.column e)) (sym (ch.after e h)) (now_basic cost bound (ch.tables (suc e)) (ch.row e) (ch.column e) (ch.next e h) (size (suc e) h))) b
+      lost_between (ch.column e) 0 e (omega arith) (omega arith) (subst (λ w. IsBasic w (ch.column e)) (sym (ch.after e h))
+      (now_basic cost bound (ch.tables (suc e)) (ch.row e) (ch.column e) (ch.next e h) (size (suc e) h))) b
 
   -- a column that is basic at one tableau and not at another enters
   enters_by : (j a b : ℕ) → a ≤ suc n → b ≤ suc n → IsBasic (ch.tables a) j → ¬ (IsBasic (ch.tables b) j) → (a < b) ⊎ (b ≤ a) → IsBasic (ch.tables 0) j ⊎ ¬ (IsBasic (ch.tables 0) j) → Enters j
@@ -263,7 +274,8 @@ module _ (equations : List Row) (cost bound : ℕ) (t u : Table) (n : ℕ) (ch :
     none =
         let k = ch.kin (suc l) in_l in
         let k' = ch.kin (suc e) in_e in
-        clash equations cost bound (ch.tables (suc l)) (ch.tables (suc e)) (ch.ready (suc l) in_l) (ch.ready (suc e) in_e) (ch.row l) (ch.column l) (ch.column e) (ch.next l in_l) (ch.next e in_e).enters leaves
+        clash equations cost bound (ch.tables (suc l)) (ch.tables (suc e)) (ch.ready (suc l) in_l) (ch.ready (suc e) in_e) (ch.row l) (ch.column l) (ch.column e) (ch.next l in_l)
+        (ch.next e in_e).enters leaves
         (k'.rows ∙ sym k.rows)
         (λ i h m. let a = k.rows in k'.last i (omega (arith, h, a)) (omega (arith, m, a)) ∙ sym (k.last i (omega (arith, h, a)) (omega (arith, m, a))))
         s_below (still l in_l)

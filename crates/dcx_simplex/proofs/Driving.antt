@@ -41,7 +41,8 @@ v_zero k u v n e p hp h x y =
     let b = times_zero u e y in
     zero_factor p v hp (*ℤ_comm p v ∙ omega (arith, ints, a, b, h))
 
-module _ (equations : List Row) (t : Table) (i : ℕ) (u : Table) (is : IsDriven equations t i u) (in_i : i + 2 < length u.rows) (stands : u.plain ≤ basic_at u.basis i) (c : ℕ) (driver : IsDriver u i c) where
+module _ (equations : List Row) (t : Table) (i : ℕ) (u : Table) (is : IsDriven equations t i u) (in_i : i + 2 < length u.rows) (stands : u.plain ≤ basic_at u.basis i) (c : ℕ)
+    (driver : IsDriver u i c) where
   in_rows : i < length u.rows
   in_rows = omega arith
 
@@ -73,7 +74,8 @@ module _ (equations : List Row) (t : Table) (i : ℕ) (u : Table) (is : IsDriven
   feasible_by k h (inr n) =
       let s = step i c (u.columns + 3) u.basis u.rows is.tableau.form in_rows driver.some k (omega arith) n in
       subst (λ r. pos 0 ≤ℤ entry r (u.columns + 2)) (sym (new_other k (omega arith) n))
-      (stays_up s.k s.u s.v (entry (eliminated c by (row_at u.rows k)) (u.columns + 2)) (right_at u k) (entry by (u.columns + 2)) s.k_pos s.u_pos (s.entries (u.columns + 2)) by_right (is.feasible k h))
+      (stays_up s.k s.u s.v (entry (eliminated c by (row_at u.rows k)) (u.columns + 2)) (right_at u k) (entry by (u.columns + 2)) s.k_pos s.u_pos (s.entries (u.columns + 2)) by_right
+      (is.feasible k h))
 
   basics_by : (k : ℕ) → k + 2 < length u.rows → (k ≡ i) ⊎ (k ≢ i) → basic_at (after_pivot i c u).basis k < u.columns
   basics_by k h (inl e) =
@@ -95,7 +97,8 @@ module _ (equations : List Row) (t : Table) (i : ℕ) (u : Table) (is : IsDriven
   zeros_by k h n l =
       let s = step i c (u.columns + 3) u.basis u.rows is.tableau.form in_rows driver.some k (omega arith) n in
       ap (λ r. entry r (u.columns + 2)) (new_other k (omega arith) n)
-      ∙ new_zero s.k s.u s.v (entry (eliminated c by (row_at u.rows k)) (u.columns + 2)) (right_at u k) (entry by (u.columns + 2)) s.k_pos (s.entries (u.columns + 2)) (is.zeros k h l) (times_zero s.v _ by_right)
+      ∙ new_zero s.k s.u s.v (entry (eliminated c by (row_at u.rows k)) (u.columns + 2)) (right_at u k) (entry by (u.columns + 2)) s.k_pos (s.entries (u.columns + 2)) (is.zeros k h l)
+      (times_zero s.v _ by_right)
 
   idle_by : (k : ℕ) → k < i → k + 2 < length u.rows → k ≢ i → u.plain ≤ basic_at u.basis k → (j : ℕ) → j < u.plain → entry_at (after_pivot i c u) k j ≡ pos 0
   idle_by k lk h n l j lj =
@@ -122,7 +125,8 @@ module _ (equations : List Row) (t : Table) (i : ℕ) (u : Table) (is : IsDriven
         idle = λ k lk h l j lj. let n = not_i k l in let b = basic_k k n in idle_by k (omega (arith, lk, n)) (omega (arith, e, h)) n (omega (arith, b, l)) j lj;
       }
 
-idle_at : (u : Table) (i k : ℕ) → ((k : ℕ) → k < i → k + 2 < length u.rows → u.plain ≤ basic_at u.basis k → (c : ℕ) → c < u.plain → entry_at u k c ≡ pos 0) → IsLeft u i → k < i + 1 → (k ≡ i) ⊎ (k ≢ i) → k + 2 < length u.rows → u.plain ≤ basic_at u.basis k → (c : ℕ) → c < u.plain → entry_at u k c ≡ pos 0
+idle_at : (u : Table) (i k : ℕ) → ((k : ℕ) → k < i → k + 2 < length u.rows → u.plain ≤ basic_at u.basis k → (c : ℕ) → c < u.plain → entry_at u k c ≡ pos 0) → IsLeft u i → k < i + 1
+    → (k ≡ i) ⊎ (k ≢ i) → k + 2 < length u.rows → u.plain ≤ basic_at u.basis k → (c : ℕ) → c < u.plain → entry_at u k c ≡ pos 0
 idle_at u i k f (inl b) l (inl e) h s c lc = let g = ap (basic_at u.basis) e in absurd (omega (arith, g, b, s))
 idle_at u i k f (inr b) l (inl e) h s c lc = ap (λ q. entry_at u q c) e ∙ b.1 c lc
 idle_at u i k f b l (inr e) h s c lc = f k (omega (arith, e)) h s c lc
@@ -138,7 +142,8 @@ driven_left equations t i u is left = record {
   idle = λ k l h s c lc. idle_at u i k is.idle left l (cases_eq k i) h s c lc;
 }
 
-pub driven : (equations : List Row) (s : Table) (limit : ℕ) (t : Table) (n : ℕ) (i : ℕ) (u : Table) (m : ℕ) → Drives limit t n i u m → i + 2 ≤ length s.rows → IsDriven equations s 0 t → IsDriven equations s i u
+pub driven : (equations : List Row) (s : Table) (limit : ℕ) (t : Table) (n : ℕ) (i : ℕ) (u : Table) (m : ℕ) → Drives limit t n i u m → i + 2 ≤ length s.rows → IsDriven equations s 0 t
+    → IsDriven equations s i u
 driven equations s limit t n i u m Begins h is = is
 driven equations s limit t n i u m (Leaves k v l d left) h is = driven_left equations s k v (driven equations s limit t n k v l d (omega arith) is) left
 driven equations s limit t n i u m (Drives_out k v l c d stands driver below formed) h is =

@@ -84,10 +84,12 @@ module _ (equations : List Row) (t : Table) (start : IsStart equations t) where
         feasible = r.feasible;
         kin = kin_both t s.0 u b.kin k;
         ready = subst (λ i. IsReady equations i u.plain u) e (subst (λ b. IsReady equations (objective_row s.0) b u) (sym k.plain) r);
-        zeros = subst (λ b. (i : ℕ) → i + 2 < length u.rows → b ≤ basic_at u.basis i → right_at u i ≡ pos 0) (sym k.plain) (zeros_stay equations (objective_row s.0) s.0.plain limit s.0 s.1 u m b.ready s.3 b.zeros);
+        zeros = subst (λ b. (i : ℕ) → i + 2 < length u.rows → b ≤ basic_at u.basis i → right_at u i ≡ pos 0) (sym k.plain)
+            (zeros_stay equations (objective_row s.0) s.0.plain limit s.0 s.1 u m b.ready s.3 b.zeros);
       }
 
-  optimal : (limit : ℕ) (u : Table) (m : ℕ) → InSecond limit t u m phase.Done → (y : Assignment) → Solves equations y → IsPoint t y → (right_at u (objective_row t) *ℤ neg_ℤ (entry y (t.columns + 2))) ≤ℤ (lead_at u (objective_row t) *ℤ entry y t.columns)
+  optimal : (limit : ℕ) (u : Table) (m : ℕ) → InSecond limit t u m phase.Done → (y : Assignment) → Solves equations y → IsPoint t y
+      → (right_at u (objective_row t) *ℤ neg_ℤ (entry y (t.columns + 2))) ≤ℤ (lead_at u (objective_row t) *ℤ entry y t.columns)
   optimal limit u m s y h p =
       let q = second limit u m phase.Done s in
       let k = q.kin in
@@ -126,7 +128,8 @@ module _ (equations : List Row) (t : Table) (start : IsStart equations t) where
       let v = stays_kin equations (objective_row s.0) s.0.plain limit s.0 s.1 u m b.ready s.3 in
       let x = solution limit u m (phase.Unbounded c) s in
       let e : objective_row s.0 ≡ objective_row t = ap (λ l. l - 2) b.kin.rows in
-      let r = ray equations u q.tableau (length t.rows - 2) (rows_u u k) q.ready.basics (objective_u u k) (phase_u u k) q.ready.plain_below c q.ready.idle (subst (λ i. IsEntering i u c) e s.4.0) (subst (λ b. NoneLeaves b u c) (sym v.plain) s.4.1) in
+      let r = ray equations u q.tableau (length t.rows - 2) (rows_u u k) q.ready.basics (objective_u u k) (phase_u u k) q.ready.plain_below c q.ready.idle (subst (λ i. IsEntering i u c) e s.4.0)
+      (subst (λ b. NoneLeaves b u c) (sym v.plain) s.4.1) in
       ((x.0, x.1, x.2), (r.0, r.1, ray_t u k r.0 r.2))
 
 module _ (equations : List Row) (t : Table) (start : IsStart equations t) where
@@ -136,7 +139,8 @@ module _ (equations : List Row) (t : Table) (start : IsStart equations t) where
   second_feasible : (limit : ℕ) (u : Table) (n : ℕ) (e : PhaseEnd) → InSecond limit t u n e → IsOf equations u × IsFeasible u
   second_feasible limit u n e s = let q = second equations t start limit u n e s in (q.tableau, q.feasible)
 
-  drive_feasible : (limit n m i : ℕ) (v u : Table) → InFirst limit t v m phase.Done → right_at v (phase_row t) ≤ℤ pos 0 → Drives limit v m i u n → i + 2 < length u.rows → IsOf equations u × IsFeasible u
+  drive_feasible : (limit n m i : ℕ) (v u : Table) → InFirst limit t v m phase.Done → right_at v (phase_row t) ≤ℤ pos 0 → Drives limit v m i u n → i + 2 < length u.rows
+      → IsOf equations u × IsFeasible u
   drive_feasible limit n m i v u f low d h =
       let k = (kin_first equations t start limit m v phase.Done f).rows in
       let e = drive_rows limit v m i u n d in

@@ -90,7 +90,8 @@ module _ (p : Program) (u : Table) where
       let r = e.kin.rows in
       not_basic_of (first_tableau p).rows (first_tableau p) start u e (objective_row u) c (omega (arith, g, r)) (omega (arith, g, r)) (enters_unbounded limit n c run).eligible
 
-  pub right_unbounded : (limit n c : ℕ) → RunEnds limit (first_tableau p) u (lp.Unbounded n c) → (a : LpAnswer) → IsReading p.rows p.columns u status.Unbounded a → IsRayReading p.columns u c a → IsUnboundedAnswer p a
+  pub right_unbounded : (limit n c : ℕ) → RunEnds limit (first_tableau p) u (lp.Unbounded n c) → (a : LpAnswer) → IsReading p.rows p.columns u status.Unbounded a → IsRayReading p.columns u c a
+      → IsUnboundedAnswer p a
   right_unbounded limit n c run a reading ray =
       let s = in_second limit n c run in
       let e = ended_second (first_tableau p).rows (first_tableau p) start limit u n (phase.Unbounded c) s in

@@ -35,7 +35,8 @@ zero_right : (a x : ℚ) → x ≡ whole (pos 0) → a *ℚ x ≡ whole (pos 0)
 zero_right a x e = rw e (*ℚ-zero a)
 
 -- only one column counts
-pub dot_one : (row : Row) (xs : List ℚ) (b : ℕ) → b < length row → ((j : ℕ) → j < length row → j ≢ b → (entry row j ≡ pos 0) ⊎ (rat_at xs j ≡ whole (pos 0))) → rat_dot (wholes row) xs ≡ whole (entry row b) *ℚ rat_at xs b
+pub dot_one : (row : Row) (xs : List ℚ) (b : ℕ) → b < length row → ((j : ℕ) → j < length row → j ≢ b → (entry row j ≡ pos 0) ⊎ (rat_at xs j ≡ whole (pos 0)))
+    → rat_dot (wholes row) xs ≡ whole (entry row b) *ℚ rat_at xs b
 dot_one row xs b h z = dot_sum row xs (length row) (omega arith) ∙ rat_sum_below-one (length row) b _ h (λ j l n. by j (z j l n))
   where
     by : (j : ℕ) → (entry row j ≡ pos 0) ⊎ (rat_at xs j ≡ whole (pos 0)) → whole (entry row j) *ℚ rat_at xs j ≡ whole (pos 0)
@@ -51,7 +52,8 @@ dot_none row xs z = dot_sum row xs (length row) (omega arith) ∙ rat_sum_below-
     by j (inr e) = zero_right _ _ e
 
 -- two do
-pub dot_two : (row : Row) (xs : List ℚ) (b c : ℕ) → b < length row → c < length row → b ≢ c → ((j : ℕ) → j < length row → j ≢ b → j ≢ c → (entry row j ≡ pos 0) ⊎ (rat_at xs j ≡ whole (pos 0))) → rat_dot (wholes row) xs ≡ whole (entry row b) *ℚ rat_at xs b +ℚ whole (entry row c) *ℚ rat_at xs c
+pub dot_two : (row : Row) (xs : List ℚ) (b c : ℕ) → b < length row → c < length row → b ≢ c → ((j : ℕ) → j < length row → j ≢ b → j ≢ c → (entry row j ≡ pos 0) ⊎ (rat_at xs j ≡ whole (pos 0)))
+    → rat_dot (wholes row) xs ≡ whole (entry row b) *ℚ rat_at xs b +ℚ whole (entry row c) *ℚ rat_at xs c
 dot_two row xs b c h k a z = dot_sum row xs (length row) (omega arith) ∙ sum_two (length row) b c _ h k a (λ j l n m. by j (z j l n m))
   where
     by : (j : ℕ) → (entry row j ≡ pos 0) ⊎ (rat_at xs j ≡ whole (pos 0)) → whole (entry row j) *ℚ rat_at xs j ≡ whole (pos 0)
@@ -99,7 +101,8 @@ no_right : (d r : ℚ) → d ≡ whole (pos 0) → d +ℚ r *ℚ whole (pos 0) �
 no_right d r e = ap (λ x. x +ℚ r *ℚ whole (pos 0)) e ∙ ring (r ∷ []) (search reads depth 30) tt
 
 cost_turned : (d a l r : ℚ) → d ≡ a → l *ℚ (a /ℚ l) ≡ a → (d +ℚ l *ℚ neg_ℚ (a /ℚ l)) +ℚ r *ℚ whole (pos 0) ≡ whole (pos 0)
-cost_turned d a l r e f = ap (λ x. (x +ℚ l *ℚ neg_ℚ (a /ℚ l)) +ℚ r *ℚ whole (pos 0)) e ∙ ring (a ∷ l ∷ a /ℚ l ∷ r ∷ []) (search reads depth 30) tt ∙ ap (λ x. a +ℚ neg_ℚ x) f ∙ ring (a ∷ []) (search reads depth 30) tt
+cost_turned d a l r e f = ap (λ x. (x +ℚ l *ℚ neg_ℚ (a /ℚ l)) +ℚ r *ℚ whole (pos 0)) e ∙ ring (a ∷ l ∷ a /ℚ l ∷ r ∷ []) (search reads depth 30) tt ∙ ap (λ x. a +ℚ neg_ℚ x) f
+    ∙ ring (a ∷ []) (search reads depth 30) tt
 
 -- ---- the rows of the last tableau at full assignments
 last_row : (d a z b w c v : ℚ) → a ≡ whole (pos 0) → b ≡ whole (pos 0) → ((d +ℚ a *ℚ z) +ℚ b *ℚ w) +ℚ c *ℚ v ≡ d +ℚ c *ℚ v
@@ -136,14 +139,16 @@ module _ (equations : List Row) (t : Table) (start : IsStart equations t) (u : T
         dot_full (row_at u.rows i) xs z w v u.columns count
         ∙ last_row _ _ z _ w _ v (ap whole (z_zero i (omega (arith, h)) (λ e. absurd (omega (arith, e, h))))) (ap whole (w_zero i (omega (arith, h)) (λ e. absurd (omega (arith, e, h)))))
 
-    pub at_cost_of : rat_dot (wholes (row_at u.rows (objective_row u))) (full xs z w v) ≡ (rat_dot (wholes (row_at u.rows (objective_row u))) xs +ℚ whole (lead_at u (objective_row u)) *ℚ z) +ℚ whole (right_at u (objective_row u)) *ℚ v
+    pub at_cost_of : rat_dot (wholes (row_at u.rows (objective_row u))) (full xs z w v)
+        ≡ (rat_dot (wholes (row_at u.rows (objective_row u))) xs +ℚ whole (lead_at u (objective_row u)) *ℚ z) +ℚ whole (right_at u (objective_row u)) *ℚ v
     at_cost_of =
         let e = enough in
         dot_full (row_at u.rows (objective_row u)) xs z w v u.columns count
         ∙ last_cost _ _ z _ w _ v (ap whole (w_zero (objective_row u) (omega (arith, e)) (λ q. absurd (omega (arith, e, q)))))
         ∙ ap (λ j. (rat_dot (wholes (row_at u.rows (objective_row u))) xs +ℚ whole (entry_at u (objective_row u) j) *ℚ z) +ℚ whole (right_at u (objective_row u)) *ℚ v) (sym is_readable.objective)
 
-    pub at_phase_of : rat_dot (wholes (row_at u.rows (phase_row u))) (full xs z w v) ≡ (rat_dot (wholes (row_at u.rows (phase_row u))) xs +ℚ whole (lead_at u (phase_row u)) *ℚ w) +ℚ whole (right_at u (phase_row u)) *ℚ v
+    pub at_phase_of : rat_dot (wholes (row_at u.rows (phase_row u))) (full xs z w v)
+        ≡ (rat_dot (wholes (row_at u.rows (phase_row u))) xs +ℚ whole (lead_at u (phase_row u)) *ℚ w) +ℚ whole (right_at u (phase_row u)) *ℚ v
     at_phase_of =
         let e = enough in
         dot_full (row_at u.rows (phase_row u)) xs z w v u.columns count
@@ -209,7 +214,9 @@ module _ (equations : List Row) (t : Table) (start : IsStart equations t) (u : T
     high_by : (j : ℕ) → j < u.columns → IsBasic u j ⊎ ¬ (IsBasic u j) → whole (pos 0) ≤ℚ rat_at xs j
     high_by j h (inl b) =
         let g = b.1 in
-        subst (λ x. whole (pos 0) ≤ℚ x) (sym ((columns j h).basic b.0 g b.2)) (subst (λ k. whole (pos 0) ≤ℚ (whole (right_at u b.0) /ℚ whole (entry_at u b.0 k))) b.2 (quotient_high (right_at u b.0) (entry_at u b.0 (basic_at u.basis b.0)) (end.feasible b.0 g) (is_readable.positive b.0 g)))
+        subst (λ x. whole (pos 0) ≤ℚ x) (sym ((columns j h).basic b.0 g b.2))
+        (subst (λ k. whole (pos 0) ≤ℚ (whole (right_at u b.0) /ℚ whole (entry_at u b.0 k))) b.2
+        (quotient_high (right_at u b.0) (entry_at u b.0 (basic_at u.basis b.0)) (end.feasible b.0 g) (is_readable.positive b.0 g)))
     high_by j h (inr n) = ≤ℚ-from_≡ (sym ((columns j h).other n))
 
     pub numbers_high : (j : ℕ) → j < u.columns → whole (pos 0) ≤ℚ rat_at xs j
@@ -242,7 +249,8 @@ module _ (equations : List Row) (t : Table) (start : IsStart equations t) (u : T
         let b = basic_at u.basis i in
         let l = end.basics i h in
         let w = width_at i (omega (arith, h)) in
-        dot_two (row_at u.rows i) rs b c (omega (arith, w, l)) (omega (arith, w, in_c)) (λ e. enters (i, h, e)) (λ j q n m. change_zero_by i j h n (change_or j m (cases_lt j u.columns) (is_basic u j)))
+        dot_two (row_at u.rows i) rs b c (omega (arith, w, l)) (omega (arith, w, in_c)) (λ e. enters (i, h, e))
+        (λ j q n m. change_zero_by i j h n (change_or j m (cases_lt j u.columns) (is_basic u j)))
         ∙ ap (λ x. whole (entry_at u i b) *ℚ x +ℚ whole (entry_at u i c) *ℚ rat_at rs c) ((columns b l).basic i h refl)
         ∙ pair_cancels (whole (entry_at u i c)) (whole (entry_at u i b)) (rat_at rs c) (back (entry_at u i c) (entry_at u i b) (is_readable.positive i h)) ((columns c in_c).own refl)
 
@@ -252,7 +260,8 @@ module _ (equations : List Row) (t : Table) (start : IsStart equations t) (u : T
         dot_one (row_at u.rows k) rs c (omega (arith, w, in_c)) (λ j q m. change_cost_by k j h l (change_or j m (cases_lt j u.columns) (is_basic u j)))
         ∙ ap (λ x. whole (entry_at u k c) *ℚ x) ((columns c in_c).own refl) ∙ *ℚ_idr (whole (entry_at u k c))
 
-    pub changes_solve : SolvesRational u.rows (full rs (neg_ℚ (whole (entry_at u (objective_row u) c) /ℚ whole (lead_at u (objective_row u)))) (neg_ℚ (whole (entry_at u (phase_row u) c) /ℚ whole (lead_at u (phase_row u)))) (whole (pos 0)))
+    pub changes_solve : SolvesRational u.rows (full rs (neg_ℚ (whole (entry_at u (objective_row u) c) /ℚ whole (lead_at u (objective_row u))))
+        (neg_ℚ (whole (entry_at u (phase_row u) c) /ℚ whole (lead_at u (phase_row u)))) (whole (pos 0)))
     changes_solve =
         let e = enough in
         solves_last rs _ _ (whole (pos 0)) count
@@ -265,14 +274,16 @@ module _ (equations : List Row) (t : Table) (start : IsStart equations t) (u : T
     changes_high_by low j h (inr m) (inl b) =
         let g = b.1 in
         subst (λ x. whole (pos 0) ≤ℚ x) (sym ((columns j h).basic b.0 g b.2))
-        (subst (λ k. whole (pos 0) ≤ℚ neg_ℚ (whole (entry_at u b.0 c) /ℚ whole (entry_at u b.0 k))) b.2 (negative_high _ (quotient_low (entry_at u b.0 c) (entry_at u b.0 (basic_at u.basis b.0)) (low b.0 g) (is_readable.positive b.0 g))))
+        (subst (λ k. whole (pos 0) ≤ℚ neg_ℚ (whole (entry_at u b.0 c) /ℚ whole (entry_at u b.0 k))) b.2
+        (negative_high _ (quotient_low (entry_at u b.0 c) (entry_at u b.0 (basic_at u.basis b.0)) (low b.0 g) (is_readable.positive b.0 g))))
     changes_high_by low j h (inr m) (inr n) = ≤ℚ-from_≡ (sym ((columns j h).other n m))
 
     -- no basic column falls where no row may leave
     pub changes_high : ((i : ℕ) → i + 2 < length u.rows → entry_at u i c ≤ℤ pos 0) → (j : ℕ) → j < u.columns → whole (pos 0) ≤ℚ rat_at rs j
     changes_high low j h = changes_high_by low j h (cases_eq j c) (is_basic u j)
 
-    changes_none_by : (j : ℕ) → j < u.columns → j ≢ c → IsBasic u j ⊎ ¬ (IsBasic u j) → ((k : ℕ) → k + 2 < length u.rows → basic_at u.basis k ≡ j → entry_at u k c ≡ pos 0) → rat_at rs j ≡ whole (pos 0)
+    changes_none_by : (j : ℕ) → j < u.columns → j ≢ c → IsBasic u j ⊎ ¬ (IsBasic u j) → ((k : ℕ) → k + 2 < length u.rows → basic_at u.basis k ≡ j → entry_at u k c ≡ pos 0)
+        → rat_at rs j ≡ whole (pos 0)
     changes_none_by j h m (inl b) z = (columns j h).basic b.0 b.1 b.2 ∙ ap neg_ℚ (quotient_zero (entry_at u b.0 c) (entry_at u b.0 j) (z b.0 b.1 b.2)) ∙ neg_ℚ-zero
     changes_none_by j h m (inr n) z = (columns j h).other n m
 

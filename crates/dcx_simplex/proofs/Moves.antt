@@ -193,7 +193,8 @@ module _ (equations : List Row) (cost bound : ℕ) (t : Table) (ready : IsReady 
   zero_before i h z w = zero_before_by i h z (cases_eq i r) w
 
   -- rows that never leave keep right side 0
-  stays_by : (i : ℕ) → i + 2 < length t.rows → bound ≤ basic_at (after_pivot r c t).basis i → ((k : ℕ) → k + 2 < length t.rows → bound ≤ basic_at t.basis k → right_at t k ≡ pos 0) → (i ≡ r) ⊎ (i ≢ r) → right_at (after_pivot r c t) i ≡ pos 0
+  stays_by : (i : ℕ) → i + 2 < length t.rows → bound ≤ basic_at (after_pivot r c t).basis i → ((k : ℕ) → k + 2 < length t.rows → bound ≤ basic_at t.basis k → right_at t k ≡ pos 0)
+      → (i ≡ r) ⊎ (i ≢ r) → right_at (after_pivot r c t) i ≡ pos 0
   stays_by i h b z (inl e) =
       let s = basic_same equations t ready.tableau r c in_r positive in
       let f = ap (basic_at (after_pivot r c t).basis) e in
@@ -207,5 +208,6 @@ module _ (equations : List Row) (cost bound : ℕ) (t : Table) (ready : IsReady 
       let v0 = zero_v m.u (entry_at t i c) m.v (entry_at t r c) positive m.cross (ready.idle i h b' c next.enters.column) in
       new_zero m.k m.u m.v (right_at (after_pivot r c t) i) (right_at t i) (right_at t r) m.k_pos (m.entries (t.columns + 2)) (z i h b') (zero_times m.v (right_at t r) v0)
 
-  pub zeros_next : ((k : ℕ) → k + 2 < length t.rows → bound ≤ basic_at t.basis k → right_at t k ≡ pos 0) → (k : ℕ) → k + 2 < length (after_pivot r c t).rows → bound ≤ basic_at (after_pivot r c t).basis k → right_at (after_pivot r c t) k ≡ pos 0
+  pub zeros_next : ((k : ℕ) → k + 2 < length t.rows → bound ≤ basic_at t.basis k → right_at t k ≡ pos 0) → (k : ℕ) → k + 2 < length (after_pivot r c t).rows
+      → bound ≤ basic_at (after_pivot r c t).basis k → right_at (after_pivot r c t) k ≡ pos 0
   zeros_next z k h b = stays_by k (omega (arith, length-after r c t, h)) b z (cases_eq k r)

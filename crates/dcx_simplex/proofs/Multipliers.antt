@@ -26,7 +26,8 @@ cancel : (a b f : ℚ) → f ≢ whole (pos 0) → (a *ℚ f) *ℚ (b /ℚ f) �
 cancel a b f n = ring (a ∷ f ∷ b /ℚ f ∷ []) (search reads depth 30) tt ∙ ap (λ u. a *ℚ u) (/ℚ-*ℚ b f n)
 
 -- ---- one row: q is its own column's rate, e its sum and b its right side
-product_by : (negated inequality : Bool) (q off e b f : ℚ) (s : ℤ) → f ≢ whole (pos 0) → (inequality ≡ true → s ≡ (if negated then negsuc 0 else pos 1)) → (inequality ≡ true → off ≡ whole (pos 0)) → (inequality ≡ false → s ≡ pos 1)
+product_by : (negated inequality : Bool) (q off e b f : ℚ) (s : ℤ) → f ≢ whole (pos 0) → (inequality ≡ true → s ≡ (if negated then negsuc 0 else pos 1)) → (inequality ≡ true → off ≡ whole (pos 0))
+    → (inequality ≡ false → s ≡ pos 1)
     → turned_if (not inequality && negated) ((neg_ℚ q -ℚ off) *ℚ f) *ℚ (turned_if negated (e -ℚ b) /ℚ f) ≡ (whole s *ℚ (b -ℚ e)) *ℚ q +ℚ (whole s *ℚ (b -ℚ e)) *ℚ off
 product_by true true q off e b f s n hs ho ha = cancel (neg_ℚ q -ℚ off) (neg_ℚ (e -ℚ b)) f n ∙ rw (hs refl, ho refl) (ring (q ∷ e ∷ b ∷ []) (search reads depth 30) tt)
 product_by false true q off e b f s n hs ho ha = cancel (neg_ℚ q -ℚ off) (e -ℚ b) f n ∙ rw (hs refl, ho refl) (ring (q ∷ e ∷ b ∷ []) (search reads depth 30) tt)
@@ -58,18 +59,21 @@ module _ (p : Program) where
   factor_some i h e = <ℚ-≢ (factor_positive i h) (sym e)
 
   module _ (ys : List ℚ) (assigned : IsAssignment p ys) (a : LpAnswer) (row : Row) (lead : ℤ) (notes : HasNotes p a row lead (own_column p)) where
-    sign_of : (i : ℕ) → i < length p.rows → is_inequality p.columns i ≡ true → (o : Own p.columns i) → ((kind_at p.columns o.column ≡ Slack i) × (is_inequality p.columns i ≡ true)) ⊎ ((kind_at p.columns o.column ≡ Artificial i) × (is_inequality p.columns i ≡ false))
+    sign_of : (i : ℕ) → i < length p.rows → is_inequality p.columns i ≡ true → (o : Own p.columns i)
+        → ((kind_at p.columns o.column ≡ Slack i) × (is_inequality p.columns i ≡ true)) ⊎ ((kind_at p.columns o.column ≡ Artificial i) × (is_inequality p.columns i ≡ false))
         → entry (entries_at p.rows i) o.column ≡ (if is_negated_at p.rows i then negsuc 0 else pos 1)
     sign_of i h t o (inl k) = sign_slack p i h o k.0
     sign_of i h t o (inr k) = let e = sym t ∙ k.1 in cc
 
-    one_of : (i : ℕ) → i < length p.rows → is_inequality p.columns i ≡ false → (o : Own p.columns i) → ((kind_at p.columns o.column ≡ Slack i) × (is_inequality p.columns i ≡ true)) ⊎ ((kind_at p.columns o.column ≡ Artificial i) × (is_inequality p.columns i ≡ false))
+    one_of : (i : ℕ) → i < length p.rows → is_inequality p.columns i ≡ false → (o : Own p.columns i)
+        → ((kind_at p.columns o.column ≡ Slack i) × (is_inequality p.columns i ≡ true)) ⊎ ((kind_at p.columns o.column ≡ Artificial i) × (is_inequality p.columns i ≡ false))
         → entry (entries_at p.rows i) o.column ≡ pos 1
     one_of i h t o (inl k) = let e = sym t ∙ k.1 in cc
     one_of i h t o (inr k) = sign_artificial p i h o k.0
 
     product_is : (i : ℕ) → i < length p.rows
-        → multiplier_at p.columns a i *ℚ form_at p i ys ≡ short p ys assigned i *ℚ (whole (entry row (own_column p i)) /ℚ whole lead) +ℚ short p ys assigned i *ℚ offset a.status (is_inequality p.columns i)
+        → multiplier_at p.columns a i *ℚ form_at p i ys ≡ short p ys assigned i *ℚ (whole (entry row (own_column p i)) /ℚ whole lead)
+        +ℚ short p ys assigned i *ℚ offset a.status (is_inequality p.columns i)
     unfolding short
     product_is i h =
         let o = own_column_is p i h in
@@ -88,5 +92,6 @@ module _ (p : Program) where
         (λ t. ap (entry (entries_at p.rows i)) o.1 ∙ one_of i h t o.0 o.0.kind)
 
     -- the rows together
-    pub combined_is : combined_rows p a ys ≡ rat_sum_below (length p.rows) (λ k. short p ys assigned k *ℚ (whole (entry row (own_column p k)) /ℚ whole lead)) +ℚ rat_sum_below (length p.rows) (λ k. short p ys assigned k *ℚ offset a.status (is_inequality p.columns k))
+    pub combined_is : combined_rows p a ys ≡ rat_sum_below (length p.rows) (λ k. short p ys assigned k *ℚ (whole (entry row (own_column p k)) /ℚ whole lead))
+        +ℚ rat_sum_below (length p.rows) (λ k. short p ys assigned k *ℚ offset a.status (is_inequality p.columns k))
     combined_is = rat_sum_below-same (length p.rows) _ _ product_is ∙ rat_sum_below-+ℚ (length p.rows) _ _

@@ -1,4 +1,4 @@
--- Facts on integers.
+-- Facts on integers: the objective after a pivot, quotients in order, and the terms of a ray.
 use Rattle.std.proofs.Common.{◌≡◌, ℤ, pos, ◌-ℤ◌, ◌*ℤ◌, neg_ℤ, ◌<ℤ◌, ◌≤ℤ◌, arith, refl, ap, ◌∙◌}
 use Rattle.std.proofs.lemmas.Int.{ints, by_lt_z}
 use Rattle.dcx_math.specs.Integers.{ring, *ℤ-≤ℤ, *ℤ-≤ℤ_cancel, *ℤ-nonnegative, *ℤ-positive, *ℤ_cancel, *ℤ_comm}

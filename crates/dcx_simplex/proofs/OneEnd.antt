@@ -163,7 +163,8 @@ module _ (equations : List Row) (cost bound limit : ℕ) (t : Table) (n : ℕ) (
       let q = same_lead u v m k l g c in
       record { table = q; count = c; end = end_one u m e f (is_at u m l) x (subst (λ w. Ends cost bound limit w m f) (sym q) (subst (λ i. Ends cost bound limit v i f) (sym c) y)) }
 
-  pub phase_one : (u v : Table) (m k : ℕ) (e f : PhaseEnd) → Leads cost bound limit t n u m → Ends cost bound limit u m e → Leads cost bound limit t n v k → Ends cost bound limit v k f → SameEnd u v m k e f
+  pub phase_one : (u v : Table) (m k : ℕ) (e f : PhaseEnd) → Leads cost bound limit t n u m → Ends cost bound limit u m e → Leads cost bound limit t n v k → Ends cost bound limit v k f
+      → SameEnd u v m k e f
   phase_one u v m k e f l x g y = phase_by u v m k e f l x g y (cases_lt m k) (cases_lt k m)
 
 -- ---- driving out
@@ -234,7 +235,8 @@ module _ (limit : ℕ) (t : Table) (n : ℕ) where
     driver : IsDriver u i column
     why : (limit ≤ m) ⊎ (¬ (AllFormed i column u.rows))
 
-  no_step : (i : ℕ) (u : Table) (m : ℕ) (s : StopsAt i u m) → IsLeft u i ⊎ ((c : ℕ) × (u.plain ≤ basic_at u.basis i) × IsDriver u i c × (m < limit) × AllFormed i c u.rows) → (limit ≤ m) ⊎ (¬ (AllFormed i s.column u.rows)) → ⊥
+  no_step : (i : ℕ) (u : Table) (m : ℕ) (s : StopsAt i u m) → IsLeft u i ⊎ ((c : ℕ) × (u.plain ≤ basic_at u.basis i) × IsDriver u i c × (m < limit) × AllFormed i c u.rows)
+      → (limit ≤ m) ⊎ (¬ (AllFormed i s.column u.rows)) → ⊥
   no_step i u m s (inl l) w = left_or_driven u i s.column l s.basic s.driver
   no_step i u m s (inr x) (inl w) = let h = x.3 in absurd (omega (arith, h, w))
   no_step i u m s (inr x) (inr w) = w (subst (λ c. AllFormed i c u.rows) (driver_one u i x.0 s.column x.2 s.driver) x.4)
@@ -391,7 +393,8 @@ module _ (equations : List Row) (limit : ℕ) (t : Table) (start : IsStart equat
       let q = phase_one equations (objective_row x.0) x.0.plain limit x.0 x.1 b.ready u v m k e f x.3 x.4 z.0 z.1 in
       (q.table, q.count, q.end)
 
-  end_by : (u v : Table) (e f : LpEnd) → FirstStop limit t u e ⊎ DriveStop limit t u e ⊎ SecondStop limit t u e → FirstStop limit t v f ⊎ DriveStop limit t v f ⊎ SecondStop limit t v f → (u ≡ v) × (e ≡ f)
+  end_by : (u v : Table) (e f : LpEnd) → FirstStop limit t u e ⊎ DriveStop limit t u e ⊎ SecondStop limit t u e → FirstStop limit t v f ⊎ DriveStop limit t v f ⊎ SecondStop limit t v f
+      → (u ≡ v) × (e ≡ f)
   end_by u v e f (inl x) (inl y) =
       let s = first_one u v x.count y.count x.why y.why x.run y.run in
       (s.table, x.is ∙ ap₂ first_end s.count s.end ∙ sym y.is)

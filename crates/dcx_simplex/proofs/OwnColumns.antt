@@ -38,7 +38,8 @@ module _ (p : Program) where
   pub own_column_low : (i : ℕ) → i < length p.rows → own_column i < length p.columns
   own_column_low i h = let o = own_column_is i h in let l = own_low p.columns i o.0.column o.0.own in let e = o.1 in omega (arith, l, e)
 
-  sign_by : (i : ℕ) → i < length p.rows → (o : Own p.columns i) → ((kind_at p.columns o.column ≡ Slack i) × (is_inequality p.columns i ≡ true)) ⊎ ((kind_at p.columns o.column ≡ Artificial i) × (is_inequality p.columns i ≡ false))
+  sign_by : (i : ℕ) → i < length p.rows → (o : Own p.columns i) → ((kind_at p.columns o.column ≡ Slack i) × (is_inequality p.columns i ≡ true))
+      ⊎ ((kind_at p.columns o.column ≡ Artificial i) × (is_inequality p.columns i ≡ false))
       → (entry (entries_at p.rows i) o.column ≡ pos 1) ⊎ (entry (entries_at p.rows i) o.column ≡ negsuc 0)
   sign_by i h o (inl k) = one_or (is_negated_at p.rows i) (entry (entries_at p.rows i) o.column) (sign_slack p i h o k.0)
   sign_by i h o (inr k) = inl (sign_artificial p i h o k.0)

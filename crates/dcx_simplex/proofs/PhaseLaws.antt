@@ -11,7 +11,8 @@ use Rattle.dcx_simplex.proofs.Chains.{Chain, chain_of, IsKin}
 use Rattle.dcx_simplex.proofs.Cycle.{no_cycle}
 use Rattle.dcx_simplex.proofs.Count.{shorter}
 
-pub stays_ready : (equations : List Row) (cost bound limit : ℕ) (t : Table) (n : ℕ) (u : Table) (m : ℕ) → IsReady equations cost bound t → Leads cost bound limit t n u m → IsReady equations cost bound u
+pub stays_ready : (equations : List Row) (cost bound limit : ℕ) (t : Table) (n : ℕ) (u : Table) (m : ℕ) → IsReady equations cost bound t → Leads cost bound limit t n u m
+    → IsReady equations cost bound u
 stays_ready equations cost bound limit t n u m ready leads =
     let f = chain_of equations cost bound limit t n u m leads ready in
     subst (IsReady equations cost bound) f.chain.final (f.chain.ready 0 (omega arith))
@@ -29,7 +30,8 @@ never_rises equations cost bound limit t n u m ready leads =
 not_strict : (a b c d : ℤ) → (a *ℤ b) <ℤ (c *ℤ d) → a *ℤ b ≡ c *ℤ d → ⊥
 not_strict a b c d h e = absurd (omega (arith, ints, h, e))
 
-pub same_value : (equations : List Row) (cost bound : ℕ) (t : Table) (r c : ℕ) → IsReady equations cost bound t → IsNext cost bound t r c → HasSameValue cost (after_pivot r c t) t → right_at t r ≡ pos 0
+pub same_value : (equations : List Row) (cost bound : ℕ) (t : Table) (r c : ℕ) → IsReady equations cost bound t → IsNext cost bound t r c → HasSameValue cost (after_pivot r c t) t
+    → right_at t r ≡ pos 0
 same_value equations cost bound t r c ready next same =
     let f = ready.feasible r next.leaves.may.row in
     by_lt_z (pos 0) (right_at t r)
@@ -40,7 +42,8 @@ no_cycle_of : (equations : List Row) (cost bound : ℕ) (t u : Table) (count : �
 no_cycle_of equations cost bound t u zero h ch same = absurd (omega arith)
 no_cycle_of equations cost bound t u (suc n) h ch same = no_cycle equations cost bound t u n ch same
 
-pub never_repeats : (equations : List Row) (cost bound limit : ℕ) (t : Table) (n : ℕ) (u : Table) (m : ℕ) → IsReady equations cost bound t → Leads cost bound limit t n u m → n < m → ¬ (HasSameColumns t u)
+pub never_repeats : (equations : List Row) (cost bound limit : ℕ) (t : Table) (n : ℕ) (u : Table) (m : ℕ) → IsReady equations cost bound t → Leads cost bound limit t n u m → n < m
+    → ¬ (HasSameColumns t u)
 never_repeats equations cost bound limit t n u m ready leads some same =
     let f = chain_of equations cost bound limit t n u m leads ready in
     no_cycle_of equations cost bound t u f.count (let e = f.counts in omega arith) f.chain same
@@ -49,7 +52,8 @@ columns_of_list : (t u : Table) → length u.rows ≡ length t.rows → t.basis 
 columns_of_list t u e f j =
     (λ b. (b.0, (let h = b.1 in omega (arith, e, h)), ap (λ l. basic_at l b.0) (sym f) ∙ b.2), λ b. (b.0, (let h = b.1 in omega (arith, e, h)), ap (λ l. basic_at l b.0) f ∙ b.2))
 
-pub never_repeats_list : (equations : List Row) (cost bound limit : ℕ) (t : Table) (n : ℕ) (u : Table) (m : ℕ) → IsReady equations cost bound t → Leads cost bound limit t n u m → n < m → t.basis ≢ u.basis
+pub never_repeats_list : (equations : List Row) (cost bound limit : ℕ) (t : Table) (n : ℕ) (u : Table) (m : ℕ) → IsReady equations cost bound t → Leads cost bound limit t n u m → n < m
+    → t.basis ≢ u.basis
 never_repeats_list equations cost bound limit t n u m ready leads some same =
     let k = stays_kin equations cost bound limit t n u m ready leads in
     never_repeats equations cost bound limit t n u m ready leads some (columns_of_list t u k.rows same)

@@ -1,5 +1,6 @@
 -- What the lists are that are filled while an end is read.
-use Rattle.std.proofs.Common.{◌≡◌, ◌≢◌, ℕ, zero, suc, ◌+◌, ◌<◌, List, [], ◌∷◌, ◌++◌, length, set, get_or, map, take, ap₂, Bool, true, false, not, nat_eq, arith, refl, sym, ap, ◌∙◌, subst, pos, Result, Ok, Err, IfOk}
+use Rattle.std.proofs.Common.{◌≡◌, ◌≢◌, ℕ, zero, suc, ◌+◌, ◌<◌, List, [], ◌∷◌, ◌++◌, length, set, get_or, map, take, ap₂, Bool, true}
+use Rattle.std.proofs.Common.{false, not, nat_eq, arith, refl, sym, ap, ◌∙◌, subst, pos, Result, Ok, Err, IfOk}
 use Rattle.std.specs.Prelude.{◌&&◌}
 use Rattle.std.proofs.lemmas.Bool.{eqb-true}
 use Rattle.std.proofs.lemmas.List.{get_or_append_left, get_or_at, get_or-map, map-append, take_more, length-map}
@@ -36,7 +37,8 @@ module _ (t : Table) (xs : List Frac) where
       → ((i : ℕ) → i + 2 < length t.rows → rat_at (numbers xs) (basic_at t.basis i) ≡ turned_if false (whole (entry_at t i (right + 2)) /ℚ whole (entry_at t i (basic_at t.basis i))))
       → ((j : ℕ) → ¬ (IsBasic t j) → rat_at (numbers xs) j ≡ whole (pos 0)) → (j : ℕ) → IsColumnNumber t j (rat_at (numbers xs) j)
   numbers_are right e basic other j = record {
-    basic = λ i h b. subst (λ k. rat_at (numbers xs) k ≡ whole (right_at t i) /ℚ whole (entry_at t i k)) b (subst (λ r. rat_at (numbers xs) (basic_at t.basis i) ≡ whole (entry_at t i (r + 2)) /ℚ whole (entry_at t i (basic_at t.basis i))) e (basic i h));
+    basic = λ i h b. subst (λ k. rat_at (numbers xs) k ≡ whole (right_at t i) /ℚ whole (entry_at t i k)) b
+        (subst (λ r. rat_at (numbers xs) (basic_at t.basis i) ≡ whole (entry_at t i (r + 2)) /ℚ whole (entry_at t i (basic_at t.basis i))) e (basic i h));
     other = λ n. other j n;
   }
 
@@ -54,7 +56,8 @@ pub both_true : (a b : Bool) → a && b ≡ true → a ≡ true
 both_true true b h = refl
 both_true false b h = cc
 
-pub starts_by : (kinds : List ColumnKind) (i j : ℕ) (negated : Bool) (k : ColumnKind) → kind_at kinds j ≡ k → may_start i negated k ≡ true → ¬ (kind_at kinds j ≡ Slack i) → kind_at kinds j ≡ Artificial i
+pub starts_by : (kinds : List ColumnKind) (i j : ℕ) (negated : Bool) (k : ColumnKind) → kind_at kinds j ≡ k → may_start i negated k ≡ true → ¬ (kind_at kinds j ≡ Slack i)
+    → kind_at kinds j ≡ Artificial i
 starts_by kinds i j negated (Unknown u n) e h none = cc
 starts_by kinds i j negated (Slack r) e h none = absurd (none (e ∙ ap Slack (eqb-true r i (both_true (nat_eq r i) (not negated) h))))
 starts_by kinds i j negated (Artificial r) e h none = e ∙ ap Artificial (eqb-true r i h)
@@ -85,7 +88,8 @@ pub rat_at-more : (xs : List ℚ) (y : ℚ) (i : ℕ) (f : ℕ → ℚ) → leng
 rat_at-more xs y i f e h last = below_more (λ k. rat_at (xs ++ y ∷ []) k ≡ f k) i (λ k l. rat_at-front xs (y ∷ []) k (omega arith) ∙ h k l) (rat_at-last xs y i e ∙ last)
 
 -- a list that is built along another
-pub along_more : {A B C : Type 0} (f : A → C) (g : B → C) (xs : List A) (ys : List B) (x : A) (y : B) (i : ℕ) → i < length ys → y ≡ get_or ys i y → map f xs ≡ take i (map g ys) → f x ≡ g y → map f (xs ++ x ∷ []) ≡ take (i + 1) (map g ys)
+pub along_more : {A B C : Type 0} (f : A → C) (g : B → C) (xs : List A) (ys : List B) (x : A) (y : B) (i : ℕ) → i < length ys → y ≡ get_or ys i y → map f xs ≡ take i (map g ys) → f x ≡ g y
+    → map f (xs ++ x ∷ []) ≡ take (i + 1) (map g ys)
 along_more f g xs ys x y i h e m s =
     map-append f xs (x ∷ []) ∙ ap₂ (λ zs z. zs ++ z ∷ []) m (s ∙ ap g e ∙ sym (get_or-map g ys i y (g y) h)) ∙ sym (take_more (map g ys) i (g y) (omega (arith, length-map ys g)))
 

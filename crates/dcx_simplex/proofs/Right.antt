@@ -25,7 +25,8 @@ weighted_high f (b ∷ bs) row h =
     let ih = weighted_high (λ k. f (suc k)) bs row (λ k l. h (suc k) (omega arith)) in
     omega (arith, ints, h0, ih)
 
-weighted_positive : (f : ℕ → ℤ) (bs : List ℕ) (row : Row) (i : ℕ) → i < length bs → ((k : ℕ) → k < length bs → pos 0 ≤ℤ (f k *ℤ entry row (basic_at bs k))) → pos 0 <ℤ (f i *ℤ entry row (basic_at bs i)) → pos 0 <ℤ weighted f bs row
+weighted_positive : (f : ℕ → ℤ) (bs : List ℕ) (row : Row) (i : ℕ) → i < length bs → ((k : ℕ) → k < length bs → pos 0 ≤ℤ (f k *ℤ entry row (basic_at bs k)))
+    → pos 0 <ℤ (f i *ℤ entry row (basic_at bs i)) → pos 0 <ℤ weighted f bs row
 weighted_positive f [] row i l h n = absurd (omega arith)
 weighted_positive f (b ∷ bs) row zero l h n =
     let ih = weighted_high (λ k. f (suc k)) bs row (λ k l. h (suc k) (omega arith)) in
@@ -57,7 +58,8 @@ sum_not_positive d v a z e f h n = let g : v ≡ pos 0 = omega (arith, ints, f, 
 
 -- ---- phase 1 is bounded: w is a sum of columns at least 0
 module _ (equations : List Row) (t : Table) (tableau : IsOf equations t) (n : ℕ) (rows : length t.rows ≡ n + 2) (basics : (i : ℕ) → i + 2 < length t.rows → basic_at t.basis i < t.columns)
-    (objective : basic_at t.basis n ≡ t.columns) (phase : basic_at t.basis (n + 1) ≡ t.columns + 1) (row : Row) (sum : IsSumRow equations t row) (c : ℕ) (enters : IsEntering (n + 1) t c) (none : NoneLeaves t.columns t c) where
+    (objective : basic_at t.basis n ≡ t.columns) (phase : basic_at t.basis (n + 1) ≡ t.columns + 1) (row : Row) (sum : IsSumRow equations t row) (c : ℕ) (enters : IsEntering (n + 1) t c)
+    (none : NoneLeaves t.columns t c) where
   held : (x : Assignment) → Solves t.rows x → int_dot row x ≡ pos 0
   held x h = sum.holds x (tableau.only x h)
 
@@ -76,7 +78,8 @@ module _ (equations : List Row) (t : Table) (tableau : IsOf equations t) (n : �
 
   o'_pos : (k : ℕ) → k < length t.rows → pos 0 <ℤ o' k
   unfolding o'
-  o'_pos k h = pos_factor (entry (row_at t.rows k) (basic_at t.basis k)) _ _ (tableau.form.basic k h).positive (o_is (t.columns + 3) t.basis t.rows tableau.form row held k h) (d_pos (t.columns + 3) t.basis t.rows tableau.form row held)
+  o'_pos k h = pos_factor (entry (row_at t.rows k) (basic_at t.basis k)) _ _ (tableau.form.basic k h).positive (o_is (t.columns + 3) t.basis t.rows tableau.form row held k h)
+      (d_pos (t.columns + 3) t.basis t.rows tableau.form row held)
 
   total : d' *ℤ int_dot row (int_scaled (pos 1) (unit c)) +ℤ weighted (λ k. neg_ℤ (w k *ℤ o' k)) t.basis row ≡ pos 0
   unfolding d' o' w
@@ -115,7 +118,8 @@ term_none c y e = let m = times_zero c y e in omega (arith, ints, m)
 term_nil : (c y : ℤ) → c ≡ pos 0 → (c *ℤ y) ≤ℤ pos 0
 term_nil c y e = let m = zero_times c y e in omega (arith, ints, m)
 
-module _ (t : Table) (row : Row) (a : ℕ) (width : length row ≡ t.columns + 3) (in_a : a < t.columns + 2) (costs : (j : ℕ) → j < t.plain → entry row j ≤ℤ pos 0) (zeros : (j : ℕ) → t.columns ≤ j → j < t.columns + 2 → j ≢ a → entry row j ≡ pos 0) (y : Assignment) (point : IsPoint t y) where
+module _ (t : Table) (row : Row) (a : ℕ) (width : length row ≡ t.columns + 3) (in_a : a < t.columns + 2) (costs : (j : ℕ) → j < t.plain → entry row j ≤ℤ pos 0)
+    (zeros : (j : ℕ) → t.columns ≤ j → j < t.columns + 2 → j ≢ a → entry row j ≡ pos 0) (y : Assignment) (point : IsPoint t y) where
   low : (j : ℕ) → j ≢ a → j ≢ t.columns + 2 → (j < t.plain) ⊎ (t.plain ≤ j) → (j < t.columns) ⊎ (t.columns ≤ j) → (j < t.columns + 3) ⊎ (t.columns + 3 ≤ j) → (entry row j *ℤ entry y j) ≤ℤ pos 0
   low j n m (inl p) c l = term_cost (entry row j) (entry y j) (costs j p) (point.plain j p)
   low j n m (inr p) (inl c) l = term_none (entry row j) (entry y j) (point.artificial j p c)
@@ -125,7 +129,8 @@ module _ (t : Table) (row : Row) (a : ℕ) (width : length row ≡ t.columns + 3
   pub above : int_dot row y ≤ℤ (entry y a *ℤ entry row a +ℤ entry y (t.columns + 2) *ℤ entry row (t.columns + 2))
   above = two_above row y a (t.columns + 2) (λ e. absurd (omega (arith, e, in_a))) (λ j n m. low j n m (cases_lt j t.plain) (cases_lt j t.columns) (cases_lt j (t.columns + 3)))
 
-module _ (equations : List Row) (t : Table) (tableau : IsOf equations t) (n : ℕ) (rows : length t.rows ≡ n + 2) (objective : basic_at t.basis n ≡ t.columns) (phase : basic_at t.basis (n + 1) ≡ t.columns + 1) (y : Assignment) (solves : Solves equations y) (point : IsPoint t y) where
+module _ (equations : List Row) (t : Table) (tableau : IsOf equations t) (n : ℕ) (rows : length t.rows ≡ n + 2) (objective : basic_at t.basis n ≡ t.columns)
+    (phase : basic_at t.basis (n + 1) ≡ t.columns + 1) (y : Assignment) (solves : Solves equations y) (point : IsPoint t y) where
   zeros_n : (j : ℕ) → t.columns ≤ j → j < t.columns + 2 → j ≢ t.columns → entry_at t n j ≡ pos 0
   zeros_n j h l m =
       let e : j ≡ t.columns + 1 = omega (arith, m) in
@@ -164,7 +169,8 @@ module _ (equations : List Row) (t : Table) (tableau : IsOf equations t) (n : �
   -- w is 0 at a point, and at most 0 will do
   w_low : (row : Row) → IsSumRow equations t row → entry y (t.columns + 1) ≤ℤ pos 0
   w_low row s =
-      let h = above t row (t.columns + 1) s.width (omega arith) (λ j l. let e = s.zeros j l in omega (arith, ints, e)) (λ j g l m. let e : j ≡ t.columns = omega (arith, m) in ap (entry row) e ∙ s.z) y point in
+      let h = above t row (t.columns + 1) s.width (omega arith) (λ j l. let e = s.zeros j l in omega (arith, ints, e))
+      (λ j g l m. let e : j ≡ t.columns = omega (arith, m) in ap (entry row) e ∙ s.z) y point in
       w_of _ (entry y (t.columns + 1)) (entry row (t.columns + 1)) (entry y (t.columns + 2)) (entry row (t.columns + 2)) (s.holds y solves) h s.w s.right
 
   -- no point where the phase 1 row's right side is positive

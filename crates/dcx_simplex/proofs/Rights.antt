@@ -1,5 +1,6 @@
 -- The answer that is read at an end is right for the program.
-use Rattle.std.proofs.Common.{◌≡◌, ◌≢◌, ℕ, zero, suc, ◌+◌, ◌<◌, ◌≤◌, Bool, true, false, List, [], ◌∷◌, length, map, ℤ, pos, negsuc, ◌+ℤ◌, ◌<ℤ◌, ◌≤ℤ◌, arith, refl, sym, ap, ap₂, ◌∙◌, subst, ◌⊎◌, inl, inr}
+use Rattle.std.proofs.Common.{◌≡◌, ◌≢◌, ℕ, zero, suc, ◌+◌, ◌<◌, ◌≤◌, Bool, true, false, List, [], ◌∷◌, length, map, ℤ, pos}
+use Rattle.std.proofs.Common.{negsuc, ◌+ℤ◌, ◌<ℤ◌, ◌≤ℤ◌, arith, refl, sym, ap, ap₂, ◌∙◌, subst, ◌⊎◌, inl, inr}
 use Rattle.std.specs.Prelude.{nat_lt, not, ◌&&◌}
 use Rattle.std.proofs.lemmas.Int.{ints, by_lt_z}
 use Rattle.std.proofs.lemmas.Bool.{cases_lt, cases_eq}
@@ -33,7 +34,8 @@ use Rattle.dcx_lp_answer.specs.declared.answer.LpStatus.{LpStatus}
 use Rattle.dcx_lp_answer.specs.declared.answer.LpStatus.TheVariants as status
 use Rattle.dcx_lp_answer.specs.Notes.{numbers, reduced_cost_of}
 use Rattle.dcx_simplex.specs.Reading.{IsColumnNumber, IsColumnChange, IsReading, IsRayReading, cost_at, read_row, reduced_cost_at, IsOwnColumn}
-use Rattle.dcx_lp_answer.specs.Right.{IsSolution, IsAssignment, IsOneSided, HasSigns, is_inequality, offset, row_at_columns, cost_at_columns, combined_rows, multiplier_at, turned_if, IsOptimalAnswer, IsInfeasibleAnswer, IsUnboundedAnswer}
+use Rattle.dcx_lp_answer.specs.Right.{IsSolution, IsAssignment, IsOneSided, HasSigns, is_inequality, offset, row_at_columns, cost_at_columns}
+use Rattle.dcx_lp_answer.specs.Right.{combined_rows, multiplier_at, turned_if, IsOptimalAnswer, IsInfeasibleAnswer, IsUnboundedAnswer}
 use Rattle.dcx_simplex.proofs.Starts.{starts}
 use Rattle.dcx_simplex.proofs.EndFacts.{IsEnded, readable, not_basic_of}
 use Rattle.dcx_simplex.proofs.Cycle.{is_basic}
@@ -43,7 +45,8 @@ use Rattle.dcx_simplex.proofs.OwnColumns.{own_column, own_column_is}
 use Rattle.dcx_simplex.proofs.Bounds.{short, put_out, length_put_out, dot_put_out, rest, put_out_solves, rates, cost_bound, first_solved, first_cost, lead_some_of}
 use Rattle.dcx_simplex.proofs.Multipliers.{HasNotes, combined_is, factor_positive}
 use Rattle.dcx_simplex.proofs.Sides.{columns_opposite, not_both}
-use Rattle.dcx_simplex.proofs.Last.{rat_at-past, dot_none, dot_low, quotient_low, negative_high, at_cost_of, at_phase_of, numbers_solve, numbers_high, numbers_none, changes_solve, changes_high, changes_none}
+use Rattle.dcx_simplex.proofs.Last.{rat_at-past, dot_none, dot_low, quotient_low, negative_high, at_cost_of, at_phase_of}
+use Rattle.dcx_simplex.proofs.Last.{numbers_solve, numbers_high, numbers_none, changes_solve, changes_high, changes_none}
 
 -- ---- facts of rationals
 from_less : (a b : ℚ) → a +ℚ b *ℚ whole (negsuc 0) ≡ whole (pos 0) → a ≡ b
@@ -139,11 +142,13 @@ module _ (p : Program) (u : Table) (end : IsEnded (first_tableau p).rows (first_
     pub solution : ((k : ℕ) → k + 2 < length u.rows → u.plain ≤ basic_at u.basis k → right_at u k ≡ pos 0) → IsSolution p (numbers a.columns)
     solution zeros = record {
       count = count_p;
-      nonnegative = λ j h. let e = columns_are in numbers_high (first_tableau p).rows (first_tableau p) (starts p.rows p.columns p.objective p.phase p.form) u end (numbers a.columns) count columns j (omega (arith, e, h));
+      nonnegative = λ j h. let e = columns_are in
+          numbers_high (first_tableau p).rows (first_tableau p) (starts p.rows p.columns p.objective p.phase p.form) u end (numbers a.columns) count columns j (omega (arith, e, h));
       artificial = λ j l h.
           let e = columns_are in
           let f = plain_is in
-          numbers_none (first_tableau p).rows (first_tableau p) (starts p.rows p.columns p.objective p.phase p.form) u end (numbers a.columns) count columns j (omega (arith, e, h)) (λ k q b. zeros k q (omega (arith, f, b, l)));
+          numbers_none (first_tableau p).rows (first_tableau p) (starts p.rows p.columns p.objective p.phase p.form) u end (numbers a.columns) count columns j (omega (arith, e, h))
+          (λ k q b. zeros k q (omega (arith, f, b, l)));
       rows = λ i h. from_less _ _ (first_solved p (numbers a.columns) _ _ (whole (negsuc 0)) count_p solved i h);
     }
 
@@ -156,7 +161,8 @@ module _ (p : Program) (u : Table) (end : IsEnded (first_tableau p).rows (first_
     one_by : (j : ℕ) → j < length p.columns → ¬ (IsBasic u j) → rat_at (numbers a.columns) j ≡ whole (pos 0)
     one_by j h n = (reading.column j h).other n
 
-    sides_by : (j k v : ℕ) → j < length p.columns → k < length p.columns → kind_at p.columns j ≡ Unknown v false → kind_at p.columns k ≡ Unknown v true → IsBasic u j ⊎ ¬ (IsBasic u j) → IsBasic u k ⊎ ¬ (IsBasic u k)
+    sides_by : (j k v : ℕ) → j < length p.columns → k < length p.columns → kind_at p.columns j ≡ Unknown v false → kind_at p.columns k ≡ Unknown v true → IsBasic u j ⊎ ¬ (IsBasic u j)
+        → IsBasic u k ⊎ ¬ (IsBasic u k)
         → (rat_at (numbers a.columns) j ≡ whole (pos 0)) ⊎ (rat_at (numbers a.columns) k ≡ whole (pos 0))
     sides_by j k v h l e f (inr n) d = inl (one_by j h n)
     sides_by j k v h l e f (inl b) (inr n) = inr (one_by k l n)
@@ -204,12 +210,14 @@ module _ (p : Program) (u : Table) (end : IsEnded (first_tableau p).rows (first_
           let r = reduced i c.column h own in
           let high = negative_high _ (quotient_low (entry_at u k c.column) (lead_at u k) (none c.column (slack_plain i c.column c.is l)) positive) in
           let f = ap (λ xs. rat_at xs i) reading.factors in
-          sign_of (is_inequality p.columns i) _ a.status _ _ t (no_offset a.status) (subst (λ x. whole (pos 0) ≤ℚ x) (sym r) high) (subst (λ x. whole (pos 0) ≤ℚ x) (sym f) (<ℚ-≤ℚ (factor_positive p i h)))
+          sign_of (is_inequality p.columns i) _ a.status _ _ t (no_offset a.status) (subst (λ x. whole (pos 0) ≤ℚ x) (sym r) high)
+          (subst (λ x. whole (pos 0) ≤ℚ x) (sym f) (<ℚ-≤ℚ (factor_positive p i h)))
 
       pub signs : HasSigns p a
       signs i h t = sign_by i h t (find_slack p.columns i)
 
-      combined : (ys : List ℚ) (assigned : IsAssignment p ys) → combined_rows p a ys ≡ rates p ys assigned (row_at u.rows k) (lead_at u k) +ℚ rat_sum_below (length p.rows) (λ l. short p ys assigned l *ℚ offset a.status (is_inequality p.columns l))
+      combined : (ys : List ℚ) (assigned : IsAssignment p ys) → combined_rows p a ys
+          ≡ rates p ys assigned (row_at u.rows k) (lead_at u k) +ℚ rat_sum_below (length p.rows) (λ l. short p ys assigned l *ℚ offset a.status (is_inequality p.columns l))
       combined ys assigned = combined_is p ys assigned a (row_at u.rows k) (lead_at u k) (notes ys assigned)
 
   -- ---- the put out columns at the last tableau
@@ -223,19 +231,23 @@ module _ (p : Program) (u : Table) (end : IsEnded (first_tableau p).rows (first_
     enough : 2 ≤ length u.rows
     enough = let e = rows_are in omega (arith, e)
 
-    put_cost : rat_dot (wholes (row_at u.rows (objective_row u))) (put_out p ys assigned) +ℚ whole (lead_at u (objective_row u)) *ℚ cost_at_columns p.objective ys ≡ whole (right_at u (objective_row u))
+    put_cost : rat_dot (wholes (row_at u.rows (objective_row u))) (put_out p ys assigned) +ℚ whole (lead_at u (objective_row u)) *ℚ cost_at_columns p.objective ys
+        ≡ whole (right_at u (objective_row u))
     put_cost =
         let e = enough in
-        from_less_two _ _ _ (sym (at_cost_of (first_tableau p).rows (first_tableau p) (starts p.rows p.columns p.objective p.phase p.form) u end (put_out p ys assigned) (cost_at_columns p.objective ys) (rest p ys assigned) (whole (negsuc 0)) put_count) ∙ put_solved (objective_row u) (omega (arith, e)))
+        from_less_two _ _ _ (sym (at_cost_of (first_tableau p).rows (first_tableau p) (starts p.rows p.columns p.objective p.phase p.form) u end (put_out p ys assigned)
+        (cost_at_columns p.objective ys) (rest p ys assigned) (whole (negsuc 0)) put_count) ∙ put_solved (objective_row u) (omega (arith, e)))
 
     put_phase : rat_dot (wholes (row_at u.rows (phase_row u))) (put_out p ys assigned) +ℚ whole (lead_at u (phase_row u)) *ℚ rest p ys assigned ≡ whole (right_at u (phase_row u))
     put_phase =
         let e = enough in
-        from_less_two _ _ _ (sym (at_phase_of (first_tableau p).rows (first_tableau p) (starts p.rows p.columns p.objective p.phase p.form) u end (put_out p ys assigned) (cost_at_columns p.objective ys) (rest p ys assigned) (whole (negsuc 0)) put_count) ∙ put_solved (phase_row u) (omega (arith, e)))
+        from_less_two _ _ _ (sym (at_phase_of (first_tableau p).rows (first_tableau p) (starts p.rows p.columns p.objective p.phase p.form) u end (put_out p ys assigned)
+        (cost_at_columns p.objective ys) (rest p ys assigned) (whole (negsuc 0)) put_count) ∙ put_solved (phase_row u) (omega (arith, e)))
 
     -- ---- the sum of the artificials
     no_offsets : (s : LpStatus) → ((b : Bool) → offset s b ≡ whole (pos 0)) → rat_sum_below (length p.rows) (λ l. short p ys assigned l *ℚ offset s (is_inequality p.columns l)) ≡ whole (pos 0)
-    no_offsets s h = rat_sum_below-same (length p.rows) _ (λ _. whole (pos 0)) (λ l q. ap (λ x. short p ys assigned l *ℚ x) (h (is_inequality p.columns l)) ∙ *ℚ-zero (short p ys assigned l)) ∙ rat_sum_below-zero (length p.rows)
+    no_offsets s h = rat_sum_below-same (length p.rows) _ (λ _. whole (pos 0)) (λ l q. ap (λ x. short p ys assigned l *ℚ x) (h (is_inequality p.columns l)) ∙ *ℚ-zero (short p ys assigned l))
+        ∙ rat_sum_below-zero (length p.rows)
 
     module _ (row : Row) (sum : IsSumRow (first_tableau p).rows (first_tableau p) row) where
       sum_solved : SolvesRational (row ∷ []) (full (put_out p ys assigned) (cost_at_columns p.objective ys) (rest p ys assigned) (whole (negsuc 0)))
@@ -256,12 +268,15 @@ module _ (p : Program) (u : Table) (end : IsEnded (first_tableau p).rows (first_
       rest_is : rest p ys assigned ≡ rat_dot (wholes row) (put_out p ys assigned)
       rest_is =
           sum_is_w _ (cost_at_columns p.objective ys) (rest p ys assigned) (whole (negsuc 0))
-          (ap₂ (λ b c. ((rat_dot (wholes row) (put_out p ys assigned) +ℚ b *ℚ cost_at_columns p.objective ys) +ℚ c *ℚ rest p ys assigned) +ℚ whole (pos 0) *ℚ whole (negsuc 0)) (ap whole (sym sum.z)) (ap whole (sym sum.w))
-          ∙ ap (λ d. ((rat_dot (wholes row) (put_out p ys assigned) +ℚ whole (entry row (length p.columns)) *ℚ cost_at_columns p.objective ys) +ℚ whole (entry row (length p.columns + 1)) *ℚ rest p ys assigned) +ℚ whole d *ℚ whole (negsuc 0)) (sym sum.right)
+          (ap₂ (λ b c. ((rat_dot (wholes row) (put_out p ys assigned) +ℚ b *ℚ cost_at_columns p.objective ys) +ℚ c *ℚ rest p ys assigned) +ℚ whole (pos 0) *ℚ whole (negsuc 0))
+          (ap whole (sym sum.z)) (ap whole (sym sum.w))
+          ∙ ap (λ d. ((rat_dot (wholes row) (put_out p ys assigned) +ℚ whole (entry row (length p.columns)) *ℚ cost_at_columns p.objective ys)
+          +ℚ whole (entry row (length p.columns + 1)) *ℚ rest p ys assigned) +ℚ whole d *ℚ whole (negsuc 0)) (sym sum.right)
           ∙ sym (dot_full row (put_out p ys assigned) (cost_at_columns p.objective ys) (rest p ys assigned) (whole (negsuc 0)) (length p.columns) (length_put_out p ys assigned))
           ∙ sum_solved 0 (omega arith))
 
-      offset_is : (i : ℕ) → i < length p.rows → (o : Own p.columns i) → ((kind_at p.columns o.column ≡ Slack i) × (is_inequality p.columns i ≡ true)) ⊎ ((kind_at p.columns o.column ≡ Artificial i) × (is_inequality p.columns i ≡ false)) → whole (entry row o.column) ≡ offset status.Infeasible (is_inequality p.columns i)
+      offset_is : (i : ℕ) → i < length p.rows → (o : Own p.columns i) → ((kind_at p.columns o.column ≡ Slack i) × (is_inequality p.columns i ≡ true))
+          ⊎ ((kind_at p.columns o.column ≡ Artificial i) × (is_inequality p.columns i ≡ false)) → whole (entry row o.column) ≡ offset status.Infeasible (is_inequality p.columns i)
       offset_is i h o (inl q) =
           let l = own_low p.columns i o.column o.own in
           ap whole (sum.zeros o.column (low_plain o.column (plain_count p.columns) (sym (p.form.ordered o.column l) ∙ ap is_plain q.0))) ∙ ap (offset status.Infeasible) (sym q.1)
@@ -281,14 +296,17 @@ module _ (p : Program) (u : Table) (end : IsEnded (first_tableau p).rows (first_
   optimal_offset status.Infeasible e b = cc
   optimal_offset status.Unbounded e b = cc
 
-  pub optimal_right : (a : LpAnswer) → IsReading p.rows p.columns u status.Optimal a → NoneEnters (objective_row u) u → ((k : ℕ) → k + 2 < length u.rows → u.plain ≤ basic_at u.basis k → right_at u k ≡ pos 0) → IsOptimalAnswer p a
+  pub optimal_right : (a : LpAnswer) → IsReading p.rows p.columns u status.Optimal a → NoneEnters (objective_row u) u
+      → ((k : ℕ) → k + 2 < length u.rows → u.plain ≤ basic_at u.basis k → right_at u k ≡ pos 0) → IsOptimalAnswer p a
   optimal_right a reading none zeros = record {
     solution = solution status.Optimal a reading zeros;
     attained = attained status.Optimal a reading ∙ sym reading.number;
     signs = signs status.Optimal a reading (objective_row u) refl none positive_lead;
     bound = λ ys assigned.
-        let b = cost_bound p ys assigned (row_at u.rows (objective_row u)) (lead_at u (objective_row u)) (cost_at_columns p.objective ys) (whole (right_at u (objective_row u))) positive_lead (put_cost ys assigned) (low status.Optimal a reading (objective_row u) refl none positive_lead ys assigned) in
-        let c = combined status.Optimal a reading (objective_row u) refl none positive_lead ys assigned ∙ ap (λ x. rates p ys assigned (row_at u.rows (objective_row u)) (lead_at u (objective_row u)) +ℚ x) (no_offsets ys assigned a.status (optimal_offset a.status reading.status)) ∙ +ℚ_idr _ in
+        let b = cost_bound p ys assigned (row_at u.rows (objective_row u)) (lead_at u (objective_row u)) (cost_at_columns p.objective ys) (whole (right_at u (objective_row u))) positive_lead
+        (put_cost ys assigned) (low status.Optimal a reading (objective_row u) refl none positive_lead ys assigned) in
+        let c = combined status.Optimal a reading (objective_row u) refl none positive_lead ys assigned
+        ∙ ap (λ x. rates p ys assigned (row_at u.rows (objective_row u)) (lead_at u (objective_row u)) +ℚ x) (no_offsets ys assigned a.status (optimal_offset a.status reading.status)) ∙ +ℚ_idr _ in
         subst (λ x. x ≤ℚ (cost_at_columns p.objective ys +ℚ combined_rows p a ys)) (sym reading.number) (subst (λ x. cost_at u (objective_row u) ≤ℚ (cost_at_columns p.objective ys +ℚ x)) (sym c) b);
     one_sided = one_sided status.Optimal a reading;
   }
@@ -300,17 +318,20 @@ module _ (p : Program) (u : Table) (end : IsEnded (first_tableau p).rows (first_
     signs = signs status.Infeasible a reading (phase_row u) refl none positive_phase;
     bound = λ ys assigned.
         let sum = (starts p.rows p.columns p.objective p.phase p.form).sum in
-        let b = cost_bound p ys assigned (row_at u.rows (phase_row u)) (lead_at u (phase_row u)) (rest p ys assigned) (whole (right_at u (phase_row u))) positive_phase (put_phase ys assigned) (low status.Infeasible a reading (phase_row u) refl none positive_phase ys assigned) in
+        let b = cost_bound p ys assigned (row_at u.rows (phase_row u)) (lead_at u (phase_row u)) (rest p ys assigned) (whole (right_at u (phase_row u))) positive_phase (put_phase ys assigned)
+        (low status.Infeasible a reading (phase_row u) refl none positive_phase ys assigned) in
         let o = rest_offsets ys assigned sum.0 sum.1 in
         let c = combined status.Infeasible a reading (phase_row u) refl none positive_phase ys assigned
-        ∙ ap (λ s. rates p ys assigned (row_at u.rows (phase_row u)) (lead_at u (phase_row u)) +ℚ rat_sum_below (length p.rows) (λ l. short p ys assigned l *ℚ offset s (is_inequality p.columns l))) reading.status
+        ∙ ap (λ s. rates p ys assigned (row_at u.rows (phase_row u)) (lead_at u (phase_row u)) +ℚ rat_sum_below (length p.rows) (λ l. short p ys assigned l *ℚ offset s (is_inequality p.columns l)))
+        reading.status
         ∙ ap (λ x. rates p ys assigned (row_at u.rows (phase_row u)) (lead_at u (phase_row u)) +ℚ x) (sym o) ∙ swap _ _ in
         subst (λ x. x ≤ℚ combined_rows p a ys) (sym reading.number) (subst (λ x. cost_at u (phase_row u) ≤ℚ x) (sym c) b);
     one_sided = one_sided status.Infeasible a reading;
   }
 
   -- ---- an unbounded answer
-  module _ (a : LpAnswer) (c : ℕ) (reading : IsReading p.rows p.columns u status.Unbounded a) (ray : IsRayReading p.columns u c a) (enters : IsEntering (objective_row u) u c) (none : NoneLeaves u.plain u c) (idle : IsIdle u.plain u)
+  module _ (a : LpAnswer) (c : ℕ) (reading : IsReading p.rows p.columns u status.Unbounded a) (ray : IsRayReading p.columns u c a) (enters : IsEntering (objective_row u) u c)
+      (none : NoneLeaves u.plain u c) (idle : IsIdle u.plain u)
       (zeros : (k : ℕ) → k + 2 < length u.rows → u.plain ≤ basic_at u.basis k → right_at u k ≡ pos 0) where
     plain_below : u.plain ≤ u.columns
     plain_below = let e = columns_are in let f = plain_is in let g = plain_count_le p.columns in omega (arith, e, f, g)
@@ -322,7 +343,8 @@ module _ (p : Program) (u : Table) (end : IsEnded (first_tableau p).rows (first_
     some_rows = let e = rows_are in omega (arith, e)
 
     not_basic : ¬ (IsBasic u c)
-    not_basic = let e = some_rows in not_basic_of (first_tableau p).rows (first_tableau p) (starts p.rows p.columns p.objective p.phase p.form) u end (objective_row u) c (omega (arith, e)) (omega (arith, e)) enters.eligible
+    not_basic = let e = some_rows in
+        not_basic_of (first_tableau p).rows (first_tableau p) (starts p.rows p.columns p.objective p.phase p.form) u end (objective_row u) c (omega (arith, e)) (omega (arith, e)) enters.eligible
 
     ray_count : length (numbers a.ray) ≡ u.columns
     ray_count = length-map a.ray value ∙ ray.ray ∙ sym columns_are
@@ -333,7 +355,8 @@ module _ (p : Program) (u : Table) (end : IsEnded (first_tableau p).rows (first_
     ray_columns : (j : ℕ) → j < u.columns → IsColumnChange u c j (rat_at (numbers a.ray) j)
     ray_columns j h = let e = columns_are in ray.change j (omega (arith, e, h))
 
-    ray_solved : SolvesRational (first_tableau p).rows (full (numbers a.ray) (neg_ℚ (whole (entry_at u (objective_row u) c) /ℚ whole (lead_at u (objective_row u)))) (neg_ℚ (whole (entry_at u (phase_row u) c) /ℚ whole (lead_at u (phase_row u)))) (whole (pos 0)))
+    ray_solved : SolvesRational (first_tableau p).rows (full (numbers a.ray) (neg_ℚ (whole (entry_at u (objective_row u) c) /ℚ whole (lead_at u (objective_row u))))
+        (neg_ℚ (whole (entry_at u (phase_row u) c) /ℚ whole (lead_at u (phase_row u)))) (whole (pos 0)))
     ray_solved =
         solves_rational u.rows (first_tableau p).rows end.tableau.only _
         (changes_solve (first_tableau p).rows (first_tableau p) (starts p.rows p.columns p.objective p.phase p.form) u end c in_c not_basic (numbers a.ray) ray_count ray_columns)
@@ -359,7 +382,8 @@ module _ (p : Program) (u : Table) (end : IsEnded (first_tableau p).rows (first_
         let e = columns_are in
         let f = plain_is in
         let g = enters.column in
-        changes_none (first_tableau p).rows (first_tableau p) (starts p.rows p.columns p.objective p.phase p.form) u end c in_c not_basic (numbers a.ray) ray_count ray_columns j (omega (arith, e, h)) (λ q. absurd (omega (arith, q, f, g, l)))
+        changes_none (first_tableau p).rows (first_tableau p) (starts p.rows p.columns p.objective p.phase p.form) u end c in_c not_basic (numbers a.ray) ray_count ray_columns j
+        (omega (arith, e, h)) (λ q. absurd (omega (arith, q, f, g, l)))
         (λ k q b. idle k q (omega (arith, b, f, l)) c enters.column)
 
     at_along : (k : ℚ) (j : ℕ) → rat_at (along (numbers a.columns) k (numbers a.ray)) j ≡ rat_at (numbers a.columns) j +ℚ k *ℚ rat_at (numbers a.ray) j
@@ -378,13 +402,16 @@ module _ (p : Program) (u : Table) (end : IsEnded (first_tableau p).rows (first_
           count = along_count k;
           nonnegative = λ j l. subst (λ x. whole (pos 0) ≤ℚ x) (sym (at_along k j)) (+ℚ-nonnegative (s.nonnegative j l) (*ℚ-nonnegative h (ray_high j l)));
           artificial = λ j l q. at_along k j ∙ both_none k (s.artificial j l q) (ray_none j l q);
-          rows = λ i l. rat_dot-along (wholes (entries_at p.rows i)) (numbers a.columns) k (numbers a.ray) ∙ ap₂ (λ x y. x +ℚ k *ℚ y) (s.rows i l) (ray_row i l) ∙ none_added k (whole (right_side_at p.rows i));
+          rows = λ i l. rat_dot-along (wholes (entries_at p.rows i)) (numbers a.columns) k (numbers a.ray) ∙ ap₂ (λ x y. x +ℚ k *ℚ y) (s.rows i l) (ray_row i l)
+              ∙ none_added k (whole (right_side_at p.rows i));
         }
 
     along_cost : (k : ℚ) → cost_at_columns p.objective (along (numbers a.columns) k (numbers a.ray)) ≡ value a.number -ℚ k *ℚ value a.slope
     along_cost k =
-        ap (λ d. (whole p.objective.right -ℚ d) /ℚ whole p.objective.lead) (rat_dot-along (wholes p.objective.entries) (numbers a.columns) k (numbers a.ray) ∙ ap (λ x. rat_dot (wholes p.objective.entries) (numbers a.columns) +ℚ k *ℚ x) ray_cost)
-        ∙ fallen_cost (whole p.objective.right) (rat_dot (wholes p.objective.entries) (numbers a.columns)) k (value a.slope) (whole p.objective.lead) (cost_at u (objective_row u)) (lead_some_of p.objective.lead p.form.cost.lead) (cost_lead status.Unbounded a reading)
+        ap (λ d. (whole p.objective.right -ℚ d) /ℚ whole p.objective.lead)
+        (rat_dot-along (wholes p.objective.entries) (numbers a.columns) k (numbers a.ray) ∙ ap (λ x. rat_dot (wholes p.objective.entries) (numbers a.columns) +ℚ k *ℚ x) ray_cost)
+        ∙ fallen_cost (whole p.objective.right) (rat_dot (wholes p.objective.entries) (numbers a.columns)) k (value a.slope) (whole p.objective.lead) (cost_at u (objective_row u))
+        (lead_some_of p.objective.lead p.form.cost.lead) (cost_lead status.Unbounded a reading)
         ∙ ap (λ x. x -ℚ k *ℚ value a.slope) (sym reading.number)
 
     -- the two columns of a free unknown
@@ -398,15 +425,21 @@ module _ (p : Program) (u : Table) (end : IsEnded (first_tableau p).rows (first_
     opposite_low x y e f h = absurd (omega (arith, ints, e, f, h))
 
     cost_basic : (j : ℕ) → IsBasic u j → entry_at u (objective_row u) j ≡ pos 0
-    cost_basic j b = let e = some_rows in let g = b.1 in ap (entry_at u (objective_row u)) (sym b.2) ∙ (end.tableau.form.basic (objective_row u) (omega (arith, e))).zeros b.0 (let s = end.tableau.form.size in omega (arith, g, s)) (λ q. absurd (omega (arith, q, g, e)))
+    cost_basic j b = let e = some_rows in let g = b.1 in ap (entry_at u (objective_row u)) (sym b.2)
+        ∙ (end.tableau.form.basic (objective_row u) (omega (arith, e))).zeros b.0 (let s = end.tableau.form.size in omega (arith, g, s)) (λ q. absurd (omega (arith, q, g, e)))
 
-    ray_sides_by : (j k v : ℕ) → j < length p.columns → k < length p.columns → kind_at p.columns j ≡ Unknown v false → kind_at p.columns k ≡ Unknown v true → (j ≡ c) ⊎ (j ≢ c) → (k ≡ c) ⊎ (k ≢ c) → IsBasic u j ⊎ ¬ (IsBasic u j) → IsBasic u k ⊎ ¬ (IsBasic u k)
+    ray_sides_by : (j k v : ℕ) → j < length p.columns → k < length p.columns → kind_at p.columns j ≡ Unknown v false → kind_at p.columns k ≡ Unknown v true → (j ≡ c) ⊎ (j ≢ c) → (k ≡ c) ⊎ (k ≢ c)
+        → IsBasic u j ⊎ ¬ (IsBasic u j) → IsBasic u k ⊎ ¬ (IsBasic u k)
         → (rat_at (numbers a.ray) j ≡ whole (pos 0)) ⊎ (rat_at (numbers a.ray) k ≡ whole (pos 0))
     ray_sides_by j k v h l e f (inr m) y (inr n) z = inl (ray_other j h n m)
     ray_sides_by j k v h l e f x (inr m) y (inr n) = inr (ray_other k l n m)
     ray_sides_by j k v h l e f (inl x) (inl y) b d = let q : Unknown v false ≡ Unknown v true = sym e ∙ ap (kind_at p.columns) (x ∙ sym y) ∙ f in cc
-    ray_sides_by j k v h l e f (inl x) (inr y) b (inl d) = let r = some_rows in absurd (opposite_zero _ _ (columns_opposite p j k v h l e f u end (objective_row u) (omega (arith, r))) (cost_basic k d) (subst (λ q. pos 0 <ℤ entry_at u (objective_row u) q) (sym x) enters.eligible))
-    ray_sides_by j k v h l e f (inr x) (inl y) (inl b) d = let r = some_rows in absurd (opposite_low _ _ (columns_opposite p j k v h l e f u end (objective_row u) (omega (arith, r))) (cost_basic j b) (subst (λ q. pos 0 <ℤ entry_at u (objective_row u) q) (sym y) enters.eligible))
+    ray_sides_by j k v h l e f (inl x) (inr y) b (inl d) = let r = some_rows in
+        absurd (opposite_zero _ _ (columns_opposite p j k v h l e f u end (objective_row u) (omega (arith, r))) (cost_basic k d)
+        (subst (λ q. pos 0 <ℤ entry_at u (objective_row u) q) (sym x) enters.eligible))
+    ray_sides_by j k v h l e f (inr x) (inl y) (inl b) d = let r = some_rows in
+        absurd (opposite_low _ _ (columns_opposite p j k v h l e f u end (objective_row u) (omega (arith, r))) (cost_basic j b)
+        (subst (λ q. pos 0 <ℤ entry_at u (objective_row u) q) (sym y) enters.eligible))
     ray_sides_by j k v h l e f (inr x) (inr y) (inl b) (inl d) = absurd (not_both p j k v h l e f u end b d)
 
     pub unbounded_right : IsUnboundedAnswer p a

@@ -33,8 +33,11 @@ sum_two (suc m) k l f hk hl n h = two_by m k l f hk hl n h (λ a b. sum_two m k 
     swap : (a b : ℚ) → a +ℚ b ≡ b +ℚ a
     swap a b = ring (a ∷ b ∷ []) (search reads depth 30) tt
 
-    two_by : (m k l : ℕ) (f : ℕ → ℚ) → k < suc m → l < suc m → k ≢ l → ((i : ℕ) → i < suc m → i ≢ k → i ≢ l → f i ≡ whole (pos 0)) → (m ≢ k → m ≢ l → rat_sum_below m f ≡ f k +ℚ f l) → (m ≡ k) ⊎ (m ≢ k) → (m ≡ l) ⊎ (m ≢ l) → rat_sum_below m f +ℚ f m ≡ f k +ℚ f l
-    two_by m k l f hk hl n h ih (inl e) d = ap₂ ◌+ℚ◌ (rat_sum_below-one m l f (let q : m ≢ l = λ s. n (sym e ∙ s) in omega (arith, q, hl)) (λ i q r. h i (omega arith) (λ s. absurd (omega (arith, s, e, q))) r)) (ap f e) ∙ swap (f l) (f k)
+    two_by : (m k l : ℕ) (f : ℕ → ℚ) → k < suc m → l < suc m → k ≢ l → ((i : ℕ) → i < suc m → i ≢ k → i ≢ l → f i ≡ whole (pos 0)) → (m ≢ k → m ≢ l → rat_sum_below m f ≡ f k +ℚ f l)
+        → (m ≡ k) ⊎ (m ≢ k) → (m ≡ l) ⊎ (m ≢ l) → rat_sum_below m f +ℚ f m ≡ f k +ℚ f l
+    two_by m k l f hk hl n h ih (inl e) d =
+        ap₂ ◌+ℚ◌ (rat_sum_below-one m l f (let q : m ≢ l = λ s. n (sym e ∙ s) in omega (arith, q, hl)) (λ i q r. h i (omega arith) (λ s. absurd (omega (arith, s, e, q))) r)) (ap f e)
+        ∙ swap (f l) (f k)
     two_by m k l f hk hl n h ih (inr a) (inl e) = ap₂ ◌+ℚ◌ (rat_sum_below-one m k f (omega (arith, a, hk)) (λ i q r. h i (omega arith) r (λ s. absurd (omega (arith, s, e, q))))) (ap f e)
     two_by m k l f hk hl n h ih (inr a) (inr b) = ap₂ ◌+ℚ◌ (ih a b) (h m (omega arith) a b) ∙ +ℚ_idr (f k +ℚ f l)
 
@@ -62,7 +65,8 @@ module _ (p : Program) (j k v : ℕ) (in_j : j < length p.columns) (in_k : k < l
 
   pub dot_direction : (row : Row) → int_dot row direction ≡ entry row j +ℤ entry row k
   unfolding direction
-  dot_direction row = int_dot-added_right row (int_scaled (pos 1) (unit j)) (int_scaled (pos 1) (unit k)) ∙ ap₂ ◌+ℤ◌ (int_dot-unit row (pos 1) j ∙ one (entry row j)) (int_dot-unit row (pos 1) k ∙ one (entry row k))
+  dot_direction row = int_dot-added_right row (int_scaled (pos 1) (unit j)) (int_scaled (pos 1) (unit k))
+      ∙ ap₂ ◌+ℤ◌ (int_dot-unit row (pos 1) j ∙ one (entry row j)) (int_dot-unit row (pos 1) k ∙ one (entry row k))
 
   low_by : (c : ℕ) → c < length p.columns → (x : ColumnKind) → kind_at p.columns c ≡ x → is_plain x ≡ true → c < plain_count p.columns
   low_by c h x e t = below_plain c (plain_count p.columns) (sym (p.form.ordered c h) ∙ ap is_plain e ∙ t)
@@ -76,17 +80,21 @@ module _ (p : Program) (j k v : ℕ) (in_j : j < length p.columns) (in_k : k < l
   phase_turned : entry p.phase.entries k ≡ neg_ℤ (entry p.phase.entries j)
   phase_turned =
       p.form.sum.plain k (low_by k in_k (Unknown v true) minus refl)
-      ∙ sum_negative (λ r. if nat_le (plain_count p.columns) r.basic then entry r.entries j else pos 0) (λ r. if nat_le (plain_count p.columns) r.basic then entry r.entries k else pos 0) p.rows (λ l r is. if_negative (nat_le (plain_count p.columns) r.basic) _ _ (row_turned l r is))
+      ∙ sum_negative (λ r. if nat_le (plain_count p.columns) r.basic then entry r.entries j else pos 0) (λ r. if nat_le (plain_count p.columns) r.basic then entry r.entries k else pos 0) p.rows
+      (λ l r is. if_negative (nat_le (plain_count p.columns) r.basic) _ _ (row_turned l r is))
       ∙ ap neg_ℤ (sym (p.form.sum.plain j (low_by j in_j (Unknown v false) plus refl)))
 
-  direction_by : (i : ℕ) → i < length p.rows + 2 → (i < length p.rows) ⊎ (length p.rows ≤ i) → (i < length p.rows + 1) ⊎ (length p.rows + 1 ≤ i) → entry_at (first_tableau p) i j +ℤ entry_at (first_tableau p) i k ≡ pos 0
+  direction_by : (i : ℕ) → i < length p.rows + 2 → (i < length p.rows) ⊎ (length p.rows ≤ i) → (i < length p.rows + 1) ⊎ (length p.rows + 1 ≤ i)
+      → entry_at (first_tableau p) i j +ℤ entry_at (first_tableau p) i k ≡ pos 0
   direction_by i h (inl a) b =
       let r = has_row p.rows i a in
-      subst (λ row. entry row j +ℤ entry row k ≡ pos 0) (sym (at_row p.rows p.columns p.objective p.phase p.form i r.row a r.is)) (fronts r.row.entries _ _ _ (p.form.each_row i r.row r.is).width (row_turned i r.row r.is))
+      subst (λ row. entry row j +ℤ entry row k ≡ pos 0) (sym (at_row p.rows p.columns p.objective p.phase p.form i r.row a r.is))
+      (fronts r.row.entries _ _ _ (p.form.each_row i r.row r.is).width (row_turned i r.row r.is))
   direction_by i h (inr a) (inl b) =
       let e : length p.rows ≡ i = omega (arith, a, b) in
       subst (λ q. entry_at (first_tableau p) q j +ℤ entry_at (first_tableau p) q k ≡ pos 0) e
-      (subst (λ row. entry row j +ℤ entry row k ≡ pos 0) (sym (at_objective p.rows p.columns p.objective p.phase p.form)) (fronts p.objective.entries _ _ _ p.form.cost.width (p.form.turned_cost j k v in_j in_k plus minus)))
+      (subst (λ row. entry row j +ℤ entry row k ≡ pos 0) (sym (at_objective p.rows p.columns p.objective p.phase p.form))
+      (fronts p.objective.entries _ _ _ p.form.cost.width (p.form.turned_cost j k v in_j in_k plus minus)))
   direction_by i h (inr a) (inr b) =
       let e : length p.rows + 1 ≡ i = omega (arith, h, b) in
       subst (λ q. entry_at (first_tableau p) q j +ℤ entry_at (first_tableau p) q k ≡ pos 0) e

@@ -75,7 +75,8 @@ module _ (p : Program) where
       let r = has_row p.rows i h in
       let f = p.form.each_row i r.row r.is in
       let b = map_at first_basic_of p.rows i r.row 0 r.is in
-      let a : kind_at p.columns (first_basic_at p.rows i) ≡ Artificial i = ap (kind_at p.columns) b ∙ starts_by p.columns i (first_basic_of r.row) r.row.negated (kind_at p.columns r.row.basic) refl f.starts (s.none (first_basic_of r.row)) in
+      let a : kind_at p.columns (first_basic_at p.rows i) ≡ Artificial i = ap (kind_at p.columns) b
+      ∙ starts_by p.columns i (first_basic_of r.row) r.row.negated (kind_at p.columns r.row.basic) refl f.starts (s.none (first_basic_of r.row)) in
       record {
         column = first_basic_at p.rows i;
         own = record { kind = λ n. a; first = λ k e. absurd (s.none k e) };
@@ -120,16 +121,21 @@ module _ (p : Program) where
   none_cost (Slack r) i z e = refl
   none_cost (Artificial r) i z e = refl
 
-  other_by : (i l : ℕ) → l < length p.rows → (o : Own p.columns i) → l ≢ i → ((kind_at p.columns o.column ≡ Slack i) × (is_inequality p.columns i ≡ true)) ⊎ ((kind_at p.columns o.column ≡ Artificial i) × (is_inequality p.columns i ≡ false)) → entry (entries_at p.rows l) o.column ≡ pos 0
-  other_by i l h o n (inl k) = told l o.column h (own_low p.columns i o.column o.own) ∙ none_slack (kind_at p.columns o.column) l i (is_negated_at p.rows l) (entry (entries_at p.rows l) o.column) k.0 n
-  other_by i l h o n (inr k) = told l o.column h (own_low p.columns i o.column o.own) ∙ none_artificial (kind_at p.columns o.column) l i (is_negated_at p.rows l) (entry (entries_at p.rows l) o.column) k.0 n
+  other_by : (i l : ℕ) → l < length p.rows → (o : Own p.columns i) → l ≢ i
+      → ((kind_at p.columns o.column ≡ Slack i) × (is_inequality p.columns i ≡ true)) ⊎ ((kind_at p.columns o.column ≡ Artificial i) × (is_inequality p.columns i ≡ false))
+      → entry (entries_at p.rows l) o.column ≡ pos 0
+  other_by i l h o n (inl k) = told l o.column h (own_low p.columns i o.column o.own)
+      ∙ none_slack (kind_at p.columns o.column) l i (is_negated_at p.rows l) (entry (entries_at p.rows l) o.column) k.0 n
+  other_by i l h o n (inr k) = told l o.column h (own_low p.columns i o.column o.own)
+      ∙ none_artificial (kind_at p.columns o.column) l i (is_negated_at p.rows l) (entry (entries_at p.rows l) o.column) k.0 n
 
   -- another row has 0 there
   pub own_other : (i l : ℕ) → l < length p.rows → (o : Own p.columns i) → l ≢ i → entry (entries_at p.rows l) o.column ≡ pos 0
   own_other i l h o n = other_by i l h o n o.kind
 
   -- the row itself has 1, or -1 where it is an inequality that was negated
-  pub sign_slack : (i : ℕ) → i < length p.rows → (o : Own p.columns i) → kind_at p.columns o.column ≡ Slack i → entry (entries_at p.rows i) o.column ≡ (if is_negated_at p.rows i then negsuc 0 else pos 1)
+  pub sign_slack : (i : ℕ) → i < length p.rows → (o : Own p.columns i) → kind_at p.columns o.column ≡ Slack i
+      → entry (entries_at p.rows i) o.column ≡ (if is_negated_at p.rows i then negsuc 0 else pos 1)
   sign_slack i h o e = told i o.column h (own_low p.columns i o.column o.own) ∙ own_slack (kind_at p.columns o.column) i (is_negated_at p.rows i) (entry (entries_at p.rows i) o.column) e
 
   pub sign_artificial : (i : ℕ) → i < length p.rows → (o : Own p.columns i) → kind_at p.columns o.column ≡ Artificial i → entry (entries_at p.rows i) o.column ≡ pos 1

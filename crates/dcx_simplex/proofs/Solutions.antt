@@ -43,7 +43,8 @@ spread_high f (b ∷ bs) m h =
     let e = entry-spread f b bs m in
     omega (arith, ints, h0, ih, e)
 
-spread_one : (f : ℕ → ℤ) (bs : List ℕ) (m i : ℕ) → i < length bs → ((k : ℕ) → k < length bs → k ≢ i → f k *ℤ entry (unit (basic_at bs k)) m ≡ pos 0) → entry (spread f bs) m ≡ f i *ℤ entry (unit (basic_at bs i)) m
+spread_one : (f : ℕ → ℤ) (bs : List ℕ) (m i : ℕ) → i < length bs → ((k : ℕ) → k < length bs → k ≢ i → f k *ℤ entry (unit (basic_at bs k)) m ≡ pos 0)
+    → entry (spread f bs) m ≡ f i *ℤ entry (unit (basic_at bs i)) m
 spread_one f [] m i l h = absurd (omega arith)
 spread_one f (b ∷ bs) m zero l h =
     let ih = spread_zero (λ k. f (suc k)) bs m (λ k l. h (suc k) (omega arith) (omega arith)) in
@@ -101,7 +102,8 @@ module _ (equations : List Row) (t : Table) (tableau : IsOf equations t) (n : �
   unfolding y
   y_solves = tableau.only _ (λ k h.
       int_dot-added_right (row_at t.rows k) (int_scaled (s *ℤ d) (unit j)) (spread (λ k. neg_ℤ (s *ℤ (entry_at t k j *ℤ o k))) t.basis)
-      ∙ ap₂ ◌+ℤ◌ (int_dot-unit (row_at t.rows k) (s *ℤ d) j) (int_dot-spread (row_at t.rows k) (λ k. neg_ℤ (s *ℤ (entry_at t k j *ℤ o k))) t.basis k (let e = tableau.form.size in omega (arith, e, h)) (tableau.form.basic k h).zeros)
+      ∙ ap₂ ◌+ℤ◌ (int_dot-unit (row_at t.rows k) (s *ℤ d) j) (int_dot-spread (row_at t.rows k) (λ k. neg_ℤ (s *ℤ (entry_at t k j *ℤ o k))) t.basis k
+      (let e = tableau.form.size in omega (arith, e, h)) (tableau.form.basic k h).zeros)
       ∙ holds_by (s *ℤ d) (entry_at t k j) _ (entry (row_at t.rows k) (basic_at t.basis k)) d (o k) s (o_is k h) refl refl)
 
   f_high : (k : ℕ) → k + 2 < length t.rows → pos 0 ≤ℤ f k
@@ -161,7 +163,8 @@ module _ (equations : List Row) (t : Table) (tableau : IsOf equations t) (n : �
 
   y_is : (m : ℕ) → entry y m ≡ (s *ℤ d) *ℤ entry (unit j) m +ℤ entry (spread f t.basis) m
   unfolding y f
-  y_is m = entry-added (int_scaled (s *ℤ d) (unit j)) (spread (λ k. neg_ℤ (s *ℤ (entry_at t k j *ℤ o k))) t.basis) m ∙ ap (λ u. u +ℤ entry (spread (λ k. neg_ℤ (s *ℤ (entry_at t k j *ℤ o k))) t.basis) m) (entry-scaled (s *ℤ d) (unit j) m)
+  y_is m = entry-added (int_scaled (s *ℤ d) (unit j)) (spread (λ k. neg_ℤ (s *ℤ (entry_at t k j *ℤ o k))) t.basis) m
+      ∙ ap (λ u. u +ℤ entry (spread (λ k. neg_ℤ (s *ℤ (entry_at t k j *ℤ o k))) t.basis) m) (entry-scaled (s *ℤ d) (unit j) m)
 
   -- the numbers of the solution: apart from column j, whose own number is s d more
   y_at : (m : ℕ) → m ≢ j → entry y m ≡ entry (spread f t.basis) m
@@ -214,7 +217,8 @@ module _ (equations : List Row) (t : Table) (tableau : IsOf equations t) (n : �
           y equations t tableau n rows basics objective phase plain_below (negsuc 0) (t.columns + 2) high zeros,
           y_solves equations t tableau n rows basics objective phase plain_below (negsuc 0) (t.columns + 2) high zeros,
           record {
-            plain = λ m h. y_plain equations t tableau n rows basics objective phase plain_below (negsuc 0) (t.columns + 2) high zeros m h (λ e. let q = plain_below in absurd (omega (arith, e, h, q)));
+            plain = λ m h. y_plain equations t tableau n rows basics objective phase plain_below (negsuc 0) (t.columns + 2) high zeros m h
+                (λ e. let q = plain_below in absurd (omega (arith, e, h, q)));
             artificial = λ m g h. y_artificial equations t tableau n rows basics objective phase plain_below (negsuc 0) (t.columns + 2) high zeros m g h (λ e. absurd (omega (arith, e, h)));
             denominator = subst (λ z. z <ℤ pos 0) (sym own) (minus_neg _ (d_pos equations t tableau n rows basics objective phase plain_below (negsuc 0) (t.columns + 2) high zeros));
           },

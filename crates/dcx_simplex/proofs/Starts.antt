@@ -1,5 +1,6 @@
 -- A program's first tableau is one from which a run begins.
-use Rattle.std.proofs.Common.{◌≡◌, ◌≢◌, ℕ, zero, suc, ◌+◌, ◌-◌, ◌<◌, ◌≤◌, Bool, true, false, not, nat_eq, List, [], ◌∷◌, ◌++◌, length, ℤ, pos, negsuc, ◌+ℤ◌, ◌-ℤ◌, ◌*ℤ◌, ◌<ℤ◌, ◌≤ℤ◌, unsigned_abs, arith, refl, sym, ap, ap₂, ◌∙◌, subst, ◌⊎◌, inl, inr}
+use Rattle.std.proofs.Common.{◌≡◌, ◌≢◌, ℕ, zero, suc, ◌+◌, ◌-◌, ◌<◌, ◌≤◌, Bool, true, false, not, nat_eq, List, [], ◌∷◌, ◌++◌, length, ℤ, pos, negsuc}
+use Rattle.std.proofs.Common.{◌+ℤ◌, ◌-ℤ◌, ◌*ℤ◌, ◌<ℤ◌, ◌≤ℤ◌, unsigned_abs, arith, refl, sym, ap, ap₂, ◌∙◌, subst, ◌⊎◌, inl, inr}
 use Rattle.std.specs.Prelude.{Some, slice_get, nat_le, if◌then◌else◌, ◌&&◌}
 use Rattle.std.proofs.lemmas.Int.{ints}
 use Rattle.std.proofs.lemmas.Bool.{cases_lt, cases_eq, eqb-true}
@@ -16,7 +17,8 @@ use Rattle.dcx_tab.specs.declared.rows.IntRow.{IntRow}
 use Rattle.dcx_tab.specs.declared.rows.CostRow.{CostRow}
 use Rattle.dcx_tab.specs.Rows.{Row, Assignment, entry, row_at, basic_at, Solves, IsBasicRow, IsTableau}
 use Rattle.dcx_tab.specs.Table.{Table}
-use Rattle.dcx_tab.specs.Program.{IsProgram, kind_at, plain_count, told_entry, unknown_entry, may_start, sum_started, first_basic_of, first_basic_at, tableau_row, objective_row, phase_row, first_table}
+use Rattle.dcx_tab.specs.Program.{IsProgram, kind_at, plain_count, told_entry, unknown_entry, may_start, sum_started}
+use Rattle.dcx_tab.specs.Program.{first_basic_of, first_basic_at, tableau_row, objective_row, phase_row, first_table}
 use Rattle.dcx_tab.proofs.RowLaws.{gcd_of-dvd_entry, entry-added, entry-scaled}
 use Rattle.dcx_tab.proofs.Programs.{has_row, map_at, from_plain, plain_count_le, length_first, length_basis, at_row, at_objective, at_phase, basic_row, basic_objective, basic_phase, widths}
 use Rattle.dcx_simplex.specs.Start.{IsStart, IsSumRow}
@@ -51,7 +53,8 @@ pub sum_none : (f : IntRow → ℤ) (rows : List IntRow) → ((l : ℕ) (r : Int
 sum_none f [] h = refl
 sum_none f (r ∷ rows) h = let e = h 0 r refl in let ih = sum_none f rows (λ l s q. h (suc l) s q) in omega (arith, ints, e, ih)
 
-pub sum_one : (f : IntRow → ℤ) (rows : List IntRow) (k : ℕ) (v : ℤ) → k < length rows → ((l : ℕ) (r : IntRow) → slice_get rows l ≡ Some r → l ≢ k → f r ≡ pos 0) → ((r : IntRow) → slice_get rows k ≡ Some r → f r ≡ v) → int_sum_by f rows ≡ v
+pub sum_one : (f : IntRow → ℤ) (rows : List IntRow) (k : ℕ) (v : ℤ) → k < length rows → ((l : ℕ) (r : IntRow) → slice_get rows l ≡ Some r → l ≢ k → f r ≡ pos 0)
+    → ((r : IntRow) → slice_get rows k ≡ Some r → f r ≡ v) → int_sum_by f rows ≡ v
 sum_one f [] k v h z o = absurd (omega arith)
 sum_one f (r ∷ rows) zero v h z o =
     let e = o r refl in
@@ -90,13 +93,15 @@ length_if : (b : Bool) (xs ys : List ℤ) (n : ℕ) → length xs ≡ n → leng
 length_if true xs ys n e f = e
 length_if false xs ys n e f = f
 
-length_combination : (plain : ℕ) (rows : List IntRow) (last : Row) (n : ℕ) → length last ≡ n → ((l : ℕ) (r : IntRow) → slice_get rows l ≡ Some r → length (tableau_row r) ≡ n) → length (combination plain rows last) ≡ n
+length_combination : (plain : ℕ) (rows : List IntRow) (last : Row) (n : ℕ) → length last ≡ n → ((l : ℕ) (r : IntRow) → slice_get rows l ≡ Some r → length (tableau_row r) ≡ n)
+    → length (combination plain rows last) ≡ n
 unfolding combination
 length_combination plain [] last n e h = length-int_scaled (negsuc 0) last ∙ e
 length_combination plain (r ∷ rows) last n e h =
     let ih = length_combination plain rows last n e (λ l s q. h (suc l) s q) in
     let w = h 0 r refl in
-    length_if (nat_le plain r.basic) (int_added (tableau_row r) (combination plain rows last)) (combination plain rows last) n (length-int_added (tableau_row r) (combination plain rows last) (w ∙ sym ih) ∙ w) ih
+    length_if (nat_le plain r.basic) (int_added (tableau_row r) (combination plain rows last)) (combination plain rows last) n
+    (length-int_added (tableau_row r) (combination plain rows last) (w ∙ sym ih) ∙ w) ih
 
 entry_if : (b : Bool) (xs ys : List ℤ) (j : ℕ) (u v : ℤ) → entry xs j ≡ u +ℤ v → entry ys j ≡ v → entry (if b then xs else ys) j ≡ (if b then u else pos 0) +ℤ v
 entry_if true xs ys j u v e f = e
@@ -107,7 +112,9 @@ unfolding combination
 entry_combination plain [] last j = entry-scaled (negsuc 0) last j ∙ minus_one (entry last j)
 entry_combination plain (r ∷ rows) last j =
     let ih = entry_combination plain rows last j in
-    entry_if (nat_le plain r.basic) (int_added (tableau_row r) (combination plain rows last)) (combination plain rows last) j (entry (tableau_row r) j) _ (entry-added (tableau_row r) (combination plain rows last) j ∙ ap (λ z. entry (tableau_row r) j +ℤ z) ih) ih ∙ regroup (if nat_le plain r.basic then entry (tableau_row r) j else pos 0) (sum_started plain (λ r. entry (tableau_row r) j) rows) (entry last j)
+    entry_if (nat_le plain r.basic) (int_added (tableau_row r) (combination plain rows last)) (combination plain rows last) j
+    (entry (tableau_row r) j) _ (entry-added (tableau_row r) (combination plain rows last) j ∙ ap (λ z. entry (tableau_row r) j +ℤ z) ih) ih
+    ∙ regroup (if nat_le plain r.basic then entry (tableau_row r) j else pos 0) (sum_started plain (λ r. entry (tableau_row r) j) rows) (entry last j)
   where
     regroup : (a b c : ℤ) → a +ℤ (b -ℤ c) ≡ (a +ℤ b) -ℤ c
     regroup a b c = omega (arith, ints)
@@ -116,13 +123,15 @@ dot_if : (b : Bool) (xs ys x : List ℤ) → int_dot xs x ≡ pos 0 → int_dot 
 dot_if true xs ys x e f = e
 dot_if false xs ys x e f = f
 
-dot_combination : (plain : ℕ) (rows : List IntRow) (last x : Row) → int_dot last x ≡ pos 0 → ((l : ℕ) (r : IntRow) → slice_get rows l ≡ Some r → int_dot (tableau_row r) x ≡ pos 0) → int_dot (combination plain rows last) x ≡ pos 0
+dot_combination : (plain : ℕ) (rows : List IntRow) (last x : Row) → int_dot last x ≡ pos 0 → ((l : ℕ) (r : IntRow) → slice_get rows l ≡ Some r → int_dot (tableau_row r) x ≡ pos 0)
+    → int_dot (combination plain rows last) x ≡ pos 0
 unfolding combination
 dot_combination plain [] last x e h = int_dot-scaled (negsuc 0) last x ∙ (let z = e in omega (arith, ints, e))
 dot_combination plain (r ∷ rows) last x e h =
     let ih = dot_combination plain rows last x e (λ l s q. h (suc l) s q) in
     let d = h 0 r refl in
-    dot_if (nat_le plain r.basic) (int_added (tableau_row r) (combination plain rows last)) (combination plain rows last) x (int_dot-added (tableau_row r) (combination plain rows last) x ∙ omega (arith, ints, d, ih)) ih
+    dot_if (nat_le plain r.basic) (int_added (tableau_row r) (combination plain rows last)) (combination plain rows last) x
+    (int_dot-added (tableau_row r) (combination plain rows last) x ∙ omega (arith, ints, d, ih)) ih
 
 -- ---- kinds of columns
 pub different : (a b : ℕ) → a ≢ b → nat_eq a b ≡ false
@@ -190,14 +199,16 @@ module _ (rows : List IntRow) (kinds : List ColumnKind) (objective phase : CostR
   row_start_own l r is = let f = form.each_row l r is in f.told r.basic f.basic ∙ told_own (kind_at kinds r.basic) l r.negated (entry r.entries r.basic) f.starts
 
   cost_start : (k : ℕ) → k < length rows → entry objective.entries (first_basic_at rows k) ≡ pos 0
-  cost_start k h = let s = starts_at k h in form.cost.told (first_basic_at rows k) (start_low k h) ∙ unknown_none (kind_at kinds (first_basic_at rows k)) k s.0 (entry objective.entries (first_basic_at rows k)) s.1
+  cost_start k h = let s = starts_at k h in form.cost.told (first_basic_at rows k) (start_low k h)
+      ∙ unknown_none (kind_at kinds (first_basic_at rows k)) k s.0 (entry objective.entries (first_basic_at rows k)) s.1
 
   phase_start_by : (k : ℕ) → k < length rows → (first_basic_at rows k < plain_count kinds) ⊎ (plain_count kinds ≤ first_basic_at rows k) → entry phase.entries (first_basic_at rows k) ≡ pos 0
   phase_start_by k h (inr l) = form.sum.artificial (first_basic_at rows k) l (start_low k h)
   phase_start_by k h (inl l) = form.sum.plain (first_basic_at rows k) l ∙ sum_none _ rows none
     where
       by : (i : ℕ) (r : IntRow) → slice_get rows i ≡ Some r → (i ≡ k) ⊎ (i ≢ k) → (if nat_le (plain_count kinds) r.basic then entry r.entries (first_basic_at rows k) else pos 0) ≡ pos 0
-      by i r is (inl e) = if_none (nat_le (plain_count kinds) r.basic) _ (λ t. let q = at_least (plain_count kinds) r.basic t in let b : first_basic_at rows k ≡ r.basic = ap (first_basic_at rows) (sym e) ∙ map_at first_basic_of rows i r 0 is in absurd (omega (arith, q, b, l)))
+      by i r is (inl e) = if_none (nat_le (plain_count kinds) r.basic) _ (λ t. let q = at_least (plain_count kinds) r.basic t in
+          let b : first_basic_at rows k ≡ r.basic = ap (first_basic_at rows) (sym e) ∙ map_at first_basic_of rows i r 0 is in absurd (omega (arith, q, b, l)))
       by i r is (inr n) = if_zero (nat_le (plain_count kinds) r.basic) _ (row_start_other i r is k h n)
 
       none : (i : ℕ) (r : IntRow) → slice_get rows i ≡ Some r → (if nat_le (plain_count kinds) r.basic then entry r.entries (first_basic_at rows k) else pos 0) ≡ pos 0
@@ -210,9 +221,12 @@ module _ (rows : List IntRow) (kinds : List ColumnKind) (objective phase : CostR
   first = first_table rows kinds objective phase
 
   -- ---- the zeros of a row at the basic columns
-  zeros_by : (es : List ℤ) (a b c : ℤ) (i : ℕ) → length es ≡ length kinds → ((k : ℕ) → k < length rows → k ≢ i → entry es (first_basic_at rows k) ≡ pos 0) → (length rows ≢ i → a ≡ pos 0) → (length rows + 1 ≢ i → b ≡ pos 0)
-      → (k : ℕ) → k < length rows + 2 → k ≢ i → (k < length rows) ⊎ (length rows ≤ k) → (k < length rows + 1) ⊎ (length rows + 1 ≤ k) → entry (es ++ a ∷ b ∷ c ∷ []) (basic_at (first_table rows kinds objective phase).basis k) ≡ pos 0
-  zeros_by es a b c i w h fa fb k l n (inl m) d = ap (entry (es ++ a ∷ b ∷ c ∷ [])) (basic_row rows kinds objective phase form k m) ∙ entry_front es a b c (first_basic_at rows k) (let s = start_low k m in omega (arith, s, w)) ∙ h k m n
+  zeros_by : (es : List ℤ) (a b c : ℤ) (i : ℕ) → length es ≡ length kinds → ((k : ℕ) → k < length rows → k ≢ i → entry es (first_basic_at rows k) ≡ pos 0) → (length rows ≢ i → a ≡ pos 0)
+      → (length rows + 1 ≢ i → b ≡ pos 0)
+      → (k : ℕ) → k < length rows + 2 → k ≢ i → (k < length rows) ⊎ (length rows ≤ k) → (k < length rows + 1) ⊎ (length rows + 1 ≤ k)
+      → entry (es ++ a ∷ b ∷ c ∷ []) (basic_at (first_table rows kinds objective phase).basis k) ≡ pos 0
+  zeros_by es a b c i w h fa fb k l n (inl m) d = ap (entry (es ++ a ∷ b ∷ c ∷ [])) (basic_row rows kinds objective phase form k m)
+      ∙ entry_front es a b c (first_basic_at rows k) (let s = start_low k m in omega (arith, s, w)) ∙ h k m n
   zeros_by es a b c i w h fa fb k l n (inr m) (inl d) =
       let e : length rows ≡ k = omega (arith, m, d) in
       subst (λ q. entry (es ++ a ∷ b ∷ c ∷ []) (basic_at (first_table rows kinds objective phase).basis q) ≡ pos 0) e
@@ -222,9 +236,11 @@ module _ (rows : List IntRow) (kinds : List ColumnKind) (objective phase : CostR
       subst (λ q. entry (es ++ a ∷ b ∷ c ∷ []) (basic_at (first_table rows kinds objective phase).basis q) ≡ pos 0) e
       (ap (entry (es ++ a ∷ b ∷ c ∷ [])) (basic_phase rows kinds objective phase form) ∙ entry_w es a b c (length kinds) w ∙ fb (λ q. n (sym e ∙ q)))
 
-  zeros_of : (es : List ℤ) (a b c : ℤ) (i : ℕ) → length es ≡ length kinds → ((k : ℕ) → k < length rows → k ≢ i → entry es (first_basic_at rows k) ≡ pos 0) → (length rows ≢ i → a ≡ pos 0) → (length rows + 1 ≢ i → b ≡ pos 0)
+  zeros_of : (es : List ℤ) (a b c : ℤ) (i : ℕ) → length es ≡ length kinds → ((k : ℕ) → k < length rows → k ≢ i → entry es (first_basic_at rows k) ≡ pos 0) → (length rows ≢ i → a ≡ pos 0)
+      → (length rows + 1 ≢ i → b ≡ pos 0)
       → (k : ℕ) → k < length (first_table rows kinds objective phase).basis → k ≢ i → entry (es ++ a ∷ b ∷ c ∷ []) (basic_at (first_table rows kinds objective phase).basis k) ≡ pos 0
-  zeros_of es a b c i w h fa fb k l n = zeros_by es a b c i w h fa fb k (let e = length_basis rows kinds objective phase form in omega (arith, e, l)) n (cases_lt k (length rows)) (cases_lt k (length rows + 1))
+  zeros_of es a b c i w h fa fb k l n =
+      zeros_by es a b c i w h fa fb k (let e = length_basis rows kinds objective phase form in omega (arith, e, l)) n (cases_lt k (length rows)) (cases_lt k (length rows + 1))
 
   basic_of : (i : ℕ) (r : IntRow) → i < length rows → slice_get rows i ≡ Some r → IsBasicRow (first_table rows kinds objective phase).basis i (tableau_row r)
   basic_of i r h is =
@@ -260,14 +276,18 @@ module _ (rows : List IntRow) (kinds : List ColumnKind) (objective phase : CostR
         zeros = zeros_of phase.entries (pos 0) phase.lead phase.right (length rows + 1) w (λ k h n. phase_start k h) (λ q. refl) (λ q. absurd (q refl));
       }
 
-  basic_by : (i : ℕ) → i < length rows + 2 → (i < length rows) ⊎ (length rows ≤ i) → (i < length rows + 1) ⊎ (length rows + 1 ≤ i) → IsBasicRow (first_table rows kinds objective phase).basis i (row_at (first_table rows kinds objective phase).rows i)
-  basic_by i h (inl l) d = let s = has_row rows i l in subst (IsBasicRow (first_table rows kinds objective phase).basis i) (sym (at_row rows kinds objective phase form i s.row l s.is)) (basic_of i s.row l s.is)
+  basic_by : (i : ℕ) → i < length rows + 2 → (i < length rows) ⊎ (length rows ≤ i) → (i < length rows + 1) ⊎ (length rows + 1 ≤ i)
+      → IsBasicRow (first_table rows kinds objective phase).basis i (row_at (first_table rows kinds objective phase).rows i)
+  basic_by i h (inl l) d = let s = has_row rows i l in
+      subst (IsBasicRow (first_table rows kinds objective phase).basis i) (sym (at_row rows kinds objective phase form i s.row l s.is)) (basic_of i s.row l s.is)
   basic_by i h (inr l) (inl d) =
       let e : length rows ≡ i = omega (arith, l, d) in
-      subst (λ q. IsBasicRow (first_table rows kinds objective phase).basis q (row_at (first_table rows kinds objective phase).rows q)) e (subst (IsBasicRow (first_table rows kinds objective phase).basis (length rows)) (sym (at_objective rows kinds objective phase form)) basic_cost)
+      subst (λ q. IsBasicRow (first_table rows kinds objective phase).basis q (row_at (first_table rows kinds objective phase).rows q)) e
+      (subst (IsBasicRow (first_table rows kinds objective phase).basis (length rows)) (sym (at_objective rows kinds objective phase form)) basic_cost)
   basic_by i h (inr l) (inr d) =
       let e : length rows + 1 ≡ i = omega (arith, h, d) in
-      subst (λ q. IsBasicRow (first_table rows kinds objective phase).basis q (row_at (first_table rows kinds objective phase).rows q)) e (subst (IsBasicRow (first_table rows kinds objective phase).basis (length rows + 1)) (sym (at_phase rows kinds objective phase form)) basic_sum)
+      subst (λ q. IsBasicRow (first_table rows kinds objective phase).basis q (row_at (first_table rows kinds objective phase).rows q)) e
+      (subst (IsBasicRow (first_table rows kinds objective phase).basis (length rows + 1)) (sym (at_phase rows kinds objective phase form)) basic_sum)
 
   size : length (first_table rows kinds objective phase).rows ≡ length (first_table rows kinds objective phase).basis
   size = length_first rows kinds objective phase form ∙ sym (length_basis rows kinds objective phase form)
@@ -287,7 +307,8 @@ module _ (rows : List IntRow) (kinds : List ColumnKind) (objective phase : CostR
   sum_row = combination (plain_count kinds) rows (phase_row phase)
 
   front_sum : (j : ℕ) → j < length kinds → sum_started (plain_count kinds) (λ r. entry (tableau_row r) j) rows ≡ sum_started (plain_count kinds) (λ r. entry r.entries j) rows
-  front_sum j h = sum_same _ _ rows (λ l r is. ap (λ z. if nat_le (plain_count kinds) r.basic then z else pos 0) (entry_front r.entries _ _ _ j (let w = (form.each_row l r is).width in omega (arith, h, w))))
+  front_sum j h = sum_same _ _ rows (λ l r is. ap (λ z. if nat_le (plain_count kinds) r.basic then z else pos 0)
+      (entry_front r.entries _ _ _ j (let w = (form.each_row l r is).width in omega (arith, h, w))))
 
   phase_front : (j : ℕ) → j < length kinds → entry (phase_row phase) j ≡ entry phase.entries j
   phase_front j h = entry_front phase.entries _ _ _ j (let w = form.sum.width in omega (arith, h, w))
@@ -310,7 +331,8 @@ module _ (rows : List IntRow) (kinds : List ColumnKind) (objective phase : CostR
       (λ i q is n. if_zero (nat_le (plain_count kinds) q.basic) _ ((form.each_row i q is).told j l ∙ told_artificial (kind_at kinds j) r i q.negated (entry q.entries j) e n))
       (λ q is.
       let b : j ≡ q.basic = sym (form.starting j r e) ∙ map_at first_basic_of rows r q 0 is in
-      if_some (nat_le (plain_count kinds) q.basic) _ (pos 1) (at_least_test (plain_count kinds) q.basic (omega (arith, b, h))) ((form.each_row r q is).told j l ∙ told_artificial_own (kind_at kinds j) r q.negated (entry q.entries j) e))
+      if_some (nat_le (plain_count kinds) q.basic) _ (pos 1) (at_least_test (plain_count kinds) q.basic (omega (arith, b, h)))
+      ((form.each_row r q is).told j l ∙ told_artificial_own (kind_at kinds j) r q.negated (entry q.entries j) e))
 
   sum_artificial : (j : ℕ) → plain_count kinds ≤ j → j < length kinds → entry sum_row j ≡ pos 1
   unfolding sum_row
@@ -322,7 +344,8 @@ module _ (rows : List IntRow) (kinds : List ColumnKind) (objective phase : CostR
   unfolding sum_row
   sum_z =
       entry_combination (plain_count kinds) rows (phase_row phase) (length kinds)
-      ∙ less _ (pos 0) _ (sum_none _ rows (λ l r is. if_zero (nat_le (plain_count kinds) r.basic) _ (entry_z r.entries _ _ _ (length kinds) (form.each_row l r is).width))) (sym (entry_z phase.entries _ _ _ (length kinds) form.sum.width))
+      ∙ less _ (pos 0) _ (sum_none _ rows (λ l r is. if_zero (nat_le (plain_count kinds) r.basic) _ (entry_z r.entries _ _ _ (length kinds) (form.each_row l r is).width)))
+      (sym (entry_z phase.entries _ _ _ (length kinds) form.sum.width))
 
   minus : (a c : ℤ) → a ≡ pos 0 → c ≡ pos 1 → a -ℤ c ≡ negsuc 0
   minus a c e f = omega (arith, ints, e, f)
@@ -331,13 +354,15 @@ module _ (rows : List IntRow) (kinds : List ColumnKind) (objective phase : CostR
   unfolding sum_row
   sum_w =
       entry_combination (plain_count kinds) rows (phase_row phase) (length kinds + 1)
-      ∙ minus _ _ (sum_none _ rows (λ l r is. if_zero (nat_le (plain_count kinds) r.basic) _ (entry_w r.entries _ _ _ (length kinds) (form.each_row l r is).width))) (entry_w phase.entries _ _ _ (length kinds) form.sum.width ∙ form.sum.lead)
+      ∙ minus _ _ (sum_none _ rows (λ l r is. if_zero (nat_le (plain_count kinds) r.basic) _ (entry_w r.entries _ _ _ (length kinds) (form.each_row l r is).width)))
+      (entry_w phase.entries _ _ _ (length kinds) form.sum.width ∙ form.sum.lead)
 
   sum_right : entry sum_row (length kinds + 2) ≡ pos 0
   unfolding sum_row
   sum_right =
       entry_combination (plain_count kinds) rows (phase_row phase) (length kinds + 2)
-      ∙ less _ _ _ (sum_same _ _ rows (λ l r is. ap (λ z. if nat_le (plain_count kinds) r.basic then z else pos 0) (entry_right r.entries _ _ _ (length kinds) (form.each_row l r is).width))) (sym (entry_right phase.entries _ _ _ (length kinds) form.sum.width ∙ form.sum.right))
+      ∙ less _ _ _ (sum_same _ _ rows (λ l r is. ap (λ z. if nat_le (plain_count kinds) r.basic then z else pos 0) (entry_right r.entries _ _ _ (length kinds) (form.each_row l r is).width)))
+      (sym (entry_right phase.entries _ _ _ (length kinds) form.sum.width ∙ form.sum.right))
 
   row_low : (l : ℕ) (r : IntRow) → slice_get rows l ≡ Some r → l < length rows
   row_low l r is = by rows l r is
@@ -358,7 +383,8 @@ module _ (rows : List IntRow) (kinds : List ColumnKind) (objective phase : CostR
   sum_width : length sum_row ≡ length kinds + 3
   unfolding sum_row
   sum_width =
-      length_combination (plain_count kinds) rows (phase_row phase) (length kinds + 3) (ap length (sym (at_phase rows kinds objective phase form)) ∙ widths rows kinds objective phase form (length rows + 1) (omega arith))
+      length_combination (plain_count kinds) rows (phase_row phase) (length kinds + 3)
+      (ap length (sym (at_phase rows kinds objective phase form)) ∙ widths rows kinds objective phase form (length rows + 1) (omega arith))
       (λ l r is. let q = row_low l r is in ap length (sym (at_row rows kinds objective phase form l r q is)) ∙ widths rows kinds objective phase form l (omega (arith, q)))
 
   sum_is : IsSumRow (first_table rows kinds objective phase).rows (first_table rows kinds objective phase) sum_row

@@ -1,5 +1,6 @@
 -- A test that rows of numbers have the form of a program, by trying each place.
-use Rattle.std.specs.Prelude.{ℕ, zero, suc, ◌^◌, Bool, true, false, not, ◌&&◌, ◌||◌, nat_eq, nat_lt, nat_le, if◌then◌else◌, List, [], ◌∷◌, ◌++◌, map, length, get_or, ℤ, pos, neg_ℤ, unsigned_abs, int_lt}
+use Rattle.std.specs.Prelude.{ℕ, zero, suc, ◌^◌, Bool, true, false, not, ◌&&◌, ◌||◌, nat_eq, nat_lt, nat_le, if◌then◌else◌}
+use Rattle.std.specs.Prelude.{List, [], ◌∷◌, ◌++◌, map, length, get_or, ℤ, pos, neg_ℤ, unsigned_abs, int_lt}
 use Rattle.std.specs.Ordering.{int_eq}
 use Rattle.dcx_math.specs.Divisors.{gcd_within}
 use Rattle.dcx_math.specs.IntegerSums.{int_sum_by}

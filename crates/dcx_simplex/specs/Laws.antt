@@ -15,7 +15,8 @@ NeverRises = (equations : List Row) (cost bound limit : ℕ) (t : Table) (n : �
 
 -- a pivot leaves the objective's value as it is just where the leaving row's right side is 0
 abbrev pub StaysJustAtZero : Type 0
-StaysJustAtZero = (equations : List Row) (cost bound : ℕ) (t : Table) (r c : ℕ) → IsReady equations cost bound t → IsNext cost bound t r c → HasSameValue cost (after_pivot r c t) t ↔ (right_at t r ≡ pos 0)
+StaysJustAtZero = (equations : List Row) (cost bound : ℕ) (t : Table) (r c : ℕ) → IsReady equations cost bound t → IsNext cost bound t r c
+    → HasSameValue cost (after_pivot r c t) t ↔ (right_at t r ≡ pos 0)
 
 -- no set of basic columns comes twice
 abbrev pub NeverRepeats : Type 0

@@ -57,7 +57,8 @@ fn put_basic<T: Tableau>(tableau: &T, column: u32, is_negated: bool, xs: &mut [F
     requires readable { IsReadable (T.table tableau.now) }
     requires column { column < (T.table tableau.now).columns + 3 }
     requires len { length xs.old ≡ (T.table tableau.now).columns }
-    ensures basic { (i : ℕ) → i + 2 < length (T.table tableau.now).rows → rat_at (numbers xs.new) (basic_at (T.table tableau.now).basis i) ≡ turned_if is_negated (whole (entry_at (T.table tableau.now) i column) /ℚ whole (entry_at (T.table tableau.now) i (basic_at (T.table tableau.now).basis i))) }
+    ensures basic { (i : ℕ) → i + 2 < length (T.table tableau.now).rows → rat_at (numbers xs.new) (basic_at (T.table tableau.now).basis i)
+        ≡ turned_if is_negated (whole (entry_at (T.table tableau.now) i column) /ℚ whole (entry_at (T.table tableau.now) i (basic_at (T.table tableau.now).basis i))) }
     ensures other { (j : ℕ) → ¬ (IsBasic (T.table tableau.now) j) → rat_at (numbers xs.new) j ≡ rat_at (numbers xs.old) j }
 {
     'rows: for i in 0..tableau.rows() {

@@ -78,7 +78,8 @@ module _ (rows : GivenRows) (w : WholeProgram) (fits : IsFitting rows) (whole : 
   few_all = let h = columns_few (length rows.kinds) rows.kinds rows.rows w.rows.items whole.are fits.0 fits.1 in subst (λ (xs : List ColumnKind). length xs ≤ 3000) (sym a) h
 
   pub cost_all : AllSmall w.cost.numbers
-  cost_all = whole_small Equal rows.objective (cost_numbers (length rows.kinds) rows.objective) w.cost (formed_by Equal rows.objective (cost_numbers (length rows.kinds) rows.objective) w.cost whole.cost)
+  cost_all = whole_small Equal rows.objective (cost_numbers (length rows.kinds) rows.objective) w.cost
+      (formed_by Equal rows.objective (cost_numbers (length rows.kinds) rows.objective) w.cost whole.cost)
 
   rows_of : (ints : List IntRow) → AreMadeOf cs (length ks) 0 vs ints → AreMadeOf cs (length rows.kinds) 0 w.rows.items ints
   rows_of ints h = subst (λ m. AreMadeOf cs m 0 w.rows.items ints) (ap length k) (subst (λ xs. AreMadeOf cs (length ks) 0 xs ints) v h)
@@ -93,7 +94,8 @@ module _ (rows : GivenRows) (w : WholeProgram) (fits : IsFitting rows) (whole : 
   pub number_is : (number : ℕ) → number ≡ suc (length vs) → number ≡ suc (length rows.rows)
   number_is number e = e ∙ ap (λ (xs : List WholeRow). suc (length xs)) v ∙ ap suc (wholes_count (length rows.kinds) rows.rows w.rows.items whole.are)
 
-  module _ (ints is : List IntRow) (made : AreMadeOf cs (length ks) 0 vs ints) (same : is ≡ ints) (m number : ℕ) (plain : m ≡ plain_count cs) (at : number ≡ suc (length vs)) (r : Result CostRow CoefStop)
+  module _ (ints is : List IntRow) (made : AreMadeOf cs (length ks) 0 vs ints) (same : is ≡ ints) (m number : ℕ) (plain : m ≡ plain_count cs) (at : number ≡ suc (length vs))
+      (r : Result CostRow CoefStop)
       (gives : Gives r (λ b. b ≡ phase_made m (length cs) is)) where
     summed : Gives r (λ b. b ≡ phase_made (plain_count cs) (length cs) ints)
     summed = subst (λ q. Gives r (λ b. b ≡ q)) (ap₂ (λ x y. phase_made x (length cs) y) plain same) gives
@@ -107,14 +109,17 @@ module _ (rows : GivenRows) (w : WholeProgram) (fits : IsFitting rows) (whole : 
     cost_of : (objective : CostRow) → IsCostOf cs (length ks) w.cost objective → IsCostOf cs (length rows.kinds) w.cost objective
     cost_of objective h = subst (λ j. IsCostOf cs j w.cost objective) (ap length k) h
 
-    form_here : (xs : List ColumnKind) (objective phase : CostRow) → xs ≡ columns_of rows.kinds (map (start_of (length rows.kinds)) w.rows.items) → AreMadeOf xs (length rows.kinds) 0 w.rows.items ints → IsCostOf xs (length rows.kinds) w.cost objective
+    form_here : (xs : List ColumnKind) (objective phase : CostRow) → xs ≡ columns_of rows.kinds (map (start_of (length rows.kinds)) w.rows.items)
+        → AreMadeOf xs (length rows.kinds) 0 w.rows.items ints → IsCostOf xs (length rows.kinds) w.cost objective
         → phase_made (plain_count xs) (length xs) ints ≡ Ok phase → IsProgram ints xs objective phase
     form_here xs objective phase e = subst
-        (λ ys. AreMadeOf ys (length rows.kinds) 0 w.rows.items ints → IsCostOf ys (length rows.kinds) w.cost objective → phase_made (plain_count ys) (length ys) ints ≡ Ok phase → IsProgram ints ys objective phase)
+        (λ ys. AreMadeOf ys (length rows.kinds) 0 w.rows.items ints → IsCostOf ys (length rows.kinds) w.cost objective → phase_made (plain_count ys) (length ys) ints ≡ Ok phase
+        → IsProgram ints ys objective phase)
         (sym e)
         (λ h c s. program_form (length rows.kinds) rows.kinds rows.rows rows.objective w.rows.items w.cost ints objective phase refl whole.are whole.cost h c s fits.0 fits.1)
 
-    pub form_all : (xs : List ColumnKind) (rs : List IntRow) (objective phase : CostRow) → rs ≡ ints → xs ≡ cs → IsCostOf cs (length ks) w.cost objective → result_at number r ≡ Ok phase → IsProgram rs xs objective phase
+    pub form_all : (xs : List ColumnKind) (rs : List IntRow) (objective phase : CostRow) → rs ≡ ints → xs ≡ cs → IsCostOf cs (length ks) w.cost objective → result_at number r ≡ Ok phase
+        → IsProgram rs xs objective phase
     form_all xs rs objective phase d e c h =
         let f : IsProgram ints cs objective phase = form_here cs objective phase a (rows_of ints made) (cost_of objective c) (phase_is phase h) in
         subst (λ zs. IsProgram zs xs objective phase) (sym d) (subst (λ ys. IsProgram ints ys objective phase) (sym e) f)

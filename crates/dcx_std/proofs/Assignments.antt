@@ -71,7 +71,8 @@ negative_high z h = subst (λ q. q ≤ℚ neg_ℚ z) neg_ℚ-zero (neg_ℚ-≤�
 two_parts : (z : ℚ) → rat_max (whole (pos 0)) z +ℚ (neg_ℚ (rat_max (whole (pos 0)) (neg_ℚ z)) +ℚ whole (pos 0)) ≡ z
 two_parts z = by (rat_max-cases (whole (pos 0)) z)
   where
-    by : ((rat_max (whole (pos 0)) z ≡ z) × (whole (pos 0) ≤ℚ z)) ⊎ ((rat_max (whole (pos 0)) z ≡ whole (pos 0)) × (z ≤ℚ whole (pos 0))) → rat_max (whole (pos 0)) z +ℚ (neg_ℚ (rat_max (whole (pos 0)) (neg_ℚ z)) +ℚ whole (pos 0)) ≡ z
+    by : ((rat_max (whole (pos 0)) z ≡ z) × (whole (pos 0) ≤ℚ z)) ⊎ ((rat_max (whole (pos 0)) z ≡ whole (pos 0)) × (z ≤ℚ whole (pos 0)))
+        → rat_max (whole (pos 0)) z +ℚ (neg_ℚ (rat_max (whole (pos 0)) (neg_ℚ z)) +ℚ whole (pos 0)) ≡ z
     by (inl e) = ap₂ (λ a b. a +ℚ (neg_ℚ b +ℚ whole (pos 0))) e.0 (no_part (neg_ℚ z) (negative_low z e.1)) ∙ ring (z ∷ []) (search reads depth 30) tt
     by (inr e) = ap₂ (λ a b. a +ℚ (neg_ℚ b +ℚ whole (pos 0))) e.0 (positive_part (neg_ℚ z) (negative_high z e.1)) ∙ ring (z ∷ []) (search reads depth 30) tt
 
@@ -109,7 +110,8 @@ module _ (slacks : ℕ → ℚ) (y : Unknowns) (u : ℕ) where
   later_sum : (a : ℕ) (kinds : List UnknownKind) → u < a → rat_sum_by added (all_unknown_columns a kinds) ≡ whole (pos 0)
   later_sum a [] h = refl
   later_sum a (kind ∷ kinds) h =
-      rat_sum_by-++ added (unknown_columns a kind) (all_unknown_columns (suc a) kinds) ∙ ap₂ ◌+ℚ◌ (other_sum a kind (λ e. absurd (omega (arith, h, e)))) (later_sum (suc a) kinds (omega (arith, h))) ∙ +ℚ_idr (whole (pos 0))
+      rat_sum_by-++ added (unknown_columns a kind) (all_unknown_columns (suc a) kinds) ∙ ap₂ ◌+ℚ◌ (other_sum a kind (λ e. absurd (omega (arith, h, e)))) (later_sum (suc a) kinds (omega (arith, h)))
+      ∙ +ℚ_idr (whole (pos 0))
 
   all_sum : (a : ℕ) (kinds : List UnknownKind) (i : ℕ) (kind : UnknownKind) → a + i ≡ u → slice_get kinds i ≡ Some kind → IsOfKind kind (y u) → rat_sum_by added (all_unknown_columns a kinds) ≡ y u
   all_sum a [] i kind e s h = cc
@@ -136,14 +138,16 @@ module _ (slacks : ℕ → ℚ) (y : Unknowns) (u : ℕ) where
   artificials_sum starts = marked_sum Artificial (λ i. refl) 0 (map needs_artificial starts)
 
   -- the unknowns of the assignment are those that it is made of
-  pub assigned_unknown : (kinds : List UnknownKind) (starts : List Start) (kind : UnknownKind) → slice_get kinds u ≡ Some kind → IsOfKind kind (y u) → unknowns_at (columns_of kinds starts) (assignment (columns_of kinds starts) slacks y) u ≡ y u
+  pub assigned_unknown : (kinds : List UnknownKind) (starts : List Start) (kind : UnknownKind) → slice_get kinds u ≡ Some kind → IsOfKind kind (y u)
+      → unknowns_at (columns_of kinds starts) (assignment (columns_of kinds starts) slacks y) u ≡ y u
   unfolding added
   assigned_unknown kinds starts kind s h =
       let columns = columns_of kinds starts in
       let e : 0 + u ≡ u = omega arith in
       rat_sum_below-same (length columns) _ (λ j. added (kind_at columns j)) (λ j l. ap (column_part u (kind_at columns j)) (assigned_at columns slacks y j l))
       ∙ sum_over added columns ∙ rat_sum_by-++ added (plain_columns_of kinds starts) (artificial_columns starts)
-      ∙ ap₂ ◌+ℚ◌ (rat_sum_by-++ added (all_unknown_columns 0 kinds) (slack_columns starts) ∙ ap₂ ◌+ℚ◌ (all_sum 0 kinds u kind e s h) (slacks_sum starts) ∙ +ℚ_idr (y u)) (artificials_sum starts) ∙ +ℚ_idr (y u)
+      ∙ ap₂ ◌+ℚ◌ (rat_sum_by-++ added (all_unknown_columns 0 kinds) (slack_columns starts) ∙ ap₂ ◌+ℚ◌ (all_sum 0 kinds u kind e s h) (slacks_sum starts) ∙ +ℚ_idr (y u)) (artificials_sum starts)
+      ∙ +ℚ_idr (y u)
 
 -- ---- along a ray
 none_along : (k : ℚ) → whole (pos 0) ≡ whole (pos 0) +ℚ k *ℚ whole (pos 0)
@@ -167,6 +171,7 @@ part_along u (Artificial r) a k b = none_along k
 pub unknowns-along : (columns : List ColumnKind) (xs : List ℚ) (k : ℚ) (ds : List ℚ) (u : ℕ) → unknowns_at columns (along xs k ds) u ≡ unknowns_at columns xs u +ℚ k *ℚ unknowns_at columns ds u
 unknowns-along columns xs k ds u =
     rat_sum_below-same (length columns) _ (λ j. column_part u (kind_at columns j) (rat_at xs j) +ℚ k *ℚ column_part u (kind_at columns j) (rat_at ds j))
-    (λ j l. ap (column_part u (kind_at columns j)) (rat_at-rat_added xs (rat_scaled k ds) j ∙ ap (λ q. rat_at xs j +ℚ q) (rat_at-rat_scaled k ds j)) ∙ part_along u (kind_at columns j) (rat_at xs j) k (rat_at ds j))
+    (λ j l. ap (column_part u (kind_at columns j)) (rat_at-rat_added xs (rat_scaled k ds) j ∙ ap (λ q. rat_at xs j +ℚ q) (rat_at-rat_scaled k ds j))
+    ∙ part_along u (kind_at columns j) (rat_at xs j) k (rat_at ds j))
     ∙ rat_sum_below-+ℚ (length columns) (λ j. column_part u (kind_at columns j) (rat_at xs j)) (λ j. k *ℚ column_part u (kind_at columns j) (rat_at ds j))
     ∙ ap (λ q. unknowns_at columns xs u +ℚ q) (rat_sum_below-*ℚ (length columns) k (λ j. column_part u (kind_at columns j) (rat_at ds j)))

@@ -3,11 +3,12 @@ use Rattle.std.proofs.Common.{◌≡◌, ◌≢◌, ℕ, zero, suc, ◌+◌, ◌
 use Rattle.std.specs.List.{All}
 use Rattle.std.proofs.lemmas.List.Elements.{All-head, All-tail, All-cons, All-nil}
 use Rattle.std.proofs.lemmas.List.{take_more, get_or-set_same, get_or-set_other}
+use Rattle.dcx_math.specs.Rising.{IsRising}
 use native.Mathlib.Decide.{ℕ_discrete}
 use Rattle.dcx_frac.specs.declared.fraction.Frac.{Frac}
 use Rattle.dcx_atom.specs.Formed.{zero_frac}
 use Rattle.dcx_linear.specs.declared.form.FormTerm.{FormTerm}
-use Rattle.dcx_linear.specs.Terms.{IsRising, term_at}
+use Rattle.dcx_linear.specs.Terms.{term_at}
 use Rattle.dcx_linear.specs.TermLaws.{term_at-here, term_at-later}
 use Rattle.dcx_linear.specs.FormTerms.{unknown_of}
 use Rattle.dcx_std.specs.WholeRows.{coefficient_or_zero, coefficient_at}

@@ -52,15 +52,18 @@ Allows Nonneg false = ⊤
 Allows Nonpos true = ⊤
 Allows Nonpos false = ⊥
 
-later : (a n : ℕ) (kinds : List UnknownKind) (j u : ℕ) (minus : Bool) → suc a + length kinds ≤ n → j < length (all_unknown_columns (suc a) kinds) → kind_at (all_unknown_columns (suc a) kinds) j ≡ Unknown u minus → suc a ≤ u
+later : (a n : ℕ) (kinds : List UnknownKind) (j u : ℕ) (minus : Bool) → suc a + length kinds ≤ n → j < length (all_unknown_columns (suc a) kinds)
+    → kind_at (all_unknown_columns (suc a) kinds) j ≡ Unknown u minus → suc a ≤ u
 later a n kinds j u minus h l e = (subst (IsBetween (suc a) n) e (unknowns_between (suc a) n kinds h j (Unknown 0 false) l)).0
 
-allowed : (a : ℕ) (kinds : List UnknownKind) (j i : ℕ) (minus : Bool) (kind : UnknownKind) → j < length (all_unknown_columns a kinds) → kind_at (all_unknown_columns a kinds) j ≡ Unknown (a + i) minus → slice_get kinds i ≡ Some kind → Allows kind minus
+allowed : (a : ℕ) (kinds : List UnknownKind) (j i : ℕ) (minus : Bool) (kind : UnknownKind) → j < length (all_unknown_columns a kinds)
+    → kind_at (all_unknown_columns a kinds) j ≡ Unknown (a + i) minus → slice_get kinds i ≡ Some kind → Allows kind minus
 allowed a [] j i minus kind l e s = cc
 allowed a (Free ∷ kinds) j zero minus kind l e s = let d : Free ≡ kind = cc in subst (λ k. Allows k minus) d tt
 allowed a (Free ∷ kinds) zero (suc i) minus kind l e s = let d : a ≡ a + suc i = cc in absurd (omega (arith, d))
 allowed a (Free ∷ kinds) (suc zero) (suc i) minus kind l e s = let d : a ≡ a + suc i = cc in absurd (omega (arith, d))
-allowed a (Free ∷ kinds) (suc (suc j)) (suc i) minus kind l e s = let d : a + suc i ≡ suc a + i = omega arith in allowed (suc a) kinds j i minus kind (omega (arith, l)) (e ∙ ap (λ u. Unknown u minus) d) s
+allowed a (Free ∷ kinds) (suc (suc j)) (suc i) minus kind l e s = let d : a + suc i ≡ suc a + i = omega arith in
+    allowed (suc a) kinds j i minus kind (omega (arith, l)) (e ∙ ap (λ u. Unknown u minus) d) s
 allowed a (Nonneg ∷ kinds) zero zero minus kind l e s = let d : Nonneg ≡ kind = cc in let b : false ≡ minus = cc in subst (λ k. Allows k minus) d (subst (Allows Nonneg) b tt)
 allowed a (Nonneg ∷ kinds) zero (suc i) minus kind l e s = let d : a ≡ a + suc i = cc in absurd (omega (arith, d))
 allowed a (Nonneg ∷ kinds) (suc j) zero minus kind l e s = let b = later a (suc a + length kinds) kinds j (a + 0) minus (omega arith) (omega (arith, l)) e in absurd (omega (arith, b))
@@ -84,7 +87,8 @@ module _ (kinds : List UnknownKind) (starts : List Start) where
   all_between : All (IsBetween 0 (length kinds)) (columns_of kinds starts)
   all_between =
       All-both (IsBetween 0 (length kinds)) (plain_columns_of kinds starts) (artificial_columns starts)
-      (All-both (IsBetween 0 (length kinds)) (all_unknown_columns 0 kinds) (slack_columns starts) (unknowns_between 0 (length kinds) kinds (omega arith)) (marked_All Slack (IsBetween 0 (length kinds)) (λ i. tt) 0 (map has_slack starts)))
+      (All-both (IsBetween 0 (length kinds)) (all_unknown_columns 0 kinds) (slack_columns starts) (unknowns_between 0 (length kinds) kinds (omega arith))
+      (marked_All Slack (IsBetween 0 (length kinds)) (λ i. tt) 0 (map has_slack starts)))
       (marked_All Artificial (IsBetween 0 (length kinds)) (λ i. tt) 0 (map needs_artificial starts))
 
   -- each column of an unknown is that of one of these
@@ -92,14 +96,17 @@ module _ (kinds : List UnknownKind) (starts : List Start) where
   unknown_below j u minus l e = (subst (IsBetween 0 (length kinds)) e (all_between j (Unknown 0 false) l)).1
 
   -- the columns of an unknown stand in front
-  in_front : (ks ls : List ColumnKind) (j u : ℕ) (minus : Bool) → All (λ k. (v : ℕ) (b : Bool) → k ≢ Unknown v b) ls → j < length (ks ++ ls) → kind_at (ks ++ ls) j ≡ Unknown u minus → (j < length ks) × (kind_at ks j ≡ Unknown u minus)
+  in_front : (ks ls : List ColumnKind) (j u : ℕ) (minus : Bool) → All (λ k. (v : ℕ) (b : Bool) → k ≢ Unknown v b) ls → j < length (ks ++ ls) → kind_at (ks ++ ls) j ≡ Unknown u minus
+      → (j < length ks) × (kind_at ks j ≡ Unknown u minus)
   in_front [] ls j u minus h l e = absurd (h j (Unknown 0 false) l u minus e)
   in_front (k ∷ ks) ls zero u minus h l e = (omega arith, e)
   in_front (k ∷ ks) ls (suc j) u minus h l e = let r = in_front ks ls j u minus h (omega (arith, l)) e in let m = r.0 in (omega (arith, m), r.1)
 
-  pub unknown_allowed : (j u : ℕ) (minus : Bool) (kind : UnknownKind) → j < length (columns_of kinds starts) → kind_at (columns_of kinds starts) j ≡ Unknown u minus → slice_get kinds u ≡ Some kind → Allows kind minus
+  pub unknown_allowed : (j u : ℕ) (minus : Bool) (kind : UnknownKind) → j < length (columns_of kinds starts) → kind_at (columns_of kinds starts) j ≡ Unknown u minus → slice_get kinds u ≡ Some kind
+      → Allows kind minus
   unknown_allowed j u minus kind l e s =
-      let a = in_front (plain_columns_of kinds starts) (artificial_columns starts) j u minus (marked_All Artificial (λ k. (v : ℕ) (b : Bool) → k ≢ Unknown v b) (λ i v b d. cc) 0 (map needs_artificial starts)) l e in
+      let a = in_front (plain_columns_of kinds starts) (artificial_columns starts) j u minus
+      (marked_All Artificial (λ k. (v : ℕ) (b : Bool) → k ≢ Unknown v b) (λ i v b d. cc) 0 (map needs_artificial starts)) l e in
       let b = in_front (all_unknown_columns 0 kinds) (slack_columns starts) j u minus (marked_All Slack (λ k. (v : ℕ) (b : Bool) → k ≢ Unknown v b) (λ i v b d. cc) 0 (map has_slack starts)) a.0 a.1 in
       let d : u ≡ 0 + u = omega arith in allowed 0 kinds j u minus kind b.0 (b.1 ∙ ap (λ v. Unknown v minus) d) s
 
@@ -114,8 +121,10 @@ module _ (kinds : List UnknownKind) (starts : List Start) where
   pub slack_found : (i : ℕ) (s : Start) → slice_get starts i ≡ Some s → has_slack s ≡ true → (j : ℕ) × (j < length (columns_of kinds starts)) × (kind_at (columns_of kinds starts) j ≡ Slack i)
   slack_found i s e h =
       let d : 0 + i ≡ i = omega arith in
-      let marked : Contains (slack_columns starts) (Slack i) = subst (λ k. Contains (slack_columns starts) (Slack k)) d (marked_in Slack 0 (map has_slack starts) i (marked_get kinds starts has_slack starts i s e ∙ h)) in
-      let there : Contains (columns_of kinds starts) (Slack i) = contains_first (plain_columns_of kinds starts) (artificial_columns starts) (Slack i) (contains_second (all_unknown_columns 0 kinds) (slack_columns starts) (Slack i) marked) in
+      let marked : Contains (slack_columns starts) (Slack i) =
+      subst (λ k. Contains (slack_columns starts) (Slack k)) d (marked_in Slack 0 (map has_slack starts) i (marked_get kinds starts has_slack starts i s e ∙ h)) in
+      let there : Contains (columns_of kinds starts) (Slack i) =
+      contains_first (plain_columns_of kinds starts) (artificial_columns starts) (Slack i) (contains_second (all_unknown_columns 0 kinds) (slack_columns starts) (Slack i) marked) in
       (there.0, there.1, get_or_default (columns_of kinds starts) there.0 (Unknown 0 false) (Slack i) there.1 ∙ there.2)
 
   -- so the columns show which rows are inequalities

@@ -61,7 +61,9 @@ contains_second (x ∷ xs) ys w h = let r = contains_second xs ys w h in (suc r.
 -- what holds of all columns of unknowns holds of these
 pub unknowns_All : (P : ColumnKind → Type 0) → ((u : ℕ) (b : Bool) → P (Unknown u b)) → (u : ℕ) (kinds : List UnknownKind) → All P (all_unknown_columns u kinds)
 unknowns_All P f u [] = All-nil P
-unknowns_All P f u (Free ∷ kinds) = All-cons P (Unknown u false) (Unknown u true ∷ all_unknown_columns (suc u) kinds) (f u false) (All-cons P (Unknown u true) (all_unknown_columns (suc u) kinds) (f u true) (unknowns_All P f (suc u) kinds))
+unknowns_All P f u (Free ∷ kinds) =
+    All-cons P (Unknown u false) (Unknown u true ∷ all_unknown_columns (suc u) kinds) (f u false)
+    (All-cons P (Unknown u true) (all_unknown_columns (suc u) kinds) (f u true) (unknowns_All P f (suc u) kinds))
 unknowns_All P f u (Nonneg ∷ kinds) = All-cons P (Unknown u false) (all_unknown_columns (suc u) kinds) (f u false) (unknowns_All P f (suc u) kinds)
 unknowns_All P f u (Nonpos ∷ kinds) = All-cons P (Unknown u true) (all_unknown_columns (suc u) kinds) (f u true) (unknowns_All P f (suc u) kinds)
 
@@ -73,7 +75,8 @@ unknowns_count u (Nonneg ∷ kinds) = omega (arith, unknowns_count (suc u) kinds
 unknowns_count u (Nonpos ∷ kinds) = omega (arith, unknowns_count (suc u) kinds, sum_by-cons columns_for Nonpos kinds)
 
 -- each unknown has a column
-pub has_column : (u : ℕ) (kinds : List UnknownKind) (i : ℕ) → i < length kinds → (j : ℕ) × (b : Bool) × (j < length (all_unknown_columns u kinds)) × (kind_at (all_unknown_columns u kinds) j ≡ Unknown (u + i) b)
+pub has_column : (u : ℕ) (kinds : List UnknownKind) (i : ℕ) → i < length kinds
+    → (j : ℕ) × (b : Bool) × (j < length (all_unknown_columns u kinds)) × (kind_at (all_unknown_columns u kinds) j ≡ Unknown (u + i) b)
 has_column u [] i h = absurd (omega arith)
 has_column u (Free ∷ kinds) zero h = let e : u ≡ u + 0 = omega arith in (0, false, omega arith, ap (λ v. Unknown v false) e)
 has_column u (Nonneg ∷ kinds) zero h = let e : u ≡ u + 0 = omega arith in (0, false, omega arith, ap (λ v. Unknown v false) e)
@@ -137,7 +140,8 @@ slacks_count i [] = refl
 slacks_count i (s ∷ ss) = by s.kind (slacks_count (suc i) ss) ∙ sym (sum_by-cons (λ (r : Start). slacks_for r.kind) s ss)
   where
     by : (k : RowKind) → length (marked_from Slack (suc i) (map has_slack ss)) ≡ sum_by (λ (r : Start). slacks_for r.kind) ss
-        → length (if is_inequality k then Slack i ∷ marked_from Slack (suc i) (map has_slack ss) else marked_from Slack (suc i) (map has_slack ss)) ≡ slacks_for k + sum_by (λ (r : Start). slacks_for r.kind) ss
+        → length (if is_inequality k then Slack i ∷ marked_from Slack (suc i) (map has_slack ss) else marked_from Slack (suc i) (map has_slack ss))
+        ≡ slacks_for k + sum_by (λ (r : Start). slacks_for r.kind) ss
     by AtMost e = omega (arith, e)
     by Equal e = omega (arith, e)
 
@@ -169,7 +173,8 @@ module _ (kinds : List UnknownKind) (starts : List Start) where
   artificial = artificial_columns starts
 
   plain_are : All (λ k. is_plain k ≡ true) plain
-  plain_are = All-both (λ k. is_plain k ≡ true) (all_unknown_columns 0 kinds) (slack_columns starts) (unknowns_All (λ k. is_plain k ≡ true) (λ u b. refl) 0 kinds) (marked_All Slack (λ k. is_plain k ≡ true) (λ i. refl) 0 (map has_slack starts))
+  plain_are = All-both (λ k. is_plain k ≡ true) (all_unknown_columns 0 kinds) (slack_columns starts) (unknowns_All (λ k. is_plain k ≡ true) (λ u b. refl) 0 kinds)
+      (marked_All Slack (λ k. is_plain k ≡ true) (λ i. refl) 0 (map has_slack starts))
 
   artificial_are : All (λ k. is_plain k ≡ false) artificial
   artificial_are = marked_All Artificial (λ k. is_plain k ≡ false) (λ i. refl) 0 (map needs_artificial starts)
@@ -204,7 +209,8 @@ module _ (kinds : List UnknownKind) (starts : List Start) where
   artificial_place : (j i : ℕ) → kind_at (columns_of kinds starts) j ≡ Artificial i → (k : ℕ) × (j ≡ length plain + k) × (kind_at artificial k ≡ Artificial i)
   artificial_place j i e =
       in_second plain artificial (Artificial i) j
-      (nowhere plain (Artificial i) (λ d. cc) (All-both (λ k. k ≢ Artificial i) (all_unknown_columns 0 kinds) (slack_columns starts) (unknowns_All (λ k. k ≢ Artificial i) (λ u b d. cc) 0 kinds) (marked_All Slack (λ k. k ≢ Artificial i) (λ n d. cc) 0 (map has_slack starts)))) e
+      (nowhere plain (Artificial i) (λ d. cc) (All-both (λ k. k ≢ Artificial i) (all_unknown_columns 0 kinds) (slack_columns starts) (unknowns_All (λ k. k ≢ Artificial i) (λ u b d. cc) 0 kinds)
+      (marked_All Slack (λ k. k ≢ Artificial i) (λ n d. cc) 0 (map has_slack starts)))) e
 
   pub artificial_bound : (j i : ℕ) → kind_at (columns_of kinds starts) j ≡ Artificial i → i < length starts
   artificial_bound j i e =
@@ -243,7 +249,8 @@ module _ (kinds : List UnknownKind) (starts : List Start) where
       from_zero = omega arith
 
       by : (b : Bool) → needs_artificial s ≡ b → Contains (columns_of kinds starts) (if b then Artificial i else Slack i)
-      by true n = contains_second plain artificial (Artificial i) (subst (λ k. Contains artificial (Artificial k)) from_zero (marked_in Artificial 0 (map needs_artificial starts) i (marked_get needs_artificial starts i s e ∙ n)))
+      by true n = contains_second plain artificial (Artificial i) (subst (λ k. Contains artificial (Artificial k)) from_zero
+          (marked_in Artificial 0 (map needs_artificial starts) i (marked_get needs_artificial starts i s e ∙ n)))
       by false n =
           contains_first plain artificial (Slack i)
           (contains_second (all_unknown_columns 0 kinds) (slack_columns starts) (Slack i)

@@ -1,4 +1,4 @@
--- The lemmas.
+-- The lemmas by which the scaled program is made of its rows, and its answers are answers of the rows.
 pub mod Multiples
 pub mod Coefficients
 pub mod Numerators

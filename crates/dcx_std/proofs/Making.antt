@@ -1,5 +1,6 @@
 -- The steps by which the rows of a program are made in turn.
-use Rattle.std.proofs.Common.{◌≡◌, ℕ, zero, suc, ◌+◌, ◌<◌, ◌≤◌, List, [], ◌∷◌, ◌++◌, length, map, get_or, take, drop, Some, None, Result, Ok, Err, refl, sym, ap, ap₂, ◌∙◌, subst, arith, append_assoc, Bool, true, false}
+use Rattle.std.proofs.Common.{◌≡◌, ℕ, zero, suc, ◌+◌, ◌<◌, ◌≤◌, List, [], ◌∷◌, ◌++◌, length, map, get_or, take, drop, Some, None}
+use Rattle.std.proofs.Common.{Result, Ok, Err, refl, sym, ap, ap₂, ◌∙◌, subst, arith, append_assoc, Bool, true, false}
 use Rattle.std.specs.Prelude.{slice_get, sum_by, if◌then◌else◌}
 use Rattle.std.specs.Option.{option_map}
 use Rattle.std.specs.List.{All, Contains}
@@ -28,7 +29,7 @@ use Rattle.dcx_linear.specs.Size.{columns_for}
 use Rattle.dcx_std.specs.Size.{column_count}
 use Rattle.dcx_std.specs.WholeRows.{row_numbers, row_made}
 use Rattle.dcx_std.specs.Columns.{start_column, unknown_columns, all_unknown_columns, marked_from, columns_of, number_in}
-use Rattle.dcx_std.specs.IntegerRows.{start_of, IsMadeOf, AreMadeOf, passing_from, stop_at, result_at}
+use Rattle.dcx_std.specs.IntegerRows.{start_of, IsMadeOf, AreMadeOf, passing_from, result_at}
 use Rattle.dcx_std.specs.declared.stop.RowStop.{RowStop}
 use Rattle.dcx_std.specs.declared.stop.RowStop.TheVariants as stops
 use Rattle.dcx_std.proofs.WholeRows.{formed_by, whole_small}
@@ -54,7 +55,8 @@ passing_front i (Ok x ∷ rs) ss site e = passing_front (suc i) rs ss site e
 passing_front i (Err passes ∷ rs) ss site e = e
 
 -- a row passes behind those that are made
-pub row_passes : (n : ℕ) (rows : List (Row Frac)) (ws : List WholeRow) (i : ℕ) (row : Row Frac) (passes : Passes) → i < length rows → row ≡ get_or rows i row → map Ok ws ≡ map (row_made n) (take i rows) → row_made n row ≡ Err passes
+pub row_passes : (n : ℕ) (rows : List (Row Frac)) (ws : List WholeRow) (i : ℕ) (row : Row Frac) (passes : Passes) → i < length rows → row ≡ get_or rows i row
+    → map Ok ws ≡ map (row_made n) (take i rows) → row_made n row ≡ Err passes
     → passing_from 0 (map (row_made n) rows) ≡ Some (sites.Row i passes)
 row_passes n rows ws i row passes l is made e =
     let whole : map (row_made n) rows ≡ map Ok ws ++ Err passes ∷ map (row_made n) (drop (i + 1) rows) =
@@ -76,7 +78,8 @@ wholes_small n (r ∷ rows) (w ∷ ws) e =
     All-cons (λ (v : WholeRow). AllSmall v.numbers) w ws (whole_small r.kind r.form (row_numbers n r.form) w (formed_by r.kind r.form (row_numbers n r.form) w m)) (wholes_small n rows ws rest)
 
 -- their first basic columns are there
-pub wholes_there : (n : ℕ) (kinds : List UnknownKind) (ws : List WholeRow) (i : ℕ) (w : WholeRow) → slice_get ws i ≡ Some w → Contains (columns_of kinds (map (start_of n) ws)) (start_column i (start_of n w))
+pub wholes_there : (n : ℕ) (kinds : List UnknownKind) (ws : List WholeRow) (i : ℕ) (w : WholeRow) → slice_get ws i ≡ Some w
+    → Contains (columns_of kinds (map (start_of n) ws)) (start_column i (start_of n w))
 wholes_there n kinds ws i w e = start_there kinds (map (start_of n) ws) i (start_of n w) (slice_get-map (start_of n) ws i ∙ ap (option_map (start_of n)) e)
 
 -- each unknown has a column at least
@@ -87,7 +90,8 @@ kinds_few (Nonneg ∷ kinds) = omega (arith, kinds_few kinds, sum_by-cons column
 kinds_few (Nonpos ∷ kinds) = omega (arith, kinds_few kinds, sum_by-cons columns_for Nonpos kinds)
 
 -- there are few columns
-pub columns_few : (n : ℕ) (kinds : List UnknownKind) (rows : List (Row Frac)) (ws : List WholeRow) → map (row_made n) rows ≡ map Ok ws → length rows ≤ 600 → column_count kinds rows ≤ 2400 → length (columns_of kinds (map (start_of n) ws)) ≤ 3000
+pub columns_few : (n : ℕ) (kinds : List UnknownKind) (rows : List (Row Frac)) (ws : List WholeRow) → map (row_made n) rows ≡ map Ok ws → length rows ≤ 600 → column_count kinds rows ≤ 2400
+    → length (columns_of kinds (map (start_of n) ws)) ≤ 3000
 columns_few n kinds rows ws e few h =
     let starts = map (start_of n) ws in
     omega (arith, few_columns kinds starts, columns_count kinds starts, starts_slacks n rows ws e, length-map ws (start_of n), wholes_count n rows ws e, few, h)
@@ -98,16 +102,19 @@ made_widths columns n i [] [] h = All-nil (λ (r : IntRow). length r.entries ≡
 made_widths columns n i [] (r ∷ rs) h = absurd h
 made_widths columns n i (w ∷ ws) [] h = absurd h
 made_widths columns n i (w ∷ ws) (r ∷ rs) h =
-    All-cons (λ (s : IntRow). length s.entries ≡ length columns) r rs (ap length h.0.entries ∙ length-map columns (number_in i (start_of n w).negated w.numbers)) (made_widths columns n (suc i) ws rs h.1)
+    All-cons (λ (s : IntRow). length s.entries ≡ length columns) r rs (ap length h.0.entries ∙ length-map columns (number_in i (start_of n w).negated w.numbers))
+    (made_widths columns n (suc i) ws rs h.1)
 
 -- ---- one more row
 pub taken_more : {A : Type 0} (xs : List A) (i : ℕ) (x : A) → i < length xs → x ≡ get_or xs i x → take (i + 1) xs ≡ take i xs ++ x ∷ []
 taken_more xs i x l is = take_more xs i x l ∙ ap (λ y. take i xs ++ y ∷ []) (sym is)
 
-pub row_made_more : (columns : List ColumnKind) (n : ℕ) (ws : List WholeRow) (i : ℕ) (w : WholeRow) (rs ss : List IntRow) (r : IntRow) → i < length ws → w ≡ get_or ws i w → AreMadeOf columns n 0 (take i ws) rs → IsMadeOf columns n i w r → ss ≡ rs ++ r ∷ [] → AreMadeOf columns n 0 (take (i + 1) ws) ss
+pub row_made_more : (columns : List ColumnKind) (n : ℕ) (ws : List WholeRow) (i : ℕ) (w : WholeRow) (rs ss : List IntRow) (r : IntRow) → i < length ws → w ≡ get_or ws i w
+    → AreMadeOf columns n 0 (take i ws) rs → IsMadeOf columns n i w r → ss ≡ rs ++ r ∷ [] → AreMadeOf columns n 0 (take (i + 1) ws) ss
 row_made_more columns n ws i w rs ss r l is h m e =
     let z : i ≡ 0 + length (take i ws) = omega (arith, length-take-le i ws (omega (arith, l))) in
-    subst (λ vs. AreMadeOf columns n 0 vs ss) (sym (taken_more ws i w l is)) (subst (AreMadeOf columns n 0 (take i ws ++ w ∷ [])) (sym e) (made_more columns n 0 (take i ws) rs w r h (subst (λ k. IsMadeOf columns n k w r) z m)))
+    subst (λ vs. AreMadeOf columns n 0 vs ss) (sym (taken_more ws i w l is))
+    (subst (AreMadeOf columns n 0 (take i ws ++ w ∷ [])) (sym e) (made_more columns n 0 (take i ws) rs w r h (subst (λ k. IsMadeOf columns n k w r) z m)))
 
 -- ---- one more marked row, and one more unknown
 pub marked_more : (column : ℕ → ColumnKind) (i : ℕ) (bs : List Bool) (b : Bool) → marked_from column i (bs ++ b ∷ []) ≡ marked_from column i bs ++ (if b then column (i + length bs) ∷ [] else [])
@@ -119,15 +126,18 @@ marked_more column i [] b = by b
     by : (t : Bool) → (if t then column i ∷ [] else []) ≡ (if t then column (i + 0) ∷ [] else [])
     by true = ap (λ k. column k ∷ []) z
     by false = refl
-marked_more column i (true ∷ bs) b = let z : suc i + length bs ≡ i + suc (length bs) = omega arith in ap (λ ks. column i ∷ ks) (marked_more column (suc i) bs b ∙ ap (λ k. marked_from column (suc i) bs ++ (if b then column k ∷ [] else [])) z)
-marked_more column i (false ∷ bs) b = let z : suc i + length bs ≡ i + suc (length bs) = omega arith in marked_more column (suc i) bs b ∙ ap (λ k. marked_from column (suc i) bs ++ (if b then column k ∷ [] else [])) z
+marked_more column i (true ∷ bs) b = let z : suc i + length bs ≡ i + suc (length bs) = omega arith in
+    ap (λ ks. column i ∷ ks) (marked_more column (suc i) bs b ∙ ap (λ k. marked_from column (suc i) bs ++ (if b then column k ∷ [] else [])) z)
+marked_more column i (false ∷ bs) b = let z : suc i + length bs ≡ i + suc (length bs) = omega arith in marked_more column (suc i) bs b
+    ∙ ap (λ k. marked_from column (suc i) bs ++ (if b then column k ∷ [] else [])) z
 
 -- the columns of the rows up to one more
 pub marked_next : (column : ℕ → ColumnKind) (mark : Start → Bool) (ss : List Start) (i : ℕ) → i < length ss → (d : Start) {b : Bool} → b ≡ mark (get_or ss i d)
     → marked_from column 0 (map mark (take (i + 1) ss)) ≡ marked_from column 0 (map mark (take i ss)) ++ (if b then column i ∷ [] else [])
 marked_next column mark ss i l d {b} e =
     let z : 0 + length (map mark (take i ss)) ≡ i = omega (arith, length-map (take i ss) mark, length-take-le i ss (omega (arith, l))) in
-    ap (λ ts. marked_from column 0 (map mark ts)) (take_more ss i d l) ∙ ap (marked_from column 0) (map-append mark (take i ss) (get_or ss i d ∷ [])) ∙ marked_more column 0 (map mark (take i ss)) (mark (get_or ss i d))
+    ap (λ ts. marked_from column 0 (map mark ts)) (take_more ss i d l) ∙ ap (marked_from column 0) (map-append mark (take i ss) (get_or ss i d ∷ []))
+    ∙ marked_more column 0 (map mark (take i ss)) (mark (get_or ss i d))
     ∙ ap (λ k. marked_from column 0 (map mark (take i ss)) ++ (if mark (get_or ss i d) then column k ∷ [] else [])) z
     ∙ ap (λ t. marked_from column 0 (map mark (take i ss)) ++ (if t then column i ∷ [] else [])) (sym e)
 
@@ -135,28 +145,24 @@ unknowns_more : (u : ℕ) (kinds : List UnknownKind) (kind : UnknownKind) → al
 unknowns_more u [] kind = let z : u ≡ u + 0 = omega arith in append-nil (unknown_columns u kind) ∙ ap (λ k. unknown_columns k kind) z
 unknowns_more u (k ∷ kinds) kind =
     let z : suc u + length kinds ≡ u + suc (length kinds) = omega arith in
-    ap (λ ks. unknown_columns u k ++ ks) (unknowns_more (suc u) kinds kind ∙ ap (λ v. all_unknown_columns (suc u) kinds ++ unknown_columns v kind) z) ∙ sym (append_assoc (unknown_columns u k) (all_unknown_columns (suc u) kinds) (unknown_columns (u + suc (length kinds)) kind))
+    ap (λ ks. unknown_columns u k ++ ks) (unknowns_more (suc u) kinds kind ∙ ap (λ v. all_unknown_columns (suc u) kinds ++ unknown_columns v kind) z)
+    ∙ sym (append_assoc (unknown_columns u k) (all_unknown_columns (suc u) kinds) (unknown_columns (u + suc (length kinds)) kind))
 
 -- the columns of the unknowns up to one more
-pub unknowns_next : (kinds : List UnknownKind) (i : ℕ) (d : UnknownKind) → i < length kinds → all_unknown_columns 0 (take (i + 1) kinds) ≡ all_unknown_columns 0 (take i kinds) ++ unknown_columns i (get_or kinds i d)
+pub unknowns_next : (kinds : List UnknownKind) (i : ℕ) (d : UnknownKind) → i < length kinds
+    → all_unknown_columns 0 (take (i + 1) kinds) ≡ all_unknown_columns 0 (take i kinds) ++ unknown_columns i (get_or kinds i d)
 unknowns_next kinds i d l =
     let z : 0 + length (take i kinds) ≡ i = omega (arith, length-take-le i kinds (omega (arith, l))) in
     ap (all_unknown_columns 0) (take_more kinds i d l) ∙ unknowns_more 0 (take i kinds) (get_or kinds i d) ∙ ap (λ k. all_unknown_columns 0 (take i kinds) ++ unknown_columns k (get_or kinds i d)) z
 
 -- the columns with those of one more unknown
-pub unknown_step : (kinds : List UnknownKind) (i : ℕ) (d : UnknownKind) (old now new : List ColumnKind) → i < length kinds → now ≡ old ++ all_unknown_columns 0 (take i kinds) → new ≡ now ++ unknown_columns i (get_or kinds i d) → new ≡ old ++ all_unknown_columns 0 (take (i + 1) kinds)
+pub unknown_step : (kinds : List UnknownKind) (i : ℕ) (d : UnknownKind) (old now new : List ColumnKind) → i < length kinds → now ≡ old ++ all_unknown_columns 0 (take i kinds)
+    → new ≡ now ++ unknown_columns i (get_or kinds i d) → new ≡ old ++ all_unknown_columns 0 (take (i + 1) kinds)
 unknown_step kinds i d old now new l h e =
-    e ∙ ap (λ a. a ++ unknown_columns i (get_or kinds i d)) h ∙ append_assoc old (all_unknown_columns 0 (take i kinds)) (unknown_columns i (get_or kinds i d)) ∙ ap (λ a. old ++ a) (sym (unknowns_next kinds i d l))
+    e ∙ ap (λ a. a ++ unknown_columns i (get_or kinds i d)) h ∙ append_assoc old (all_unknown_columns 0 (take i kinds)) (unknown_columns i (get_or kinds i d))
+    ∙ ap (λ a. old ++ a) (sym (unknowns_next kinds i d l))
 
 -- ---- results at a row
-pub result_ok : {T : Type 0} (row : ℕ) (r : Result T CoefStop) (x : T) → result_at row r ≡ Ok x → r ≡ Ok x
-result_ok row (Ok y) x e = let d : y ≡ x = cc in ap Ok d
-result_ok row (Err stop) x e = cc
-
-pub result_err : {T : Type 0} (row : ℕ) (r : Result T CoefStop) (e : RowStop) → result_at row r ≡ Err e → (stop : CoefStop) × (r ≡ Err stop) × (e ≡ stop_at row stop)
-result_err row (Ok y) e h = cc
-result_err row (Err stop) e h = let d : stop_at row stop ≡ e = cc in (stop, refl, sym d)
-
 -- what a stop at a row says where the operation has one answer
 pub stops_so : {T : Type 0} (row : ℕ) (r : Result T CoefStop) (e : RowStop) (P : RowStop → Type 0) (formed : Result T Passes) → result_at row r ≡ Err e → Gives r (λ a. a ≡ formed) → P stops.Memory
     → ((passes : Passes) → formed ≡ Err passes → P (stops.Wide (sites.Row row passes))) → P e
@@ -170,10 +176,12 @@ gives_so row (Ok y) x formed h g = let d : y ≡ x = cc in sym g ∙ ap Ok d
 gives_so row (Err stop) x formed h g = cc
 
 -- ---- one more row is made
-pub made_next : (n : ℕ) (rows : List (Row Frac)) (i : ℕ) (row : Row Frac) (ws vs : List WholeRow) (w : WholeRow) → i < length rows → row ≡ get_or rows i row → map Ok ws ≡ map (row_made n) (take i rows) → row_made n row ≡ Ok w → vs ≡ ws ++ w ∷ []
+pub made_next : (n : ℕ) (rows : List (Row Frac)) (i : ℕ) (row : Row Frac) (ws vs : List WholeRow) (w : WholeRow) → i < length rows → row ≡ get_or rows i row
+    → map Ok ws ≡ map (row_made n) (take i rows) → row_made n row ≡ Ok w → vs ≡ ws ++ w ∷ []
     → map Ok vs ≡ map (row_made n) (take (i + 1) rows)
 made_next n rows i row ws vs w l is made e v =
-    ap (map {B = Result WholeRow Passes} Ok) v ∙ map-append {B = Result WholeRow Passes} Ok ws (w ∷ []) ∙ ap₂ (λ a b. a ++ b ∷ []) made (sym e) ∙ sym (map-append (row_made n) (take i rows) (row ∷ [])) ∙ ap (map (row_made n)) (sym (taken_more rows i row l is))
+    ap (map {B = Result WholeRow Passes} Ok) v ∙ map-append {B = Result WholeRow Passes} Ok ws (w ∷ []) ∙ ap₂ (λ a b. a ++ b ∷ []) made (sym e)
+    ∙ sym (map-append (row_made n) (take i rows) (row ∷ [])) ∙ ap (map (row_made n)) (sym (taken_more rows i row l is))
 
 -- a row of the rows is no wider than they are
 pub row_narrow : (rows : List (Row Frac)) (n i : ℕ) (row : Row Frac) → rows_width rows ≤ n → slice_get rows i ≡ Some row → form_width row.form ≤ n
@@ -182,7 +190,8 @@ row_narrow (r ∷ rows) n zero row h e = let d : r ≡ row = cc in subst (λ (s 
 row_narrow (r ∷ rows) n (suc i) row h e = row_narrow rows n i row (omega (arith, h)) e
 
 -- the rows' numbers are small
-pub made_smalls : (columns : List ColumnKind) (n i : ℕ) (ws : List WholeRow) (rs : List IntRow) → AreMadeOf columns n i ws rs → All (λ w. AllSmall w.numbers) ws → All (λ r. AllSmall (r.entries ++ r.right ∷ [])) rs
+pub made_smalls : (columns : List ColumnKind) (n i : ℕ) (ws : List WholeRow) (rs : List IntRow) → AreMadeOf columns n i ws rs → All (λ w. AllSmall w.numbers) ws
+    → All (λ r. AllSmall (r.entries ++ r.right ∷ [])) rs
 made_smalls columns n i [] [] h k = All-nil (λ (r : IntRow). AllSmall (r.entries ++ r.right ∷ []))
 made_smalls columns n i [] (r ∷ rs) h k = absurd h
 made_smalls columns n i (w ∷ ws) [] h k = absurd h

@@ -1,7 +1,8 @@
 -- Least common multiples, one after another, and whole numbers as fractions.
-use Rattle.std.proofs.Common.{◌≡◌, ℕ, ◌+◌, ◌*◌, ◌/◌, ◌<◌, ◌^◌, Bool, true, false, nat_lt, if◌then◌else◌, List, [], ◌∷◌, ◌++◌, map, length, get_or, drop, Result, Ok, Err, refl, sym, ap, ◌∙◌, subst, ℤ, pos, negsuc, ◌<ℤ◌, unsigned_abs, arith, lit<}
+use Rattle.std.proofs.Common.{◌≡◌, ℕ, ◌+◌, ◌*◌, ◌/◌, ◌<◌, ◌^◌, Bool, true, false, nat_lt, if◌then◌else◌, List, [], ◌∷◌, ◌++◌, map, length, get_or}
+use Rattle.std.proofs.Common.{drop, Result, Ok, Err, refl, sym, ap, ◌∙◌, subst, ℤ, pos, negsuc, ◌<ℤ◌, unsigned_abs, arith, lit<}
 use Rattle.std.proofs.lemmas.Int.{ints}
-use Rattle.std.proofs.lemmas.Bool.{ltb-true, lt-ltb, le-ltb}
+use Rattle.std.proofs.lemmas.Bool.{ltb-true}
 use Rattle.std.specs.List.{All}
 use Rattle.std.proofs.lemmas.List.Elements.{All-head, All-tail, All-cons, All-nil}
 use native.Mathlib.Nat.{eq-one_of_dvd-one}
@@ -38,16 +39,10 @@ multiple_fits a b c e = by (nat_lt (lcm a b) (2 ^ 127)) refl e
     by true is e = let d : lcm a b ≡ c = cc in subst (λ n. n < 2 ^ 127) d (ltb-true (lcm a b) (2 ^ 127) is)
     by false is e = cc
 
--- the answer where the multiple fits, and where it doesn't
-pub gives_multiple : (a b : ℕ) → lcm a b < 2 ^ 127 → lcm_gives a b ≡ Ok (lcm a b)
-gives_multiple a b h = rw (lt-ltb (lcm a b) (2 ^ 127) h) refl
-
-pub gives_passes : (a b : ℕ) → ¬ (lcm a b < 2 ^ 127) → lcm_gives a b ≡ Err (record { op = Lcm; left = frac_at (whole (pos a)); right = frac_at (whole (pos b)) })
-gives_passes a b h = rw (le-ltb (lcm a b) (2 ^ 127) (omega (arith, h))) refl
-
 -- the next denominator, and then those behind it
 pub multiple_next : (a : ℕ) (ts : List (FormTerm Frac)) (ds : List ℕ) (i : ℕ) (t : FormTerm Frac) → i < length ts → t ≡ get_or ts i t
-    → multiple_from a (map (λ u. denominator_of u.coefficient) (drop i ts) ++ ds) ≡ and_then (lcm_gives a (denominator_of t.coefficient)) (λ c. multiple_from c (map (λ u. denominator_of u.coefficient) (drop (i + 1) ts) ++ ds))
+    → multiple_from a (map (λ u. denominator_of u.coefficient) (drop i ts) ++ ds)
+    ≡ and_then (lcm_gives a (denominator_of t.coefficient)) (λ c. multiple_from c (map (λ u. denominator_of u.coefficient) (drop (i + 1) ts) ++ ds))
 multiple_next a ts ds i t lt is = ap (λ r. multiple_from a (map (λ u. denominator_of u.coefficient) r ++ ds)) (drop_at ts i t lt is)
 
 -- nothing follows the last number
@@ -92,7 +87,8 @@ pub multiple_is_one : (a : ℕ) (ds : List ℕ) (m : ℕ) → 0 < a → a < 2 ^ 
 multiple_is_one a [] m p s h e = let d : a ≡ m = cc in record { positive = omega (arith, p, d); small = omega (arith, s, d); first = subst (λ n. a ∣ n) d (dvd_refl a); others = All-nil (λ n. n ∣ m) }
 multiple_is_one a (d ∷ ds) m p s h e = by (lcm_gives a d) refl e (λ c q k f. multiple_is_one c ds m q k (All-tail (λ n. 0 < n) d ds h) f)
   where
-    by : (r : Result ℕ Passes) → lcm_gives a d ≡ r → and_then r (λ c. multiple_from c ds) ≡ Ok m → ((c : ℕ) → 0 < c → c < 2 ^ 127 → multiple_from c ds ≡ Ok m → IsMultiple c ds m) → IsMultiple a (d ∷ ds) m
+    by : (r : Result ℕ Passes) → lcm_gives a d ≡ r → and_then r (λ c. multiple_from c ds) ≡ Ok m → ((c : ℕ) → 0 < c → c < 2 ^ 127 → multiple_from c ds ≡ Ok m → IsMultiple c ds m)
+        → IsMultiple a (d ∷ ds) m
     by (Err passes) g e next = cc
     by (Ok c) g e next =
         let v = multiple_value a d c g in
@@ -115,7 +111,8 @@ denominator_positive x = size_positive x.den x.positive
 -- all denominators of a form are positive
 denominators_positive : (ts : List (FormTerm Frac)) (x : Frac) → All (λ d. 0 < d) (map (λ t. denominator_of t.coefficient) ts ++ denominator_of x ∷ [])
 denominators_positive [] x = All-cons (λ d. 0 < d) (denominator_of x) [] (denominator_positive x) (All-nil (λ d. 0 < d))
-denominators_positive (t ∷ ts) x = All-cons (λ d. 0 < d) (denominator_of t.coefficient) (map (λ u. denominator_of u.coefficient) ts ++ denominator_of x ∷ []) (denominator_positive t.coefficient) (denominators_positive ts x)
+denominators_positive (t ∷ ts) x =
+    All-cons (λ d. 0 < d) (denominator_of t.coefficient) (map (λ u. denominator_of u.coefficient) ts ++ denominator_of x ∷ []) (denominator_positive t.coefficient) (denominators_positive ts x)
 
 -- the multiple of a form
 pub multiple_of_is : (f : Form Frac) (m : ℕ) → multiple_of f ≡ Ok m → IsMultiple 1 (denominators f) m

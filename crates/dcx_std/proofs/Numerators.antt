@@ -1,5 +1,5 @@
 -- Numbers that are formed one after the other.
-use Rattle.std.proofs.Common.{◌≡◌, ℕ, zero, suc, ◌+◌, ◌-◌, ◌<◌, ◌≤◌, List, [], ◌∷◌, ◌++◌, map, length, Result, Ok, Err, refl, sym, ap, ◌∙◌, append_assoc, ℤ, pos, lit<, arith}
+use Rattle.std.proofs.Common.{◌≡◌, ℕ, zero, suc, ◌+◌, ◌-◌, ◌<◌, List, [], ◌∷◌, ◌++◌, map, length, Result, Ok, Err, refl, sym, ap, ◌∙◌, append_assoc, ℤ, pos, lit<, arith}
 use Rattle.std.specs.List.{range_with_len}
 use Rattle.std.proofs.lemmas.List.{append-nil, length-map}
 use native.Mathlib.Nat.{eq-one_of_dvd-one}
@@ -38,9 +38,6 @@ module _ {A : Type 0} (f : A → Result Frac Passes) where
 -- the numbers from a place on
 pub range_next : (i n : ℕ) → i < n → range_with_len i (n - i) ≡ i ∷ range_with_len (i + 1) (n - (i + 1))
 range_next i n h = let e : n - i ≡ suc (n - (i + 1)) = omega arith in ap (range_with_len i) e
-
-pub range_none : (i n : ℕ) → n ≤ i → range_with_len i (n - i) ≡ []
-range_none i n h = let e : n - i ≡ 0 = omega arith in ap (range_with_len i) e
 
 -- ---- what is formed
 -- what passes forms no value

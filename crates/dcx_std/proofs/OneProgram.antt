@@ -80,20 +80,23 @@ record SameRows (columns other_columns : List ColumnKind) (ints other_ints : Lis
   columns_are : columns ≡ other_columns
   ints_are : ints ≡ other_ints
 
-same_rows : (rows : GivenRows) (columns other_columns : List ColumnKind) (ints other_ints : List IntRow) → HasIntegerRows rows columns ints → HasIntegerRows rows other_columns other_ints → SameRows columns other_columns ints other_ints
+same_rows : (rows : GivenRows) (columns other_columns : List ColumnKind) (ints other_ints : List IntRow) → HasIntegerRows rows columns ints → HasIntegerRows rows other_columns other_ints
+    → SameRows columns other_columns ints other_ints
 same_rows rows columns other_columns ints other_ints h k =
     let n = length rows.kinds in
     let made : h.made ≡ k.made = one_made h.made k.made (sym h.are ∙ k.are) in
     let first : AreMadeOf (columns_of rows.kinds (map (start_of n) h.made)) n 0 h.made ints = subst (λ ks. AreMadeOf ks n 0 h.made ints) h.has_columns h.ints_are in
     let second : AreMadeOf (columns_of rows.kinds (map (start_of n) k.made)) n 0 k.made other_ints = subst (λ ks. AreMadeOf ks n 0 k.made other_ints) k.has_columns k.ints_are in
-    let again : AreMadeOf (columns_of rows.kinds (map (start_of n) h.made)) n 0 h.made other_ints = subst (λ ws. AreMadeOf (columns_of rows.kinds (map (start_of n) ws)) n 0 ws other_ints) (sym made) second in
+    let again : AreMadeOf (columns_of rows.kinds (map (start_of n) h.made)) n 0 h.made other_ints =
+    subst (λ ws. AreMadeOf (columns_of rows.kinds (map (start_of n) ws)) n 0 ws other_ints) (sym made) second in
     record {
       columns_are = h.has_columns ∙ ap (λ ws. columns_of rows.kinds (map (start_of n) ws)) made ∙ sym k.has_columns;
       ints_are = one_rows rows.kinds (map (start_of n) h.made) n 0 h.made ints other_ints first again;
     }
 
 -- and one phase 1 row, or one operation that passes in it
-same_phase : (columns other_columns : List ColumnKind) (ints other_ints : List IntRow) → SameRows columns other_columns ints other_ints → phase_made (plain_count columns) (length columns) ints ≡ phase_made (plain_count other_columns) (length other_columns) other_ints
+same_phase : (columns other_columns : List ColumnKind) (ints other_ints : List IntRow) → SameRows columns other_columns ints other_ints
+    → phase_made (plain_count columns) (length columns) ints ≡ phase_made (plain_count other_columns) (length other_columns) other_ints
 same_phase columns other_columns ints other_ints same = ap₂ (λ ks rs. phase_made (plain_count ks) (length ks) rs) same.columns_are same.ints_are
 
 -- programs of the same parts are one, since the form has one proof

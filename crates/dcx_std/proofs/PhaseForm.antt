@@ -1,5 +1,6 @@
 -- The phase 1 row adds up the rows that start with an artificial.
-use Rattle.std.proofs.Common.{◌≡◌, ℕ, zero, suc, ◌+◌, ◌-◌, ◌<◌, ◌≤◌, ◌^◌, Bool, true, false, List, [], ◌∷◌, ◌++◌, map, length, get_or, drop, Result, Ok, Err, refl, sym, ap, ap₂, ◌∙◌, subst, ℤ, pos, unsigned_abs, lit<, arith}
+use Rattle.std.proofs.Common.{◌≡◌, ℕ, zero, suc, ◌+◌, ◌-◌, ◌<◌, ◌≤◌, ◌^◌, Bool, true, false, List, [], ◌∷◌, ◌++◌, map, length, get_or}
+use Rattle.std.proofs.Common.{drop, Result, Ok, Err, refl, sym, ap, ap₂, ◌∙◌, subst, ℤ, pos, unsigned_abs, lit<, arith}
 use Rattle.std.specs.Prelude.{nat_le, if◌then◌else◌, filter, replicate, ◌+ℤ◌}
 use Rattle.std.specs.List.{All, range_with_len}
 use Rattle.std.proofs.lemmas.List.{length-map, length-append, length-replicate, get_or_append_left, get_or-append_right, get_or-map, get_or_at}
@@ -54,13 +55,15 @@ started_sum plain f (r ∷ rs) = by (nat_le plain r.basic) (started_sum plain f 
     by false rest = rest ∙ sym (+ℤ_idl (sum_started plain f rs))
 
 -- the whole numbers of the started rows are small
-started_small : (plain j : ℕ) (rows : List IntRow) → All (λ r. AllSmall (r.entries ++ r.right ∷ [])) rows → All (λ z. unsigned_abs z < 2 ^ 127) (map (number_at j) (filter (starts_artificial plain) rows))
+started_small : (plain j : ℕ) (rows : List IntRow) → All (λ r. AllSmall (r.entries ++ r.right ∷ [])) rows
+    → All (λ z. unsigned_abs z < 2 ^ 127) (map (number_at j) (filter (starts_artificial plain) rows))
 started_small plain j [] h = All-nil (λ z. unsigned_abs z < 2 ^ 127)
 started_small plain j (r ∷ rs) h = by (nat_le plain r.basic) (started_small plain j rs (All-tail (λ s. AllSmall (s.entries ++ s.right ∷ [])) r rs h))
   where
     by : (b : Bool) → All (λ z. unsigned_abs z < 2 ^ 127) (map (number_at j) (filter (starts_artificial plain) rs))
         → All (λ z. unsigned_abs z < 2 ^ 127) (map (number_at j) (if b then r ∷ filter (starts_artificial plain) rs else filter (starts_artificial plain) rs))
-    by true small = All-cons (λ z. unsigned_abs z < 2 ^ 127) (number_at j r) (map (number_at j) (filter (starts_artificial plain) rs)) (All-head (λ s. AllSmall (s.entries ++ s.right ∷ [])) r rs h j) small
+    by true small = All-cons (λ z. unsigned_abs z < 2 ^ 127) (number_at j r) (map (number_at j) (filter (starts_artificial plain) rs))
+        (All-head (λ s. AllSmall (s.entries ++ s.right ∷ [])) r rs h j) small
     by false small = small
 
 map_both : {A B C : Type 0} (f : B → C) (g : A → B) (xs : List A) → map (λ x. f (g x)) xs ≡ map f (map g xs)
@@ -96,7 +99,8 @@ phase_parts plain width rows c e = by (numerators (map (column_sum plain rows) (
 
 -- the numerator of one of the formed numbers
 numerator_at : (rs : List (Result Frac Passes)) (ys : List Frac) (j : ℕ) → rs ≡ map Ok ys → j < length rs → (y : Frac) × (get_or rs j (Ok zero_frac) ≡ Ok y) × (get_or ys j zero_frac ≡ y)
-numerator_at rs ys j e l = (get_or ys j zero_frac, ap (λ s. get_or s j (Ok zero_frac)) e ∙ get_or-map Ok ys j zero_frac (Ok zero_frac) (subst (λ n. j < n) (ap length e ∙ length-map {B = Result Frac Passes} ys Ok) l), refl)
+numerator_at rs ys j e l =
+    (get_or ys j zero_frac, ap (λ s. get_or s j (Ok zero_frac)) e ∙ get_or-map Ok ys j zero_frac (Ok zero_frac) (subst (λ n. j < n) (ap length e ∙ length-map {B = Result Frac Passes} ys Ok) l), refl)
 
 zeros_at : (n j : ℕ) → entry (replicate n (pos 0)) j ≡ pos 0
 zeros_at zero j = refl
@@ -131,7 +135,8 @@ module _ (kinds : List ColumnKind) (rows : List IntRow) (c : CostRow) (below : p
   sum_at : (j : ℕ) → j < plain → entry parts.sums j ≡ sum_started plain (number_at j) rows
   sum_at j l =
       let f = formed_numerators (map (column_sum (plain_count kinds) rows) (range_with_len 0 (plain_count kinds))) parts.sums parts.sums_are in
-      let e : get_or (map (column_sum plain rows) (range_with_len 0 plain)) j (Ok zero_frac) ≡ column_sum plain rows j = get_or-map-range_with_len (column_sum plain rows) 0 plain j j (Ok zero_frac) l (from_zero j) in
+      let e : get_or (map (column_sum plain rows) (range_with_len 0 plain)) j (Ok zero_frac) ≡ column_sum plain rows j =
+      get_or-map-range_with_len (column_sum plain rows) 0 plain j j (Ok zero_frac) l (from_zero j) in
       let n = numerator_at _ f.fractions j f.are (subst (λ n. j < n) (sym (length-map-range_with_len (column_sum plain rows) 0 plain)) l) in
       let count : length f.fractions ≡ plain = sym (length-map f.fractions num_of) ∙ sym (ap length f.numerators) ∙ sums_count in
       ap (λ zs. entry zs j) f.numerators ∙ get_or-map num_of f.fractions j zero_frac (pos 0) (subst (λ n. j < n) (sym count) l) ∙ ap num_of n.2 ∙ column_sum_is plain j rows n.0 small (sym e ∙ n.1)
@@ -143,7 +148,8 @@ module _ (kinds : List ColumnKind) (rows : List IntRow) (c : CostRow) (below : p
       by [] h = refl
       by (r ∷ rs) h =
           let w : length r.entries ≡ length kinds = All-head (λ s. length s.entries ≡ length kinds) r rs h in
-          ap₂ ◌+ℤ◌ (ap (λ z. if nat_le plain r.basic then z else pos 0) (get_or_append_left r.entries (r.right ∷ []) (pos 0) j (subst (λ n. j < n) (sym w) l))) (by rs (All-tail (λ s. length s.entries ≡ length kinds) r rs h))
+          ap₂ ◌+ℤ◌ (ap (λ z. if nat_le plain r.basic then z else pos 0) (get_or_append_left r.entries (r.right ∷ []) (pos 0) j (subst (λ n. j < n) (sym w) l)))
+          (by rs (All-tail (λ s. length s.entries ≡ length kinds) r rs h))
 
   same_rights : sum_started plain (number_at (length kinds)) rows ≡ sum_started plain right_of rows
   same_rights = by rows widths
@@ -161,10 +167,15 @@ module _ (kinds : List ColumnKind) (rows : List IntRow) (c : CostRow) (below : p
   phase_form = record {
     width = ap length entries_are ∙ filled_count parts.sums plain (length kinds) sums_count below;
     small =
-        AllSmall-++ c.entries (pos 0 ∷ c.lead ∷ c.right ∷ []) (subst AllSmall (sym entries_are) (AllSmall-++ parts.sums (replicate (length kinds - plain) (pos 0)) (numerators_small (map (column_sum (plain_count kinds) rows) (range_with_len 0 (plain_count kinds))) parts.sums parts.sums_are) (zeros_small (length kinds - plain))))
-        (small_ends (pos 0) c.lead c.right (lit< tt) (subst (λ z. unsigned_abs z < 2 ^ 127) (sym (ap (λ (d : CostRow). d.lead) parts.is)) (lit< tt)) (subst (λ z. unsigned_abs z < 2 ^ 127) (sym (ap (λ (d : CostRow). d.right) parts.is)) parts.last.num_fits));
-    plain = λ j l. ap (λ zs. entry zs j) entries_are ∙ get_or_append_left parts.sums (replicate (length kinds - plain) (pos 0)) (pos 0) j (subst (λ n. j < n) (sym sums_count) l) ∙ sum_at j l ∙ same_numbers j (below_larger j plain (length kinds) l below);
-    artificial = λ j l k. ap (λ zs. entry zs j) entries_are ∙ get_or-append_right parts.sums (replicate (length kinds - plain) (pos 0)) plain j (pos 0) sums_count l ∙ zeros_at (length kinds - plain) (j - plain);
+        AllSmall-++ c.entries (pos 0 ∷ c.lead ∷ c.right ∷ []) (subst AllSmall (sym entries_are)
+        (AllSmall-++ parts.sums (replicate (length kinds - plain) (pos 0))
+        (numerators_small (map (column_sum (plain_count kinds) rows) (range_with_len 0 (plain_count kinds))) parts.sums parts.sums_are) (zeros_small (length kinds - plain))))
+        (small_ends (pos 0) c.lead c.right (lit< tt) (subst (λ z. unsigned_abs z < 2 ^ 127) (sym (ap (λ (d : CostRow). d.lead) parts.is)) (lit< tt))
+        (subst (λ z. unsigned_abs z < 2 ^ 127) (sym (ap (λ (d : CostRow). d.right) parts.is)) parts.last.num_fits));
+    plain = λ j l. ap (λ zs. entry zs j) entries_are ∙ get_or_append_left parts.sums (replicate (length kinds - plain) (pos 0)) (pos 0) j (subst (λ n. j < n) (sym sums_count) l) ∙ sum_at j l
+        ∙ same_numbers j (below_larger j plain (length kinds) l below);
+    artificial = λ j l k. ap (λ zs. entry zs j) entries_are ∙ get_or-append_right parts.sums (replicate (length kinds - plain) (pos 0)) plain j (pos 0) sums_count l
+        ∙ zeros_at (length kinds - plain) (j - plain);
     lead = ap (λ (d : CostRow). d.lead) parts.is;
     right = ap (λ (d : CostRow). d.right) parts.is ∙ column_sum_is plain (length kinds) rows parts.last small parts.last_is ∙ same_rights;
   }
@@ -174,9 +185,12 @@ module _ (kinds : List ColumnKind) (rows : List IntRow) (c : CostRow) (below : p
 pub started_next : (plain j : ℕ) (x : Frac) (rows : List IntRow) (i : ℕ) (r : IntRow) → i < length rows → r ≡ get_or rows i r
     → sum_from x (map frac_at (map (λ (s : IntRow). whole (number_at j s)) (filter (starts_artificial plain) (drop i rows))))
     ≡ and_then (added_number plain j x r) (λ z. sum_from z (map frac_at (map (λ (s : IntRow). whole (number_at j s)) (filter (starts_artificial plain) (drop (i + 1) rows)))))
-started_next plain j x rows i r l is = ap (λ ds. sum_from x (map frac_at (map (λ (s : IntRow). whole (number_at j s)) (filter (starts_artificial plain) ds)))) (drop_at rows i r l is) ∙ by (nat_le plain r.basic)
+started_next plain j x rows i r l is = ap (λ ds. sum_from x (map frac_at (map (λ (s : IntRow). whole (number_at j s)) (filter (starts_artificial plain) ds)))) (drop_at rows i r l is)
+    ∙ by (nat_le plain r.basic)
   where
-    by : (b : Bool) → sum_from x (map frac_at (map (λ (s : IntRow). whole (number_at j s)) (if b then r ∷ filter (starts_artificial plain) (drop (i + 1) rows) else filter (starts_artificial plain) (drop (i + 1) rows))))
-        ≡ and_then (if b then sum_of x (frac_at (whole (number_at j r))) else Ok x) (λ z. sum_from z (map frac_at (map (λ (s : IntRow). whole (number_at j s)) (filter (starts_artificial plain) (drop (i + 1) rows)))))
+    by : (b : Bool) → sum_from x
+        (map frac_at (map (λ (s : IntRow). whole (number_at j s)) (if b then r ∷ filter (starts_artificial plain) (drop (i + 1) rows) else filter (starts_artificial plain) (drop (i + 1) rows))))
+        ≡ and_then (if b then sum_of x (frac_at (whole (number_at j r))) else Ok x)
+        (λ z. sum_from z (map frac_at (map (λ (s : IntRow). whole (number_at j s)) (filter (starts_artificial plain) (drop (i + 1) rows)))))
     by true = refl
     by false = refl

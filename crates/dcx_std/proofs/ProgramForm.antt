@@ -58,10 +58,6 @@ short_small (y ∷ zs) z h zero = h 0
 short_small (y ∷ zs) z h (suc j) = short_small zs z (λ i. h (suc i)) j
 
 -- ---- the whole rows of the rows
--- a row with a whole row
-pub record IsWholeOf (n : ℕ) (r : Row Frac) (w : WholeRow) : Type 0 where
-  pub made : row_made n r ≡ Ok w
-
 pub whole_of : (n : ℕ) (rows : List (Row Frac)) (ws : List WholeRow) (i : ℕ) (w : WholeRow) → map (row_made n) rows ≡ map Ok ws → slice_get ws i ≡ Some w → (r : Row Frac) × (slice_get rows i ≡ Some r) × (row_made n r ≡ Ok w)
 whole_of n [] [] i w e s = cc
 whole_of n [] (v ∷ ws) i w e s = cc

@@ -18,7 +18,8 @@ use Rattle.dcx_lp_answer.specs.declared.answer.LpStatus.{LpStatus}
 use Rattle.dcx_lp_answer.specs.declared.answer.LpStatus.TheVariants as status
 use Rattle.dcx_lp_answer.specs.declared.answer.LpAnswer.{LpAnswer}
 use Rattle.dcx_lp_answer.specs.Notes.{numbers}
-use Rattle.dcx_lp_answer.specs.Right.{cost_at_columns, form_at, multiplier_at, combined_rows, IsOneSided, HasSigns, IsAssignment, IsOptimalAnswer, IsInfeasibleAnswer, IsUnboundedAnswer, IsRightAs, IsRight}
+use Rattle.dcx_lp_answer.specs.Right.{cost_at_columns, form_at, multiplier_at, combined_rows, IsOneSided, HasSigns, IsAssignment}
+use Rattle.dcx_lp_answer.specs.Right.{IsOptimalAnswer, IsInfeasibleAnswer, IsUnboundedAnswer, IsRightAs, IsRight}
 use Rattle.dcx_std.specs.GivenRows.{GivenRows}
 use Rattle.dcx_std.specs.ScaledProgram.{IsScaledProgram}
 use Rattle.dcx_std.specs.Solutions.{form_number, row_at, linear_program, unknowns_at, HasKinds}
@@ -37,12 +38,14 @@ same_unknowns : (x y : Unknowns) → ((u : ℕ) → x u ≡ y u) → x ≡ y
 same_unknowns x y e = λ i u. e u i
 
 -- the rows with their multipliers as a sum over their numbers
-pub combined_sum : (m : ℕ → ℚ) (i : ℕ) (rs : List RowAt) (x : Unknowns) (f : ℕ → ℚ) → ((k : ℕ) (r : RowAt) → slice_get rs k ≡ Some r → r.number x ≡ f k) → combined_from m i rs x ≡ rat_sum_below (length rs) (λ k. m (i + k) *ℚ f k)
+pub combined_sum : (m : ℕ → ℚ) (i : ℕ) (rs : List RowAt) (x : Unknowns) (f : ℕ → ℚ) → ((k : ℕ) (r : RowAt) → slice_get rs k ≡ Some r → r.number x ≡ f k)
+    → combined_from m i rs x ≡ rat_sum_below (length rs) (λ k. m (i + k) *ℚ f k)
 combined_sum m i [] x f h = refl
 combined_sum m i (r ∷ rs) x f h =
     let z : i ≡ i + 0 = omega arith in
     ap₂ (λ a b. a +ℚ b) (ap₂ ◌*ℚ◌ (ap m z) (h 0 r refl))
-    (combined_sum m (suc i) rs x (λ k. f (suc k)) (λ k s e. h (suc k) s e) ∙ rat_sum_below-same (length rs) _ (λ k. m (i + suc k) *ℚ f (suc k)) (λ k l. let e : suc i + k ≡ i + suc k = omega arith in ap (λ j. m j *ℚ f (suc k)) e))
+    (combined_sum m (suc i) rs x (λ k. f (suc k)) (λ k s e. h (suc k) s e)
+    ∙ rat_sum_below-same (length rs) _ (λ k. m (i + suc k) *ℚ f (suc k)) (λ k l. let e : suc i + k ≡ i + suc k = omega arith in ap (λ j. m j *ℚ f (suc k)) e))
     ∙ sym (rat_sum_below-first (length rs) (λ k. m (i + k) *ℚ f k))
 
 module _ (rows : GivenRows) (q : Program) (known : HasKinds rows) (s : IsScaledProgram rows q) (a : LpAnswer) where
@@ -83,7 +86,8 @@ module _ (rows : GivenRows) (q : Program) (known : HasKinds rows) (s : IsScaledP
   combined_is y h =
       let count : length q.rows ≡ length (map row_at rows.rows) = s.count ∙ sym (length-map rows.rows row_at) in
       ap (λ n. rat_sum_below n (λ i. multiplier_at q.columns a i *ℚ form_at q i (assignment q.columns none y))) count
-      ∙ rat_sum_below-same (length (map row_at rows.rows)) _ (λ k. multiplier_at q.columns a (0 + k) *ℚ form_at q k (assignment q.columns none y)) (λ k l. let e : k ≡ 0 + k = omega arith in ap (λ i. multiplier_at q.columns a i *ℚ form_at q k (assignment q.columns none y)) e)
+      ∙ rat_sum_below-same (length (map row_at rows.rows)) _ (λ k. multiplier_at q.columns a (0 + k) *ℚ form_at q k (assignment q.columns none y))
+      (λ k l. let e : k ≡ 0 + k = omega arith in ap (λ i. multiplier_at q.columns a i *ℚ form_at q k (assignment q.columns none y)) e)
       ∙ sym (combined_sum (multiplier_at q.columns a) 0 (map row_at rows.rows) y (λ k. form_at q k (assignment q.columns none y)) (number_of y h))
 
   signs_are : HasSigns q a → HaveSigns (linear_program rows) (multiplier_at q.columns a)
@@ -112,9 +116,11 @@ module _ (rows : GivenRows) (q : Program) (known : HasKinds rows) (s : IsScaledP
     bound = λ y h. subst (λ z. value a.number ≤ℚ z) (combined_is y h) (o.bound (assignment q.columns none y) (assignment_is y));
   }
 
-  unbounded_of : IsUnboundedAnswer q a → linear_rows.IsUnbounded (linear_program rows) (unknowns_at q.columns (numbers a.columns)) (unknowns_at q.columns (numbers a.ray)) (value a.number) (value a.slope)
+  unbounded_of : IsUnboundedAnswer q a → linear_rows.IsUnbounded (linear_program rows) (unknowns_at q.columns (numbers a.columns)) (unknowns_at q.columns (numbers a.ray)) (value a.number)
+      (value a.slope)
   unbounded_of o =
-      let along_is : (k : ℚ) → unknowns_at q.columns (along (numbers a.columns) k (numbers a.ray)) ≡ (λ u. unknowns_at q.columns (numbers a.columns) u +ℚ k *ℚ unknowns_at q.columns (numbers a.ray) u) =
+      let along_is : (k : ℚ) → unknowns_at q.columns (along (numbers a.columns) k (numbers a.ray))
+      ≡ (λ u. unknowns_at q.columns (numbers a.columns) u +ℚ k *ℚ unknowns_at q.columns (numbers a.ray) u) =
       λ k. same_unknowns _ _ (unknowns-along q.columns (numbers a.columns) k (numbers a.ray)) in
       record {
         falls = o.slope;

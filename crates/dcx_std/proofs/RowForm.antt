@@ -135,7 +135,8 @@ module _ (columns : List ColumnKind) (n i : ℕ) (w : WholeRow) (r : IntRow) (ma
     width = row_width;
     small = row_small;
     right = subst (λ z. pos 0 ≤ℤ z) (sym made.right) (not_below (entry w.numbers n));
-    told = λ j l. entry_is j l ∙ told_number i negated w.numbers (kind_at columns j) ∙ ap (λ b. told_entry i b (kind_at columns j) (number_in i negated w.numbers (kind_at columns j))) (sym made.negated)
+    told = λ j l. entry_is j l ∙ told_number i negated w.numbers (kind_at columns j)
+        ∙ ap (λ b. told_entry i b (kind_at columns j) (number_in i negated w.numbers (kind_at columns j))) (sym made.negated)
         ∙ ap (told_entry i r.negated (kind_at columns j)) (sym (entry_is j l));
     basic = slice_get_within columns r.basic (start_column i (start_of n w)) made.basic;
     starts = ap (may_start i r.negated) basic_kind ∙ ap (λ b. may_start i b (start_column i (start_of n w))) made.negated ∙ starts_so i (start_of n w);
@@ -166,11 +167,13 @@ made_at columns n i (w ∷ ws) (s ∷ rs) (suc k) r h e =
     let m = made_at columns n (suc i) ws rs k r h.1 e in let z : suc i + k ≡ i + suc k = omega arith in record { row = m.row; here = m.here; made = subst (λ j. IsMadeOf columns n j m.row r) z m.made }
 
 -- one more row
-pub made_more : (columns : List ColumnKind) (n i : ℕ) (ws : List WholeRow) (rs : List IntRow) (w : WholeRow) (r : IntRow) → AreMadeOf columns n i ws rs → IsMadeOf columns n (i + length ws) w r → AreMadeOf columns n i (ws ++ w ∷ []) (rs ++ r ∷ [])
+pub made_more : (columns : List ColumnKind) (n i : ℕ) (ws : List WholeRow) (rs : List IntRow) (w : WholeRow) (r : IntRow) → AreMadeOf columns n i ws rs → IsMadeOf columns n (i + length ws) w r
+    → AreMadeOf columns n i (ws ++ w ∷ []) (rs ++ r ∷ [])
 made_more columns n i [] [] w r h m = let z : i + 0 ≡ i = omega arith in (subst (λ j. IsMadeOf columns n j w r) z m, tt)
 made_more columns n i [] (s ∷ rs) w r h m = absurd h
 made_more columns n i (v ∷ ws) [] w r h m = absurd h
-made_more columns n i (v ∷ ws) (s ∷ rs) w r h m = let z : i + suc (length ws) ≡ suc i + length ws = omega arith in (h.0, made_more columns n (suc i) ws rs w r h.1 (subst (λ j. IsMadeOf columns n j w r) z m))
+made_more columns n i (v ∷ ws) (s ∷ rs) w r h m = let z : i + suc (length ws) ≡ suc i + length ws = omega arith in
+    (h.0, made_more columns n (suc i) ws rs w r h.1 (subst (λ j. IsMadeOf columns n j w r) z m))
 
 -- ---- the objective row
 module _ (columns : List ColumnKind) (n : ℕ) (w : WholeRow) (c : CostRow) (made : IsCostOf columns n w c) (small : AllSmall w.numbers) where

@@ -29,7 +29,8 @@ use Rattle.dcx_std.specs.ScaledProgram.{IsScaledProgram}
 use Rattle.dcx_std.specs.Solutions.{form_number, row_at, linear_program, unknowns_at, HasKinds}
 use Rattle.dcx_std.proofs.Assignments.{column_value, assignment, assigned_at, value_nonnegative, assigned_unknown}
 use Rattle.dcx_std.proofs.RowSums.{slack_part, slack_at, artificial_at, sign, turned_is}
-use Rattle.dcx_std.proofs.Solutions.{mapped_at, at_place, RowFacts, facts_of, narrow, form_is, form_same, linear_sum, row_value, artificial_none, slack_none, no_slack, slack_there, plain_below_artificial, cost_is}
+use Rattle.dcx_std.proofs.Solutions.{mapped_at, at_place, RowFacts, facts_of, narrow, form_is, form_same, linear_sum, row_value}
+use Rattle.dcx_std.proofs.Solutions.{artificial_none, slack_none, no_slack, slack_there, plain_below_artificial, cost_is}
 
 filled_left : (g f l c : ℚ) → g *ℚ (f *ℚ l +ℚ neg_ℚ (f *ℚ (c +ℚ l))) +ℚ whole (pos 0) ≡ g *ℚ (f *ℚ neg_ℚ c)
 filled_left g f l c = ring (g ∷ f ∷ l ∷ c ∷ []) (search reads depth 30) tt
@@ -77,7 +78,8 @@ module _ (rows : GivenRows) (q : Program) (known : HasKinds rows) (s : IsScaledP
       ap (λ ks. unknowns_at ks (assignment ks slacks x) u) s.columns ∙ assigned_unknown slacks x u rows.kinds s.starts k.0 k.1 (h.kinds u k.0 k.1)
 
   slack_nonnegative : (i : ℕ) (f : RowFacts rows q known s i) → f.row.kind ≡ AtMost → whole (pos 0) ≤ℚ slacks i
-  slack_nonnegative i f e = subst (λ z. whole (pos 0) ≤ℚ z) (sym (slack_is i f)) (slack_low (value f.ints.factor) (form_number f.row.form x) f.form.factor (subst (λ k. StandsTo k (form_number f.row.form x)) e (holds i f)))
+  slack_nonnegative i f e =
+      subst (λ z. whole (pos 0) ≤ℚ z) (sym (slack_is i f)) (slack_low (value f.ints.factor) (form_number f.row.form x) f.form.factor (subst (λ k. StandsTo k (form_number f.row.form x)) e (holds i f)))
 
   nonnegative : (j : ℕ) → j < length q.columns → whole (pos 0) ≤ℚ rat_at columns j
   nonnegative j l = subst (λ z. whole (pos 0) ≤ℚ z) (sym (number_is j l)) (value_nonnegative slacks x (kind_at q.columns j) (λ i e. of_slack i e))
@@ -111,7 +113,8 @@ module _ (rows : GivenRows) (q : Program) (known : HasKinds rows) (s : IsScaledP
           rat_sum_below-one (length q.columns) p.0 (λ j. slack_part i (kind_at q.columns j) (rat_at columns j)) p.1 (λ j l d. other p.0 j p.2 l d (kind_at q.columns j) refl)
           ∙ ap (λ k. slack_part i k (rat_at columns p.0)) p.2 ∙ ap (λ b. if b then rat_at columns p.0 else whole (pos 0)) (eq-eqb i i refl)
           ∙ number_is p.0 p.1 ∙ ap (column_value slacks x) p.2 ∙ slack_is i f
-      by Equal e = slack_none rows q known s columns i (λ j l g. absurd (no_slack rows q known s i f e j g)) ∙ no_excess (value f.ints.factor) (form_number f.row.form x) (subst (λ k. StandsTo k (form_number f.row.form x)) e (holds i f))
+      by Equal e = slack_none rows q known s columns i (λ j l g. absurd (no_slack rows q known s i f e j g))
+          ∙ no_excess (value f.ints.factor) (form_number f.row.form x) (subst (λ k. StandsTo k (form_number f.row.form x)) e (holds i f))
 
   row_solved : (i : ℕ) → i < length q.rows → row_at_columns q i columns ≡ whole (right_side_at q.rows i)
   row_solved i l =
@@ -121,9 +124,12 @@ module _ (rows : GivenRows) (q : Program) (known : HasKinds rows) (s : IsScaledP
       let k = value f.ints.factor in
       let same : form_number f.row.form x ≡ value f.row.form.constant +ℚ linear_sum rows q known s f.row.form y =
       sym (form_same rows q known s f.row.form y x f.scaled.sparse (narrow rows q known s i f) unknowns_are) ∙ form_is rows q known s f.row.form y f.scaled.sparse (narrow rows q known s i f) in
-      let right : whole (right_side_at q.rows i) ≡ turned_if f.ints.negated (k *ℚ neg_ℚ (value f.row.form.constant)) = ap whole (mapped_at right_of q.rows i f.ints (pos 0) f.ints_is) ∙ f.scaled.right in
-      filled f.ints.negated k (linear_sum rows q known s f.row.form y) (value f.row.form.constant) (slack_at q.columns columns i) (artificial_at q.columns columns i) (whole (right_side_at q.rows i)) (row_at_columns q i columns)
-      (row_value rows q known s i f columns) (artificial_none rows q known s columns i (λ j r m e. number_is j m ∙ ap (column_value slacks x) e)) (slack_of_row i f ∙ ap (λ z. neg_ℚ (k *ℚ z)) same) right
+      let right : whole (right_side_at q.rows i) ≡ turned_if f.ints.negated (k *ℚ neg_ℚ (value f.row.form.constant)) = ap whole (mapped_at right_of q.rows i f.ints (pos 0) f.ints_is)
+      ∙ f.scaled.right in
+      filled f.ints.negated k (linear_sum rows q known s f.row.form y) (value f.row.form.constant) (slack_at q.columns columns i) (artificial_at q.columns columns i)
+      (whole (right_side_at q.rows i)) (row_at_columns q i columns)
+      (row_value rows q known s i f columns) (artificial_none rows q known s columns i (λ j r m e. number_is j m ∙ ap (column_value slacks x) e))
+      (slack_of_row i f ∙ ap (λ z. neg_ℚ (k *ℚ z)) same) right
 
   columns_solve : IsSolution q columns
   unfolding columns

@@ -13,12 +13,13 @@ use Rattle.dcx_math.proofs.Orders.{+ℚ_idl, +ℚ_idr, *ℚ-zero, zero-*ℚ, who
 use Rattle.dcx_math.proofs.Ring.{ring, reads}
 use Rattle.dcx_math.proofs.Sums.{rat_sum_below-zero, rat_sum_below-same, rat_sum_below-+ℚ, rat_sum_below-*ℚ, rat_sum_below-one, rat_sum_below-exchange}
 use Rattle.dcx_math.proofs.Points.{wholes}
+use Rattle.dcx_math.specs.Rising.{IsRising}
 use Rattle.dcx_frac.specs.declared.fraction.Frac.{Frac}
 use Rattle.dcx_frac.specs.Frac.{value}
 use Rattle.dcx_atom.specs.Formed.{zero_frac}
 use Rattle.dcx_atom.proofs.FormedSums.{value-zero_frac}
 use Rattle.dcx_linear.specs.declared.form.FormTerm.{FormTerm}
-use Rattle.dcx_linear.specs.Terms.{IsRising, term_at}
+use Rattle.dcx_linear.specs.Terms.{term_at}
 use Rattle.dcx_linear.specs.TermLaws.{term_at-here, term_at-later, term_at-below}
 use Rattle.dcx_linear.specs.FormTerms.{Unknowns, unknown_of}
 use Rattle.dcx_tab.specs.declared.rows.ColumnKind.{ColumnKind}
@@ -49,7 +50,8 @@ module _ (x : Unknowns) where
       by (yes e) =
           let none : coefficient_at ts u ≡ zero_frac = ap coefficient_or_zero (subst (λ k. term_at unknown_of ts k ≡ None) e (term_at-below unknown_of ts t.unknown h)) in
           ap (λ c. value (coefficient_or_zero c) *ℚ x u) (term_at-here unknown_of t ts u e)
-          ∙ sym (ap₂ ◌+ℚ◌ (ap (λ b. if b then value t.coefficient *ℚ x u else zeroq) (eq-eqb t.unknown u e)) (ap (λ c. value c *ℚ x u) none ∙ ap (λ q. q *ℚ x u) value-zero_frac ∙ zero-*ℚ (x u)) ∙ +ℚ_idr (value t.coefficient *ℚ x u))
+          ∙ sym (ap₂ ◌+ℚ◌ (ap (λ b. if b then value t.coefficient *ℚ x u else zeroq) (eq-eqb t.unknown u e)) (ap (λ c. value c *ℚ x u) none ∙ ap (λ q. q *ℚ x u) value-zero_frac ∙ zero-*ℚ (x u))
+          ∙ +ℚ_idr (value t.coefficient *ℚ x u))
       by (no d) =
           ap (λ c. value (coefficient_or_zero c) *ℚ x u) (term_at-later unknown_of t ts u d)
           ∙ sym (ap (λ b. (if b then value t.coefficient *ℚ x u else zeroq) +ℚ part_of ts u) (ne_eqb t.unknown u d) ∙ +ℚ_idl (part_of ts u))
@@ -71,7 +73,8 @@ module _ (x : Unknowns) where
       ∙ sym (rat_sum_below-+ℚ n (first_part t) (part_of ts)) ∙ rat_sum_below-same n (λ u. first_part t u +ℚ part_of ts u) (part_of (t ∷ ts)) (λ u l. sym (split_part t ts u rising.0))
 
   -- the sum over the terms is that over all unknowns
-  pub sparse_sum : (ts : List (FormTerm Frac)) (n : ℕ) → IsRising unknown_of ts → All (λ t. t.unknown < n) ts → rat_sum_by (λ t. value t.coefficient *ℚ x t.unknown) ts ≡ rat_sum_below n (λ u. value (coefficient_at ts u) *ℚ x u)
+  pub sparse_sum : (ts : List (FormTerm Frac)) (n : ℕ) → IsRising unknown_of ts → All (λ t. t.unknown < n) ts
+      → rat_sum_by (λ t. value t.coefficient *ℚ x t.unknown) ts ≡ rat_sum_below n (λ u. value (coefficient_at ts u) *ℚ x u)
   unfolding part_of
   sparse_sum ts n rising below = sparse_by ts n rising below
 
@@ -182,7 +185,8 @@ module _ (n : ℕ) (c : ℕ → ℚ) where
   by_artificial false false f z = plus_other f z
 
   -- of a row
-  one_column : (i : ℕ) (t : Bool) (f : ℚ) (k : ColumnKind) (e : ℤ) (z : ℚ) → e ≡ told_entry i t k e → ((u : ℕ) (minus : Bool) → k ≡ Unknown u minus → (u < n) × (whole e ≡ turned_if t (f *ℚ turned_if minus (c u)))) → whole e *ℚ z ≡ shown i t f k z
+  one_column : (i : ℕ) (t : Bool) (f : ℚ) (k : ColumnKind) (e : ℤ) (z : ℚ) → e ≡ told_entry i t k e
+      → ((u : ℕ) (minus : Bool) → k ≡ Unknown u minus → (u < n) × (whole e ≡ turned_if t (f *ℚ turned_if minus (c u)))) → whole e *ℚ z ≡ shown i t f k z
   one_column i t f (Unknown u minus) e z told unknown =
       let h = unknown u minus refl in
       ap (λ q. q *ℚ z) h.1 ∙ by_unknown t minus f (c u) z ∙ ap (λ q. sign t *ℚ (f *ℚ q +ℚ zeroq) +ℚ zeroq) (sym (at_unknown u minus z h.0))
@@ -196,16 +200,14 @@ module _ (n : ℕ) (c : ℕ → ℚ) where
   by_cost false f d z = cost_plus f d z
 
   -- of a cost
-  one_cost : (f : ℚ) (k : ColumnKind) (e : ℤ) (z : ℚ) → e ≡ unknown_entry k e → ((u : ℕ) (minus : Bool) → k ≡ Unknown u minus → (u < n) × (whole e ≡ neg_ℚ (f *ℚ turned_if minus (c u)))) → whole e *ℚ z ≡ neg_ℚ f *ℚ unknown_sum k z
+  one_cost : (f : ℚ) (k : ColumnKind) (e : ℤ) (z : ℚ) → e ≡ unknown_entry k e → ((u : ℕ) (minus : Bool) → k ≡ Unknown u minus → (u < n) × (whole e ≡ neg_ℚ (f *ℚ turned_if minus (c u))))
+      → whole e *ℚ z ≡ neg_ℚ f *ℚ unknown_sum k z
   one_cost f (Unknown u minus) e z told unknown = let h = unknown u minus refl in ap (λ q. q *ℚ z) h.1 ∙ by_cost minus f (c u) z ∙ ap (λ q. neg_ℚ f *ℚ q) (sym (at_unknown u minus z h.0))
   one_cost f (Slack r) e z told unknown = ap (λ y. whole y *ℚ z) told ∙ cost_none f z ∙ ap (λ q. neg_ℚ f *ℚ q) (sym (at_none (Slack r) z (λ u. refl)))
   one_cost f (Artificial r) e z told unknown = ap (λ y. whole y *ℚ z) told ∙ cost_none f z ∙ ap (λ q. neg_ℚ f *ℚ q) (sym (at_none (Artificial r) z (λ u. refl)))
 
   -- ---- all columns
   module _ (columns : List ColumnKind) (zs : List ℚ) where
-    abbrev linear_part : ℚ
-    linear_part = rat_sum_below n (λ u. c u *ℚ unknowns_at columns zs u)
-
     all_unknowns : rat_sum_below (length columns) (λ j. unknown_sum (kind_at columns j) (rat_at zs j)) ≡ rat_sum_below n (λ u. c u *ℚ unknowns_at columns zs u)
     unfolding unknown_sum
     all_unknowns =
@@ -213,7 +215,8 @@ module _ (n : ℕ) (c : ℕ → ℚ) where
         ∙ rat_sum_below-same n _ (λ u. c u *ℚ unknowns_at columns zs u) (λ u l. rat_sum_below-*ℚ (length columns) (c u) (λ j. column_part u (kind_at columns j) (rat_at zs j)))
 
     -- a row at the columns
-    pub row_sum : (i : ℕ) (t : Bool) (f : ℚ) (entries : List ℤ) → length entries ≡ length columns → ((j : ℕ) → j < length columns → entry entries j ≡ told_entry i t (kind_at columns j) (entry entries j))
+    pub row_sum : (i : ℕ) (t : Bool) (f : ℚ) (entries : List ℤ) → length entries ≡ length columns
+        → ((j : ℕ) → j < length columns → entry entries j ≡ told_entry i t (kind_at columns j) (entry entries j))
         → ((j u : ℕ) (minus : Bool) → j < length columns → kind_at columns j ≡ Unknown u minus → (u < n) × (whole (entry entries j) ≡ turned_if t (f *ℚ turned_if minus (c u))))
         → rat_dot (wholes entries) zs ≡ sign t *ℚ (f *ℚ rat_sum_below n (λ u. c u *ℚ unknowns_at columns zs u) +ℚ slack_at columns zs i) +ℚ artificial_at columns zs i
     row_sum i t f entries width told unknown =

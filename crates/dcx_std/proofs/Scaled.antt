@@ -1,5 +1,6 @@
 -- A whole row is a row of fractions times its factor.
-use Rattle.std.proofs.Common.{◌≡◌, ◌≢◌, ℕ, zero, suc, ◌+◌, ◌*◌, ◌/◌, ◌<◌, ◌^◌, List, [], ◌∷◌, ◌++◌, map, get_or, Option, Some, None, Ok, refl, sym, ap, ap₂, ◌∙◌, ℤ, pos, negsuc, unsigned_abs, lit<, arith}
+use Rattle.std.proofs.Common.{◌≡◌, ◌≢◌, ℕ, zero, suc, ◌+◌, ◌*◌, ◌/◌, ◌<◌, ◌^◌, List, [], ◌∷◌, ◌++◌, map, get_or, Option, Some}
+use Rattle.std.proofs.Common.{None, Ok, refl, sym, ap, ap₂, ◌∙◌, ℤ, pos, negsuc, unsigned_abs, lit<, arith}
 use Rattle.std.specs.Prelude.{◌<ℤ◌, ◌*ℤ◌, neg_ℤ}
 use Rattle.std.specs.List.{All, range_with_len}
 use Rattle.std.proofs.lemmas.Int.{ints}
@@ -71,11 +72,14 @@ whole_opposite m x h = record {
 
 -- ---- the numbers of a form
 module _ (m : ℕ) (f : Form Frac) (divides : All (λ d. d ∣ m) (denominators f)) where
-  of_terms : (ts : List (FormTerm Frac)) (x : Frac) → All (λ d. d ∣ m) (map (λ t. denominator_of t.coefficient) ts ++ denominator_of x ∷ []) → All (λ t. denominator_of t.coefficient ∣ m) ts × (denominator_of x ∣ m)
+  of_terms : (ts : List (FormTerm Frac)) (x : Frac) → All (λ d. d ∣ m) (map (λ t. denominator_of t.coefficient) ts ++ denominator_of x ∷ [])
+      → All (λ t. denominator_of t.coefficient ∣ m) ts × (denominator_of x ∣ m)
   of_terms [] x h = (All-nil (λ (t : FormTerm Frac). denominator_of t.coefficient ∣ m), All-head (λ d. d ∣ m) (denominator_of x) [] h)
   of_terms (t ∷ ts) x h =
-      let rest = of_terms ts x (All-tail (λ d. d ∣ m) (denominator_of t.coefficient) (map (λ u. denominator_of u.coefficient) ts ++ denominator_of x ∷ []) h) in
-      (All-cons (λ u. denominator_of u.coefficient ∣ m) t ts (All-head (λ d. d ∣ m) (denominator_of t.coefficient) (map (λ u. denominator_of u.coefficient) ts ++ denominator_of x ∷ []) h) rest.0, rest.1)
+      let rest = of_terms ts x (All-tail (λ d. d ∣ m) (denominator_of t.coefficient) (map (λ u. denominator_of u.coefficient) ts ++ denominator_of x ∷ []) h) in (
+        All-cons (λ u. denominator_of u.coefficient ∣ m) t ts (All-head (λ d. d ∣ m) (denominator_of t.coefficient) (map (λ u. denominator_of u.coefficient) ts ++ denominator_of x ∷ []) h) rest.0,
+        rest.1,
+      )
 
   whole_constant : IsWholeTimes m (value f.constant)
   whole_constant = whole_times m f.constant (of_terms f.terms f.constant divides).1
@@ -98,7 +102,8 @@ module _ (m : ℕ) (f : Form Frac) (divides : All (λ d. d ∣ m) (denominators 
   All-opposite : (xs : List Frac) → All (λ x. IsWholeTimes m (value x)) xs → All (λ x. IsWholeTimes m (value x)) (map opposite xs)
   All-opposite [] h = All-nil (λ x. IsWholeTimes m (value x))
   All-opposite (x ∷ xs) h =
-      All-cons (λ y. IsWholeTimes m (value y)) (opposite x) (map opposite xs) (whole_opposite m x (All-head (λ y. IsWholeTimes m (value y)) x xs h)) (All-opposite xs (All-tail (λ y. IsWholeTimes m (value y)) x xs h))
+      All-cons (λ y. IsWholeTimes m (value y)) (opposite x) (map opposite xs) (whole_opposite m x (All-head (λ y. IsWholeTimes m (value y)) x xs h))
+      (All-opposite xs (All-tail (λ y. IsWholeTimes m (value y)) x xs h))
 
   pub whole_row_numbers : (n : ℕ) → All (λ x. IsWholeTimes m (value x)) (row_numbers n f)
   whole_row_numbers n =
@@ -115,7 +120,8 @@ module _ (m : ℕ) (f : Form Frac) (divides : All (λ d. d ∣ m) (denominators 
       (All-cons (λ x. IsWholeTimes m (value x)) f.constant (one_frac ∷ []) whole_constant (All-cons (λ x. IsWholeTimes m (value x)) one_frac [] whole_one (All-nil (λ x. IsWholeTimes m (value x)))))
 
 -- ---- the row
-whole_products : (m : ℕ) (xs ys : List Frac) → m < 2 ^ 127 → map (product_of (frac_at (whole (pos m)))) xs ≡ map Ok ys → All (λ x. IsWholeTimes m (value x)) xs → map whole (map num_of ys) ≡ rat_scaled (whole (pos m)) (map value xs)
+whole_products : (m : ℕ) (xs ys : List Frac) → m < 2 ^ 127 → map (product_of (frac_at (whole (pos m)))) xs ≡ map Ok ys → All (λ x. IsWholeTimes m (value x)) xs
+    → map whole (map num_of ys) ≡ rat_scaled (whole (pos m)) (map value xs)
 whole_products m [] [] small e h = refl
 whole_products m [] (y ∷ ys) small e h = cc
 whole_products m (x ∷ xs) [] small e h = cc
@@ -137,10 +143,12 @@ module _ (m d : ℕ) (some : 0 < d) where
   divided_one : (z : ℤ) (x : ℚ) → d ∣ unsigned_abs z → whole z ≡ whole (pos m) *ℚ x → whole (divided d z) ≡ (whole (pos m) /ℚ whole (pos d)) *ℚ x
   divided_one z x h e =
       *ℚ_cancel (whole (pos d)) d_some
-      (sym (whole-*ℤ (pos d) (divided d z)) ∙ ap whole (divided_is d z h) ∙ e ∙ ap (λ q. q *ℚ x) (sym (/ℚ-*ℚ (whole (pos m)) (whole (pos d)) d_some) ∙ *ℚ_comm (whole (pos m) /ℚ whole (pos d)) (whole (pos d)))
+      (sym (whole-*ℤ (pos d) (divided d z)) ∙ ap whole (divided_is d z h) ∙ e
+      ∙ ap (λ q. q *ℚ x) (sym (/ℚ-*ℚ (whole (pos m)) (whole (pos d)) d_some) ∙ *ℚ_comm (whole (pos m) /ℚ whole (pos d)) (whole (pos d)))
       ∙ *ℚ_assoc (whole (pos d)) (whole (pos m) /ℚ whole (pos d)) x)
 
-  divided_all : (zs : List ℤ) (xs : List ℚ) → All (λ z. d ∣ unsigned_abs z) zs → map whole zs ≡ rat_scaled (whole (pos m)) xs → map whole (map (divided d) zs) ≡ rat_scaled (whole (pos m) /ℚ whole (pos d)) xs
+  divided_all : (zs : List ℤ) (xs : List ℚ) → All (λ z. d ∣ unsigned_abs z) zs → map whole zs ≡ rat_scaled (whole (pos m)) xs
+      → map whole (map (divided d) zs) ≡ rat_scaled (whole (pos m) /ℚ whole (pos d)) xs
   divided_all [] [] h e = refl
   divided_all [] (x ∷ xs) h e = cc
   divided_all (z ∷ zs) [] h e = cc
@@ -157,11 +165,14 @@ divisor_divides : (zs : List ℤ) → All (λ z. divisor_of zs ∣ unsigned_abs 
 divisor_divides zs k d l = or_one_divides (gcd_of zs) (unsigned_abs (get_or zs k d)) (gcd_of-dvd zs k d l)
 
 -- the numbers of a whole row are its factor times those of the row
-pub scaled_numbers : (kind : RowKind) (f : Form Frac) (numbers : List Frac) (w : WholeRow) (h : IsFormedBy kind f numbers w) → All (λ x. IsWholeTimes h.multiple (value x)) numbers → map whole w.numbers ≡ rat_scaled (value w.factor) (map value numbers)
+pub scaled_numbers : (kind : RowKind) (f : Form Frac) (numbers : List Frac) (w : WholeRow) (h : IsFormedBy kind f numbers w) → All (λ x. IsWholeTimes h.multiple (value x)) numbers
+    → map whole w.numbers ≡ rat_scaled (value w.factor) (map value numbers)
 scaled_numbers kind f numbers w h each =
     let made = formed_numerators (map (product_of (frac_at (whole (pos h.multiple)))) numbers) h.products h.products_are in
-    let products : map whole h.products ≡ rat_scaled (whole (pos h.multiple)) (map value numbers) = ap (map whole) made.numerators ∙ whole_products h.multiple numbers made.fractions (multiple_facts kind f numbers w h).small made.are each in
-    ap (λ (v : WholeRow). map whole v.numbers) h.is ∙ divided_all h.multiple (divisor_of h.products) (or_one_positive (gcd_of h.products)) h.products (map value numbers) (divisor_divides h.products) products
+    let products : map whole h.products ≡ rat_scaled (whole (pos h.multiple)) (map value numbers) = ap (map whole) made.numerators
+    ∙ whole_products h.multiple numbers made.fractions (multiple_facts kind f numbers w h).small made.are each in
+    ap (λ (v : WholeRow). map whole v.numbers) h.is ∙ divided_all h.multiple (divisor_of h.products) (or_one_positive (gcd_of h.products)) h.products (map value numbers)
+    (divisor_divides h.products) products
     ∙ ap (λ k. rat_scaled k (map value numbers)) (sym (factor_is kind f numbers w h))
 
 -- so is each one

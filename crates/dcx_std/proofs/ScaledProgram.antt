@@ -82,7 +82,8 @@ module _ (n : ℕ) (f : Form Frac) where
   cost_right = get_or_at (map opposite (coefficients n f)) f.constant (one_frac ∷ []) zero_frac n opposites_count
 
   cost_lead : get_or (cost_numbers n f) (suc n) zero_frac ≡ one_frac
-  cost_lead = let e : suc n ≡ length (map opposite (coefficients n f)) + 1 = omega (arith, opposites_count) in ap (λ j. get_or (cost_numbers n f) j zero_frac) e ∙ get_or-append-add (map opposite (coefficients n f)) (f.constant ∷ one_frac ∷ []) 1 zero_frac
+  cost_lead = let e : suc n ≡ length (map opposite (coefficients n f)) + 1 = omega (arith, opposites_count) in ap (λ j. get_or (cost_numbers n f) j zero_frac) e
+      ∙ get_or-append-add (map opposite (coefficients n f)) (f.constant ∷ one_frac ∷ []) 1 zero_frac
 
 module _ (rows : GivenRows) (q : Program) (m : IsMade rows q) where
   abbrev n : ℕ
@@ -98,12 +99,14 @@ module _ (rows : GivenRows) (q : Program) (m : IsMade rows q) where
     formed = formed_by row.kind row.form (row_numbers n row.form) w made
 
     numbers_are : map whole w.numbers ≡ rat_scaled (value w.factor) (map value (row_numbers n row.form))
-    numbers_are = scaled_numbers row.kind row.form (row_numbers n row.form) w formed (whole_row_numbers formed.multiple row.form (multiple_facts row.kind row.form (row_numbers n row.form) w formed).others n)
+    numbers_are = scaled_numbers row.kind row.form (row_numbers n row.form) w formed
+        (whole_row_numbers formed.multiple row.form (multiple_facts row.kind row.form (row_numbers n row.form) w formed).others n)
 
     number_at : (j : ℕ) → whole (entry w.numbers j) ≡ value w.factor *ℚ value (get_or (row_numbers n row.form) j zero_frac)
     number_at j = scaled_at (value w.factor) w.numbers (row_numbers n row.form) j numbers_are
 
-    unknown_entry : (j u : ℕ) (minus : Bool) → j < length q.columns → kind_at q.columns j ≡ Unknown u minus → whole (entry r.entries j) ≡ turned_if r.negated (value r.factor *ℚ turned_if minus (value (coefficient_at row.form.terms u)))
+    unknown_entry : (j u : ℕ) (minus : Bool) → j < length q.columns → kind_at q.columns j ≡ Unknown u minus
+        → whole (entry r.entries j) ≡ turned_if r.negated (value r.factor *ℚ turned_if minus (value (coefficient_at row.form.terms u)))
     unknown_entry j u minus l e =
         let negated = (start_of n w).negated in
         ap whole (mapped_entry (number_in i negated w.numbers) q.columns r.entries j is.entries l ∙ ap (number_in i negated w.numbers) e)
@@ -132,19 +135,18 @@ module _ (rows : GivenRows) (q : Program) (m : IsMade rows q) where
       scaled_row i row at.row r sparse (subst (λ s. row_made n s ≡ Ok at.row) same whole_at.2) (subst (λ k. IsMadeOf q.columns n k at.row r) z at.made)
 
   -- ---- the cost
-  abbrev cost_form : Form Frac
-  cost_form = rows.objective
-
   cost_formed : IsFormedBy Equal rows.objective (cost_numbers n rows.objective) m.cost
   cost_formed = formed_by Equal rows.objective (cost_numbers n rows.objective) m.cost m.cost_is
 
   cost_at : (j : ℕ) → whole (entry m.cost.numbers j) ≡ value m.cost.factor *ℚ value (get_or (cost_numbers n rows.objective) j zero_frac)
   cost_at j =
       scaled_at (value m.cost.factor) m.cost.numbers (cost_numbers n rows.objective) j
-      (scaled_numbers Equal rows.objective (cost_numbers n rows.objective) m.cost cost_formed (whole_cost_numbers cost_formed.multiple rows.objective (multiple_facts Equal rows.objective (cost_numbers n rows.objective) m.cost cost_formed).others n))
+      (scaled_numbers Equal rows.objective (cost_numbers n rows.objective) m.cost cost_formed
+      (whole_cost_numbers cost_formed.multiple rows.objective (multiple_facts Equal rows.objective (cost_numbers n rows.objective) m.cost cost_formed).others n))
 
   lead_is : whole q.objective.lead ≡ value m.cost.factor
-  lead_is = ap whole m.objective.lead ∙ cost_at (suc n) ∙ ap (λ c. value m.cost.factor *ℚ value c) (cost_lead n rows.objective) ∙ ap (λ y. value m.cost.factor *ℚ y) (value-whole (pos 1) (lit< tt)) ∙ *ℚ_idr (value m.cost.factor)
+  lead_is = ap whole m.objective.lead ∙ cost_at (suc n) ∙ ap (λ c. value m.cost.factor *ℚ value c) (cost_lead n rows.objective) ∙ ap (λ y. value m.cost.factor *ℚ y) (value-whole (pos 1) (lit< tt))
+      ∙ *ℚ_idr (value m.cost.factor)
 
   cost_of : IsScaledCost q.columns rows.objective q.objective
   cost_of = record {
@@ -152,7 +154,8 @@ module _ (rows : GivenRows) (q : Program) (m : IsMade rows q) where
     unknown = λ j u minus l e.
         ap whole (mapped_entry (cost_in m.cost.numbers) q.columns q.objective.entries j m.objective.entries l ∙ ap (cost_in m.cost.numbers) e)
         ∙ whole-turned minus (entry m.cost.numbers u)
-        ∙ ap (turned_if minus) (cost_at u ∙ ap (λ c. value m.cost.factor *ℚ value c) (cost_coefficient n rows.objective u (unknown_is j u minus l e)) ∙ ap (λ y. value m.cost.factor *ℚ y) (value-opposite (coefficient_at rows.objective.terms u)))
+        ∙ ap (turned_if minus) (cost_at u ∙ ap (λ c. value m.cost.factor *ℚ value c) (cost_coefficient n rows.objective u (unknown_is j u minus l e))
+        ∙ ap (λ y. value m.cost.factor *ℚ y) (value-opposite (coefficient_at rows.objective.terms u)))
         ∙ turned-cost minus (value m.cost.factor) (value (coefficient_at rows.objective.terms u))
         ∙ ap (λ f. neg_ℚ (f *ℚ turned_if minus (value (coefficient_at rows.objective.terms u)))) (sym lead_is);
     right = ap whole m.objective.right ∙ cost_at n ∙ ap (λ c. value m.cost.factor *ℚ value c) (cost_right n rows.objective) ∙ ap (λ f. f *ℚ value rows.objective.constant) (sym lead_is);

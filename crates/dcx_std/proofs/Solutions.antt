@@ -90,7 +90,8 @@ plain_product : (f l c : ℚ) → (c +ℚ l) *ℚ f ≡ (whole (pos 1) *ℚ (f *
 plain_product f l c = ring (f ∷ l ∷ c ∷ []) (search reads depth 30) tt
 
 -- a row without its slack and its artificial, over its factor, is its form
-unscaled : (t : Bool) (f l c s a r d : ℚ) → whole (pos 0) <ℚ f → d ≡ sign t *ℚ (f *ℚ l +ℚ s) +ℚ a → a ≡ whole (pos 0) → s ≡ whole (pos 0) → r ≡ turned_if t (f *ℚ neg_ℚ c) → turned_if t (d -ℚ r) /ℚ f ≡ c +ℚ l
+unscaled : (t : Bool) (f l c s a r d : ℚ) → whole (pos 0) <ℚ f → d ≡ sign t *ℚ (f *ℚ l +ℚ s) +ℚ a → a ≡ whole (pos 0) → s ≡ whole (pos 0) → r ≡ turned_if t (f *ℚ neg_ℚ c)
+    → turned_if t (d -ℚ r) /ℚ f ≡ c +ℚ l
 unscaled t f l c s a r d positive sum none slack right =
     /ℚ-unique (turned_if t (d -ℚ r)) f (c +ℚ l) (λ z. <ℚ-≢ positive (sym z))
     (product t ∙ ap (turned_if t) (sym (ap₂ ◌-ℚ◌ (sum ∙ ap₂ (λ p q. sign t *ℚ (f *ℚ l +ℚ p) +ℚ q) slack none) (right ∙ turned_is t (f *ℚ neg_ℚ c)))))
@@ -127,7 +128,8 @@ module _ (rows : GivenRows) (q : Program) (known : HasKinds rows) (s : IsScaledP
   facts_of i row e =
       let l = slice_get_within rows.rows i row e in
       let r = at_place q.rows i (let c = s.count in omega (arith, l, c)) in
-      let k = unmapped_at (λ (t : Start). t.kind) s.starts i row.kind (ap (λ ks. slice_get ks i) s.kinds ∙ slice_get-map (λ (t : Row Frac). t.kind) rows.rows i ∙ ap (option_map (λ (t : Row Frac). t.kind)) e) in
+      let k = unmapped_at (λ (t : Start). t.kind) s.starts i row.kind (ap (λ ks. slice_get ks i) s.kinds ∙ slice_get-map (λ (t : Row Frac). t.kind) rows.rows i
+      ∙ ap (option_map (λ (t : Row Frac). t.kind)) e) in
       record { row = row; row_is = e; ints = r.0; ints_is = r.1; start = k.0; start_is = k.1; kind = k.2; scaled = s.each_row i row r.0 e r.1; form = q.form.each_row i r.0 r.1 }
 
   below_of : (j u : ℕ) (minus : Bool) → j < length q.columns → kind_at q.columns j ≡ Unknown u minus → u < n
@@ -237,27 +239,31 @@ module _ (rows : GivenRows) (q : Program) (known : HasKinds rows) (s : IsScaledP
   moved_holds zs low none i h c right =
       let x = unknowns_at q.columns zs in
       let artificials = artificial_none zs i (λ j k m e. none j (behind j k m e) m) in
-      let left = solved h.ints.negated (value h.ints.factor) (linear_sum h.row.form x) (value h.row.form.constant +ℚ c) (slack_at q.columns zs i) (artificial_at q.columns zs i) (row_at_columns q i zs) (row_value i h zs) artificials right in
+      let left = solved h.ints.negated (value h.ints.factor) (linear_sum h.row.form x) (value h.row.form.constant +ℚ c) (slack_at q.columns zs i) (artificial_at q.columns zs i)
+      (row_at_columns q i zs) (row_value i h zs) artificials right in
       by h.row.kind refl left
     where
       number : form_number h.row.form (unknowns_at q.columns zs) +ℚ c ≡ (value h.row.form.constant +ℚ c) +ℚ linear_sum h.row.form (unknowns_at q.columns zs)
       number = ap (λ y. y +ℚ c) (form_is h.row.form (unknowns_at q.columns zs) h.scaled.sparse (narrow i h)) ∙ swapped (value h.row.form.constant) c (linear_sum h.row.form (unknowns_at q.columns zs))
 
-      by : (k : RowKind) → h.row.kind ≡ k → value h.ints.factor *ℚ ((value h.row.form.constant +ℚ c) +ℚ linear_sum h.row.form (unknowns_at q.columns zs)) +ℚ slack_at q.columns zs i ≡ whole (pos 0) → StandsTo k (form_number h.row.form (unknowns_at q.columns zs) +ℚ c)
+      by : (k : RowKind) → h.row.kind ≡ k → value h.ints.factor *ℚ ((value h.row.form.constant +ℚ c) +ℚ linear_sum h.row.form (unknowns_at q.columns zs)) +ℚ slack_at q.columns zs i ≡ whole (pos 0)
+          → StandsTo k (form_number h.row.form (unknowns_at q.columns zs) +ℚ c)
       by AtMost e g = subst (λ y. y ≤ℚ whole (pos 0)) (sym number) (excess_low (value h.ints.factor) _ (slack_at q.columns zs i) h.form.factor (slack_nonnegative zs i low) g)
       by Equal e g = number ∙ excess_none (value h.ints.factor) _ (slack_at q.columns zs i) h.form.factor (slack_none zs i (λ j l k. absurd (no_slack i h e j k))) g
 
   -- a row that the columns solve holds at the unknowns
   row_holds : (i : ℕ) (h : RowFacts i) (zs : List ℚ) → IsSolution q zs → StandsTo h.row.kind (form_number h.row.form (unknowns_at q.columns zs))
   row_holds i h zs solution =
-      let right : whole (right_side_at q.rows i) ≡ turned_if h.ints.negated (value h.ints.factor *ℚ neg_ℚ (value h.row.form.constant)) = ap whole (mapped_at right_of q.rows i h.ints (pos 0) h.ints_is) ∙ h.scaled.right in
+      let right : whole (right_side_at q.rows i) ≡ turned_if h.ints.negated (value h.ints.factor *ℚ neg_ℚ (value h.row.form.constant)) =
+      ap whole (mapped_at right_of q.rows i h.ints (pos 0) h.ints_is) ∙ h.scaled.right in
       subst (StandsTo h.row.kind) (+ℚ_idr (form_number h.row.form (unknowns_at q.columns zs)))
       (moved_holds zs solution.nonnegative solution.artificial i h (whole (pos 0))
       (solution.rows i (slice_get_within q.rows i h.ints h.ints_is) ∙ right ∙ ap (λ y. turned_if h.ints.negated (value h.ints.factor *ℚ neg_ℚ y)) (sym (+ℚ_idr (value h.row.form.constant)))))
 
   -- ---- the unknowns are of their kinds
   allows : (j v u : ℕ) (minus : Bool) (kind : UnknownKind) → j < length q.columns → kind_at q.columns j ≡ Unknown v minus → v ≡ u → slice_get rows.kinds u ≡ Some kind → Allows kind minus
-  allows j v u minus kind l e d k = unknown_allowed rows.kinds s.starts j u minus kind (subst (λ ks. j < length ks) s.columns l) (sym (ap (λ ks. kind_at ks j) s.columns) ∙ e ∙ ap (λ w. Unknown w minus) d) k
+  allows j v u minus kind l e d k =
+      unknown_allowed rows.kinds s.starts j u minus kind (subst (λ ks. j < length ks) s.columns l) (sym (ap (λ ks. kind_at ks j) s.columns) ∙ e ∙ ap (λ w. Unknown w minus) d) k
 
   module _ (zs : List ℚ) (u : ℕ) (low : (j : ℕ) → j < length q.columns → whole (pos 0) ≤ℚ rat_at zs j) where
     part : ℕ → ℚ
@@ -323,18 +329,23 @@ module _ (rows : GivenRows) (q : Program) (known : HasKinds rows) (s : IsScaledP
   pub cost_is : (zs : List ℚ) → cost_at_columns q.objective zs ≡ form_number rows.objective (unknowns_at q.columns zs)
   cost_is zs =
       let c = q.form.cost in
-      let sum = cost_sum n (λ u. value (coefficient_at rows.objective.terms u)) q.columns zs (whole q.objective.lead) q.objective.entries c.width c.told (λ j u minus l e. (below_of j u minus l e, s.cost.unknown j u minus l e)) in
-      cost_over (whole q.objective.lead) (linear_sum rows.objective (unknowns_at q.columns zs)) (value rows.objective.constant) (whole q.objective.right) _ (whole-<ℤ (pos 0) q.objective.lead c.lead) sum s.cost.right
+      let sum = cost_sum n (λ u. value (coefficient_at rows.objective.terms u)) q.columns zs (whole q.objective.lead) q.objective.entries c.width c.told
+      (λ j u minus l e. (below_of j u minus l e, s.cost.unknown j u minus l e)) in
+      cost_over (whole q.objective.lead) (linear_sum rows.objective (unknowns_at q.columns zs)) (value rows.objective.constant)
+      (whole q.objective.right) _ (whole-<ℤ (pos 0) q.objective.lead c.lead) sum s.cost.right
       ∙ sym (form_is rows.objective (unknowns_at q.columns zs) s.cost.sparse known.objective_known)
 
   -- row i of the program, without slack and artificial, is the form
-  pub form_of : (i : ℕ) (h : RowFacts i) (zs : List ℚ) → artificial_at q.columns zs i ≡ whole (pos 0) → slack_at q.columns zs i ≡ whole (pos 0) → form_at q i zs ≡ form_number h.row.form (unknowns_at q.columns zs)
+  pub form_of : (i : ℕ) (h : RowFacts i) (zs : List ℚ) → artificial_at q.columns zs i ≡ whole (pos 0) → slack_at q.columns zs i ≡ whole (pos 0)
+      → form_at q i zs ≡ form_number h.row.form (unknowns_at q.columns zs)
   form_of i h zs none slack =
       let f = value h.ints.factor in
       let x = unknowns_at q.columns zs in
-      let right : whole (right_side_at q.rows i) ≡ turned_if h.ints.negated (f *ℚ neg_ℚ (value h.row.form.constant)) = ap whole (mapped_at right_of q.rows i h.ints (pos 0) h.ints_is) ∙ h.scaled.right in
+      let right : whole (right_side_at q.rows i) ≡ turned_if h.ints.negated (f *ℚ neg_ℚ (value h.row.form.constant)) = ap whole (mapped_at right_of q.rows i h.ints (pos 0) h.ints_is)
+      ∙ h.scaled.right in
       ap₂ (λ b y. turned_if b (row_at_columns q i zs -ℚ whole (right_side_at q.rows i)) /ℚ y) (mapped_at is_negated q.rows i h.ints false h.ints_is) (factor_at i h)
-      ∙ unscaled h.ints.negated f (linear_sum h.row.form x) (value h.row.form.constant) (slack_at q.columns zs i) (artificial_at q.columns zs i) (whole (right_side_at q.rows i)) (row_at_columns q i zs) h.form.factor (row_value i h zs) none slack right
+      ∙ unscaled h.ints.negated f (linear_sum h.row.form x) (value h.row.form.constant) (slack_at q.columns zs i) (artificial_at q.columns zs i) (whole (right_side_at q.rows i))
+      (row_at_columns q i zs) h.form.factor (row_value i h zs) none slack right
       ∙ sym (form_is h.row.form x h.scaled.sparse (narrow i h))
     where
       factor_at : (i : ℕ) (h : RowFacts i) → rat_at (map row_factor q.rows) i ≡ value h.ints.factor

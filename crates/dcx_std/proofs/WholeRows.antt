@@ -63,18 +63,23 @@ pub record IsFormedBy (kind : RowKind) (f : Form Frac) (numbers : List Frac) (w 
 pub formed_by : (kind : RowKind) (f : Form Frac) (numbers : List Frac) (w : WholeRow) → whole_row_of kind f numbers ≡ Ok w → IsFormedBy kind f numbers w
 formed_by kind f numbers w e = by (multiple_of f) refl e
   where
-    then_products : (m : ℕ) → multiple_of f ≡ Ok m → (r : Result (List ℤ) Passes) → numerators (map (product_of (frac_at (whole (pos m)))) numbers) ≡ r → and_then r (λ zs. Ok (lowest_row kind m zs)) ≡ Ok w → IsFormedBy kind f numbers w
+    then_products : (m : ℕ) → multiple_of f ≡ Ok m → (r : Result (List ℤ) Passes) → numerators (map (product_of (frac_at (whole (pos m)))) numbers) ≡ r
+        → and_then r (λ zs. Ok (lowest_row kind m zs)) ≡ Ok w → IsFormedBy kind f numbers w
     then_products m h (Err passes) d e = absurd (passes_no_value passes w e)
-    then_products m h (Ok zs) d e = let q = one_value (Ok (lowest_row kind m zs)) (lowest_row kind m zs) w refl e in record { multiple = m; products = zs; multiple_is = h; products_are = d; is = sym q }
+    then_products m h (Ok zs) d e = let q = one_value (Ok (lowest_row kind m zs)) (lowest_row kind m zs) w refl e in
+        record { multiple = m; products = zs; multiple_is = h; products_are = d; is = sym q }
 
-    by : (r : Result ℕ Passes) → multiple_of f ≡ r → and_then r (λ m. and_then (numerators (map (product_of (frac_at (whole (pos m)))) numbers)) (λ zs. Ok (lowest_row kind m zs))) ≡ Ok w → IsFormedBy kind f numbers w
+    by : (r : Result ℕ Passes) → multiple_of f ≡ r → and_then r (λ m. and_then (numerators (map (product_of (frac_at (whole (pos m)))) numbers)) (λ zs. Ok (lowest_row kind m zs))) ≡ Ok w
+        → IsFormedBy kind f numbers w
     by (Err passes) d e = absurd (passes_no_value passes w e)
     by (Ok m) d e = then_products m d (numerators (map (product_of (frac_at (whole (pos m)))) numbers)) refl e
 
 -- what is formed is the row
-pub whole_row_is : (kind : RowKind) (f : Form Frac) (numbers : List Frac) (m : ℕ) (zs : List ℤ) → multiple_of f ≡ Ok m → numerators (map (product_of (frac_at (whole (pos m)))) numbers) ≡ Ok zs → whole_row_of kind f numbers ≡ Ok (lowest_row kind m zs)
+pub whole_row_is : (kind : RowKind) (f : Form Frac) (numbers : List Frac) (m : ℕ) (zs : List ℤ) → multiple_of f ≡ Ok m → numerators (map (product_of (frac_at (whole (pos m)))) numbers) ≡ Ok zs
+    → whole_row_of kind f numbers ≡ Ok (lowest_row kind m zs)
 whole_row_is kind f numbers m zs e d =
-    ap (λ r. and_then r (λ k. and_then (numerators (map (product_of (frac_at (whole (pos k)))) numbers)) (λ ys. Ok (lowest_row kind k ys)))) e ∙ ap (λ r. and_then r (λ ys. Ok (lowest_row kind m ys))) d
+    ap (λ r. and_then r (λ k. and_then (numerators (map (product_of (frac_at (whole (pos k)))) numbers)) (λ ys. Ok (lowest_row kind k ys)))) e
+    ∙ ap (λ r. and_then r (λ ys. Ok (lowest_row kind m ys))) d
 
 module _ (kind : RowKind) (f : Form Frac) (numbers : List Frac) (w : WholeRow) (h : IsFormedBy kind f numbers w) where
   pub multiple_facts : IsMultiple 1 (denominators f) h.multiple

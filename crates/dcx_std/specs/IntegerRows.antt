@@ -1,5 +1,6 @@
 -- The rows of a scaled program as they are made of whole rows, and the first operation of them all that passes.
-use Rattle.std.specs.Prelude.{◌≡◌, ⊤, ◌≤◌, ◌⊎◌, ℕ, suc, ◌-◌, Bool, nat_le, List, [], ◌∷◌, ◌++◌, map, filter, if◌then◌else◌, length, replicate, Option, Some, None, Result, Ok, Err, ℤ, pos, int_lt, slice_get}
+use Rattle.std.specs.Prelude.{◌≡◌, ⊤, ◌≤◌, ◌⊎◌, ℕ, suc, ◌-◌, Bool, nat_le, List, [], ◌∷◌, ◌++◌, map, filter, if◌then◌else◌}
+use Rattle.std.specs.Prelude.{length, replicate, Option, Some, None, Result, Ok, Err, ℤ, pos, int_lt, slice_get}
 use Rattle.std.specs.List.{All, range_with_len}
 use Rattle.dcx_math.specs.Rational.{whole}
 use Rattle.dcx_frac.specs.declared.fraction.Frac.{Frac}

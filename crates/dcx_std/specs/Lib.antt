@@ -1,4 +1,4 @@
--- What the contracts of this crate cite.
+-- What contracts cite: whole rows, the columns, the scaled program, and what its answers show of the rows.
 pub mod Size
 pub mod Multiples
 pub mod WholeRows

@@ -22,13 +22,15 @@ use Rattle.dcx_std.specs.Columns.{columns_of}
 -- where its right side was below 0
 pub record IsScaledRow (columns : List ColumnKind) (row : Row Frac) (r : IntRow) : Type 0 where
   pub sparse : IsSparseForm row.form
-  pub unknown : (j u : ℕ) (minus : Bool) → j < length columns → kind_at columns j ≡ Unknown u minus → whole (entry r.entries j) ≡ turned_if r.negated (value r.factor *ℚ turned_if minus (value (coefficient_at row.form.terms u)))
+  pub unknown : (j u : ℕ) (minus : Bool) → j < length columns → kind_at columns j ≡ Unknown u minus
+      → whole (entry r.entries j) ≡ turned_if r.negated (value r.factor *ℚ turned_if minus (value (coefficient_at row.form.terms u)))
   pub right : whole r.right ≡ turned_if r.negated (value r.factor *ℚ neg_ℚ (value row.form.constant))
 
 -- the row z - cost = constant, times the positive entry of z
 pub record IsScaledCost (columns : List ColumnKind) (cost : Form Frac) (c : CostRow) : Type 0 where
   pub sparse : IsSparseForm cost
-  pub unknown : (j u : ℕ) (minus : Bool) → j < length columns → kind_at columns j ≡ Unknown u minus → whole (entry c.entries j) ≡ neg_ℚ (whole c.lead *ℚ turned_if minus (value (coefficient_at cost.terms u)))
+  pub unknown : (j u : ℕ) (minus : Bool) → j < length columns → kind_at columns j ≡ Unknown u minus
+      → whole (entry c.entries j) ≡ neg_ℚ (whole c.lead *ℚ turned_if minus (value (coefficient_at cost.terms u)))
   pub right : whole c.right ≡ whole c.lead *ℚ value cost.constant
 
 -- the program q has the columns and the rows of these rows, each times its factor

@@ -32,7 +32,8 @@ pub fn objective_carries_over()
 
 /// Unknowns that solve the rows are those of columns that solve the program, at a cost that is the objective.
 pub fn solutions_come_from_columns()
-    ensures { (rows : GivenRows) (q : Program) (x : Unknowns) → HasKinds rows → IsScaledProgram rows q → SolvesRows (linear_program rows) x → (zs : List ℚ) × IsSolution q zs × ((u : ℕ) → u < length rows.kinds → unknowns_at q.columns zs u ≡ x u) × (cost_at_columns q.objective zs ≡ form_number rows.objective x) }
+    ensures { (rows : GivenRows) (q : Program) (x : Unknowns) → HasKinds rows → IsScaledProgram rows q → SolvesRows (linear_program rows) x
+        → (zs : List ℚ) × IsSolution q zs × ((u : ℕ) → u < length rows.kinds → unknowns_at q.columns zs u ≡ x u) × (cost_at_columns q.objective zs ≡ form_number rows.objective x) }
 {}
 
 /// An answer that is right for the program is right for the rows: with the unknowns that the columns stand for, and the

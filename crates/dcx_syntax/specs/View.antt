@@ -19,7 +19,79 @@ use Rattle.dcx_syntax.specs.declared.tree.Arg.TheOpen.{Arg-F, Index-F, Primary-F
 use Rattle.dcx_syntax.specs.declared.tree.Line as code_line
 use Rattle.dcx_syntax.specs.declared.tree.Line.TheOpen.{Line-F}
 use Rattle.dcx_syntax.specs.declared.tree.Script.{Script}
-use Rattle.dcx_syntax.specs.Expressions.{Expr, expr, Compared, no_comparison, compared, Sum, sum, Added, no_addition, added, Term, term, Scaled, no_scaling, scaled, Factor, factor, Power, power_of, Raised, no_power, raised, exponent, Postfix, postfix, Trailers, no_trailer, attribute, call, indexed, Args, no_args, args, MoreArgs, args_end, args_comma, more_args, Arg, by_place, by_name, Indices, no_index, more_indices, Index, at, slice, Optional, absent, present, Step, no_step, step, Primary, number_at, text_at, name_at, truth_at, none_at, unit, round, tuple, empty_list, list, comprehension, Items, no_items, items, MoreItems, items_end, items_comma, more_items}
+use Rattle.dcx_syntax.specs.Expressions.{
+  Expr,
+  expr,
+  Compared,
+  no_comparison,
+  compared,
+  Sum,
+  sum,
+  Added,
+  no_addition,
+  added,
+  Term,
+  term,
+  Scaled,
+  no_scaling,
+  scaled,
+  Factor,
+  factor,
+  Power,
+  power_of,
+  Raised,
+  no_power,
+  raised,
+  exponent,
+  Postfix,
+  postfix,
+  Trailers,
+  no_trailer,
+  attribute,
+  call,
+  indexed,
+  Args,
+  no_args,
+  args,
+  MoreArgs,
+  args_end,
+  args_comma,
+  more_args,
+  Arg,
+  by_place,
+  by_name,
+  Indices,
+  no_index,
+  more_indices,
+  Index,
+  at,
+  slice,
+  Optional,
+  absent,
+  present,
+  Step,
+  no_step,
+  step,
+  Primary,
+  number_at,
+  text_at,
+  name_at,
+  truth_at,
+  none_at,
+  unit,
+  round,
+  tuple,
+  empty_list,
+  list,
+  comprehension,
+  Items,
+  no_items,
+  items,
+  MoreItems,
+  items_end,
+  items_comma,
+  more_items,
+}
 use Rattle.dcx_syntax.specs.Statements.{nothing, Line, importing, assign, add_to, set_value, evaluate, prints, repeats, Lines, no_lines, lines}
 
 -- what each item puts before the others, one after the other
@@ -89,15 +161,18 @@ abbrev pub step_layer : Step-F Arg Index Primary Step (Trailers → Trailers) (A
 step_layer Step-F.Absent = no_step
 step_layer (Step-F.Colon x) = step (optional_of x)
 
-abbrev pub trailer_layer : Trailer-F Arg Index Primary Step (Trailers → Trailers) (Added → Added) (Compared → Compared) Expr Factor Postfix Power (Raised → Raised) (Scaled → Scaled) Sum Term → (Trailers → Trailers)
+abbrev pub trailer_layer : Trailer-F Arg Index Primary Step (Trailers → Trailers) (Added → Added) (Compared → Compared) Expr Factor Postfix Power (Raised → Raised)
+    (Scaled → Scaled) Sum Term → (Trailers → Trailers)
 trailer_layer (Trailer-F.Attribute n) = attribute n
 trailer_layer (Trailer-F.Call p xs comma) = call p (args_of xs.items comma)
 trailer_layer (Trailer-F.Index p x xs) = indexed p x (indices_of xs.items)
 
-abbrev pub added_layer : Added-F Arg Index Primary Step (Trailers → Trailers) (Added → Added) (Compared → Compared) Expr Factor Postfix Power (Raised → Raised) (Scaled → Scaled) Sum Term → (Added → Added)
+abbrev pub added_layer : Added-F Arg Index Primary Step (Trailers → Trailers) (Added → Added) (Compared → Compared) Expr Factor Postfix Power (Raised → Raised)
+    (Scaled → Scaled) Sum Term → (Added → Added)
 added_layer a = added a.sign a.place a.term
 
-abbrev pub compared_layer : Compared-F Arg Index Primary Step (Trailers → Trailers) (Added → Added) (Compared → Compared) Expr Factor Postfix Power (Raised → Raised) (Scaled → Scaled) Sum Term → (Compared → Compared)
+abbrev pub compared_layer : Compared-F Arg Index Primary Step (Trailers → Trailers) (Added → Added) (Compared → Compared) Expr Factor Postfix Power (Raised → Raised)
+    (Scaled → Scaled) Sum Term → (Compared → Compared)
 compared_layer a = compared a.comparison a.place a.sum
 
 abbrev pub expr_layer : Expr-F Arg Index Primary Step (Trailers → Trailers) (Added → Added) (Compared → Compared) Expr Factor Postfix Power (Raised → Raised) (Scaled → Scaled) Sum Term → Expr
@@ -112,10 +187,12 @@ postfix_layer f = postfix f.primary (chained f.trailers.items no_trailer)
 abbrev pub power_layer : Power-F Arg Index Primary Step (Trailers → Trailers) (Added → Added) (Compared → Compared) Expr Factor Postfix Power (Raised → Raised) (Scaled → Scaled) Sum Term → Power
 power_layer f = power_of f.first (chained f.rest.items no_power)
 
-abbrev pub raised_layer : Raised-F Arg Index Primary Step (Trailers → Trailers) (Added → Added) (Compared → Compared) Expr Factor Postfix Power (Raised → Raised) (Scaled → Scaled) Sum Term → (Raised → Raised)
+abbrev pub raised_layer : Raised-F Arg Index Primary Step (Trailers → Trailers) (Added → Added) (Compared → Compared) Expr Factor Postfix Power (Raised → Raised)
+    (Scaled → Scaled) Sum Term → (Raised → Raised)
 raised_layer r = raised r.place (exponent r.signs.items r.postfix)
 
-abbrev pub scaled_layer : Scaled-F Arg Index Primary Step (Trailers → Trailers) (Added → Added) (Compared → Compared) Expr Factor Postfix Power (Raised → Raised) (Scaled → Scaled) Sum Term → (Scaled → Scaled)
+abbrev pub scaled_layer : Scaled-F Arg Index Primary Step (Trailers → Trailers) (Added → Added) (Compared → Compared) Expr Factor Postfix Power (Raised → Raised)
+    (Scaled → Scaled) Sum Term → (Scaled → Scaled)
 scaled_layer s = scaled s.scaling s.place s.factor
 
 abbrev pub sum_layer : Sum-F Arg Index Primary Step (Trailers → Trailers) (Added → Added) (Compared → Compared) Expr Factor Postfix Power (Raised → Raised) (Scaled → Scaled) Sum Term → Sum
@@ -125,49 +202,79 @@ abbrev pub term_layer : Term-F Arg Index Primary Step (Trailers → Trailers) (A
 term_layer t = term t.first (chained t.rest.items no_scaling)
 
 abbrev pub arg_view : code_arg.Arg → Arg
-arg_view = code_arg.fold-Arg Arg Index Primary Step (Trailers → Trailers) (Added → Added) (Compared → Compared) Expr Factor Postfix Power (Raised → Raised) (Scaled → Scaled) Sum Term arg_layer index_layer primary_layer step_layer trailer_layer added_layer compared_layer expr_layer factor_layer postfix_layer power_layer raised_layer scaled_layer sum_layer term_layer
+arg_view = code_arg.fold-Arg Arg Index Primary Step (Trailers → Trailers) (Added → Added) (Compared → Compared) Expr Factor Postfix Power (Raised → Raised)
+    (Scaled → Scaled) Sum Term arg_layer index_layer primary_layer step_layer trailer_layer added_layer compared_layer expr_layer factor_layer postfix_layer power_layer
+    raised_layer scaled_layer sum_layer term_layer
 
 abbrev pub index_view : code_index.Index → Index
-index_view = code_index.fold-Index Arg Index Primary Step (Trailers → Trailers) (Added → Added) (Compared → Compared) Expr Factor Postfix Power (Raised → Raised) (Scaled → Scaled) Sum Term arg_layer index_layer primary_layer step_layer trailer_layer added_layer compared_layer expr_layer factor_layer postfix_layer power_layer raised_layer scaled_layer sum_layer term_layer
+index_view = code_index.fold-Index Arg Index Primary Step (Trailers → Trailers) (Added → Added) (Compared → Compared) Expr Factor Postfix Power (Raised → Raised)
+    (Scaled → Scaled) Sum Term arg_layer index_layer primary_layer step_layer trailer_layer added_layer compared_layer expr_layer factor_layer postfix_layer power_layer
+    raised_layer scaled_layer sum_layer term_layer
 
 abbrev pub primary_view : code_primary.Primary → Primary
-primary_view = code_primary.fold-Primary Arg Index Primary Step (Trailers → Trailers) (Added → Added) (Compared → Compared) Expr Factor Postfix Power (Raised → Raised) (Scaled → Scaled) Sum Term arg_layer index_layer primary_layer step_layer trailer_layer added_layer compared_layer expr_layer factor_layer postfix_layer power_layer raised_layer scaled_layer sum_layer term_layer
+primary_view = code_primary.fold-Primary Arg Index Primary Step (Trailers → Trailers) (Added → Added) (Compared → Compared) Expr Factor Postfix Power (Raised → Raised)
+    (Scaled → Scaled) Sum Term arg_layer index_layer primary_layer step_layer trailer_layer added_layer compared_layer expr_layer factor_layer postfix_layer power_layer
+    raised_layer scaled_layer sum_layer term_layer
 
 abbrev pub step_view : code_step.Step → Step
-step_view = code_step.fold-Step Arg Index Primary Step (Trailers → Trailers) (Added → Added) (Compared → Compared) Expr Factor Postfix Power (Raised → Raised) (Scaled → Scaled) Sum Term arg_layer index_layer primary_layer step_layer trailer_layer added_layer compared_layer expr_layer factor_layer postfix_layer power_layer raised_layer scaled_layer sum_layer term_layer
+step_view = code_step.fold-Step Arg Index Primary Step (Trailers → Trailers) (Added → Added) (Compared → Compared) Expr Factor Postfix Power (Raised → Raised)
+    (Scaled → Scaled) Sum Term arg_layer index_layer primary_layer step_layer trailer_layer added_layer compared_layer expr_layer factor_layer postfix_layer power_layer
+    raised_layer scaled_layer sum_layer term_layer
 
 abbrev pub trailer_view : code_trailer.Trailer → (Trailers → Trailers)
-trailer_view = code_trailer.fold-Trailer Arg Index Primary Step (Trailers → Trailers) (Added → Added) (Compared → Compared) Expr Factor Postfix Power (Raised → Raised) (Scaled → Scaled) Sum Term arg_layer index_layer primary_layer step_layer trailer_layer added_layer compared_layer expr_layer factor_layer postfix_layer power_layer raised_layer scaled_layer sum_layer term_layer
+trailer_view = code_trailer.fold-Trailer Arg Index Primary Step (Trailers → Trailers) (Added → Added) (Compared → Compared) Expr Factor Postfix Power (Raised → Raised)
+    (Scaled → Scaled) Sum Term arg_layer index_layer primary_layer step_layer trailer_layer added_layer compared_layer expr_layer factor_layer postfix_layer power_layer
+    raised_layer scaled_layer sum_layer term_layer
 
 abbrev pub added_view : code_added.Added → (Added → Added)
-added_view = code_added.fold-Added Arg Index Primary Step (Trailers → Trailers) (Added → Added) (Compared → Compared) Expr Factor Postfix Power (Raised → Raised) (Scaled → Scaled) Sum Term arg_layer index_layer primary_layer step_layer trailer_layer added_layer compared_layer expr_layer factor_layer postfix_layer power_layer raised_layer scaled_layer sum_layer term_layer
+added_view = code_added.fold-Added Arg Index Primary Step (Trailers → Trailers) (Added → Added) (Compared → Compared) Expr Factor Postfix Power (Raised → Raised)
+    (Scaled → Scaled) Sum Term arg_layer index_layer primary_layer step_layer trailer_layer added_layer compared_layer expr_layer factor_layer postfix_layer power_layer
+    raised_layer scaled_layer sum_layer term_layer
 
 abbrev pub compared_view : code_compared.Compared → (Compared → Compared)
-compared_view = code_compared.fold-Compared Arg Index Primary Step (Trailers → Trailers) (Added → Added) (Compared → Compared) Expr Factor Postfix Power (Raised → Raised) (Scaled → Scaled) Sum Term arg_layer index_layer primary_layer step_layer trailer_layer added_layer compared_layer expr_layer factor_layer postfix_layer power_layer raised_layer scaled_layer sum_layer term_layer
+compared_view = code_compared.fold-Compared Arg Index Primary Step (Trailers → Trailers) (Added → Added) (Compared → Compared) Expr Factor Postfix Power (Raised → Raised)
+    (Scaled → Scaled) Sum Term arg_layer index_layer primary_layer step_layer trailer_layer added_layer compared_layer expr_layer factor_layer postfix_layer power_layer
+    raised_layer scaled_layer sum_layer term_layer
 
 abbrev pub expr_view : code_expr.Expr → Expr
-expr_view = code_expr.fold-Expr Arg Index Primary Step (Trailers → Trailers) (Added → Added) (Compared → Compared) Expr Factor Postfix Power (Raised → Raised) (Scaled → Scaled) Sum Term arg_layer index_layer primary_layer step_layer trailer_layer added_layer compared_layer expr_layer factor_layer postfix_layer power_layer raised_layer scaled_layer sum_layer term_layer
+expr_view = code_expr.fold-Expr Arg Index Primary Step (Trailers → Trailers) (Added → Added) (Compared → Compared) Expr Factor Postfix Power (Raised → Raised)
+    (Scaled → Scaled) Sum Term arg_layer index_layer primary_layer step_layer trailer_layer added_layer compared_layer expr_layer factor_layer postfix_layer power_layer
+    raised_layer scaled_layer sum_layer term_layer
 
 abbrev pub factor_view : code_factor.Factor → Factor
-factor_view = code_factor.fold-Factor Arg Index Primary Step (Trailers → Trailers) (Added → Added) (Compared → Compared) Expr Factor Postfix Power (Raised → Raised) (Scaled → Scaled) Sum Term arg_layer index_layer primary_layer step_layer trailer_layer added_layer compared_layer expr_layer factor_layer postfix_layer power_layer raised_layer scaled_layer sum_layer term_layer
+factor_view = code_factor.fold-Factor Arg Index Primary Step (Trailers → Trailers) (Added → Added) (Compared → Compared) Expr Factor Postfix Power (Raised → Raised)
+    (Scaled → Scaled) Sum Term arg_layer index_layer primary_layer step_layer trailer_layer added_layer compared_layer expr_layer factor_layer postfix_layer power_layer
+    raised_layer scaled_layer sum_layer term_layer
 
 abbrev pub postfix_view : code_postfix.Postfix → Postfix
-postfix_view = code_postfix.fold-Postfix Arg Index Primary Step (Trailers → Trailers) (Added → Added) (Compared → Compared) Expr Factor Postfix Power (Raised → Raised) (Scaled → Scaled) Sum Term arg_layer index_layer primary_layer step_layer trailer_layer added_layer compared_layer expr_layer factor_layer postfix_layer power_layer raised_layer scaled_layer sum_layer term_layer
+postfix_view = code_postfix.fold-Postfix Arg Index Primary Step (Trailers → Trailers) (Added → Added) (Compared → Compared) Expr Factor Postfix Power (Raised → Raised)
+    (Scaled → Scaled) Sum Term arg_layer index_layer primary_layer step_layer trailer_layer added_layer compared_layer expr_layer factor_layer postfix_layer power_layer
+    raised_layer scaled_layer sum_layer term_layer
 
 abbrev pub power_view : code_power.Power → Power
-power_view = code_power.fold-Power Arg Index Primary Step (Trailers → Trailers) (Added → Added) (Compared → Compared) Expr Factor Postfix Power (Raised → Raised) (Scaled → Scaled) Sum Term arg_layer index_layer primary_layer step_layer trailer_layer added_layer compared_layer expr_layer factor_layer postfix_layer power_layer raised_layer scaled_layer sum_layer term_layer
+power_view = code_power.fold-Power Arg Index Primary Step (Trailers → Trailers) (Added → Added) (Compared → Compared) Expr Factor Postfix Power (Raised → Raised)
+    (Scaled → Scaled) Sum Term arg_layer index_layer primary_layer step_layer trailer_layer added_layer compared_layer expr_layer factor_layer postfix_layer power_layer
+    raised_layer scaled_layer sum_layer term_layer
 
 abbrev pub raised_view : code_raised.Raised → (Raised → Raised)
-raised_view = code_raised.fold-Raised Arg Index Primary Step (Trailers → Trailers) (Added → Added) (Compared → Compared) Expr Factor Postfix Power (Raised → Raised) (Scaled → Scaled) Sum Term arg_layer index_layer primary_layer step_layer trailer_layer added_layer compared_layer expr_layer factor_layer postfix_layer power_layer raised_layer scaled_layer sum_layer term_layer
+raised_view = code_raised.fold-Raised Arg Index Primary Step (Trailers → Trailers) (Added → Added) (Compared → Compared) Expr Factor Postfix Power (Raised → Raised)
+    (Scaled → Scaled) Sum Term arg_layer index_layer primary_layer step_layer trailer_layer added_layer compared_layer expr_layer factor_layer postfix_layer power_layer
+    raised_layer scaled_layer sum_layer term_layer
 
 abbrev pub scaled_view : code_scaled.Scaled → (Scaled → Scaled)
-scaled_view = code_scaled.fold-Scaled Arg Index Primary Step (Trailers → Trailers) (Added → Added) (Compared → Compared) Expr Factor Postfix Power (Raised → Raised) (Scaled → Scaled) Sum Term arg_layer index_layer primary_layer step_layer trailer_layer added_layer compared_layer expr_layer factor_layer postfix_layer power_layer raised_layer scaled_layer sum_layer term_layer
+scaled_view = code_scaled.fold-Scaled Arg Index Primary Step (Trailers → Trailers) (Added → Added) (Compared → Compared) Expr Factor Postfix Power (Raised → Raised)
+    (Scaled → Scaled) Sum Term arg_layer index_layer primary_layer step_layer trailer_layer added_layer compared_layer expr_layer factor_layer postfix_layer power_layer
+    raised_layer scaled_layer sum_layer term_layer
 
 abbrev pub sum_view : code_sum.Sum → Sum
-sum_view = code_sum.fold-Sum Arg Index Primary Step (Trailers → Trailers) (Added → Added) (Compared → Compared) Expr Factor Postfix Power (Raised → Raised) (Scaled → Scaled) Sum Term arg_layer index_layer primary_layer step_layer trailer_layer added_layer compared_layer expr_layer factor_layer postfix_layer power_layer raised_layer scaled_layer sum_layer term_layer
+sum_view = code_sum.fold-Sum Arg Index Primary Step (Trailers → Trailers) (Added → Added) (Compared → Compared) Expr Factor Postfix Power (Raised → Raised)
+    (Scaled → Scaled) Sum Term arg_layer index_layer primary_layer step_layer trailer_layer added_layer compared_layer expr_layer factor_layer postfix_layer power_layer
+    raised_layer scaled_layer sum_layer term_layer
 
 abbrev pub term_view : code_term.Term → Term
-term_view = code_term.fold-Term Arg Index Primary Step (Trailers → Trailers) (Added → Added) (Compared → Compared) Expr Factor Postfix Power (Raised → Raised) (Scaled → Scaled) Sum Term arg_layer index_layer primary_layer step_layer trailer_layer added_layer compared_layer expr_layer factor_layer postfix_layer power_layer raised_layer scaled_layer sum_layer term_layer
+term_view = code_term.fold-Term Arg Index Primary Step (Trailers → Trailers) (Added → Added) (Compared → Compared) Expr Factor Postfix Power (Raised → Raised)
+    (Scaled → Scaled) Sum Term arg_layer index_layer primary_layer step_layer trailer_layer added_layer compared_layer expr_layer factor_layer postfix_layer power_layer
+    raised_layer scaled_layer sum_layer term_layer
 
 abbrev pub optional_view : Option code_expr.Expr → Optional
 optional_view None = absent

@@ -1,11 +1,12 @@
 //! Runs over both tableaus, compared.
-ghost use Rattle.std.specs.Prelude.{◌≡◌, ◌<◌, length};
+ghost use Rattle.std.specs.Prelude.{◌≡◌, ◌<◌, ⊤, length, MatchOption};
+ghost use Rattle.dcx_tab.specs.Pivot.{IsFirstWide};
 
-use crate::told::tell;
+use crate::told::{tell, tell_wide};
 use anyhow::Result;
 use dcx_chained::Chained;
 use dcx_simplex::{LpEnd, solve};
-use dcx_tab::{Dense, Program, Tableau};
+use dcx_tab::{Dense, Program, Tableau, WideAt};
 use std::alloc::AllocError;
 
 /// Whether both tableaus have the same row `i`.
@@ -51,6 +52,38 @@ fn end_of<T: Tableau, U: Tableau>(one: &mut T, other: &mut U, limit: u64) -> Opt
     }
 }
 
+/// The first number that a pivot would form beyond 128 bits; `None` where the pivot is done, or there is none at this place.
+fn first_wide<T: Tableau>(tableau: &mut T, row: u32, column: u32) -> Option<WideAt>
+    ensures { MatchOption result ⊤ (λ at. IsFirstWide row column (T.table tableau.old).rows at.row at.column) }
+{
+    if row >= tableau.rows() || column >= tableau.columns() {
+        return None;
+    }
+    if tableau.entry(row, column) == 0 {
+        return None;
+    }
+    match tableau.pivot(row, column) {
+        Ok(()) => None,
+        Err(at) => Some(at),
+    }
+}
+
+/// The same over both tableaus; `None` where the places differ.
+fn same_wide<T: Tableau, U: Tableau>(
+    one: &mut T,
+    other: &mut U,
+    row: u32,
+    column: u32,
+) -> Option<WideAt> {
+    let at = first_wide(one, row, column)?;
+    let also = first_wide(other, row, column)?;
+    if at.row == also.row && at.column == also.column {
+        Some(at)
+    } else {
+        None
+    }
+}
+
 /// Runs with so many pivots at most over two tableaus, and tells where the runs differ, or how they end where the limit isn't
 /// met. Answers false where it is met.
 fn is_told<T: Tableau + Drop, U: Tableau + Drop>(
@@ -64,6 +97,16 @@ fn is_told<T: Tableau + Drop, U: Tableau + Drop>(
     let mut other = other?;
     match end_of(&mut one, &mut other, limit) {
         Some(LpEnd::PivotLimit { .. }) => return Ok(false),
+        Some(
+            LpEnd::Wide {
+                pivots,
+                row,
+                column,
+            },
+        ) => {
+            let at = same_wide(&mut one, &mut other, row, column);
+            tell_wide(rt, name, pivots, row, column, at)?
+        }
         Some(end) => tell(rt, name, &other, end)?,
         None => println!(rt; "{name}: differs under the limit {limit}")?,
     }

@@ -72,8 +72,10 @@ complete s cs (within row is here) =
         };
       };
     }
-complete s cs (leads blanks is none column last_one) = record { more = replicate (length s.indents) last; lined = record { new = replicate (length s.indents) last; tokens = refl; goes = ended (all_last (length s.indents)) } }
-complete s cs (closing blanks is none end) = record { more = replicate (length s.indents) last; lined = record { new = replicate (length s.indents) last; tokens = refl; goes = ended (all_last (length s.indents)) } }
+complete s cs (leads blanks is none column last_one) =
+    record { more = replicate (length s.indents) last; lined = record { new = replicate (length s.indents) last; tokens = refl; goes = ended (all_last (length s.indents)) } }
+complete s cs (closing blanks is none end) =
+    record { more = replicate (length s.indents) last; lined = record { new = replicate (length s.indents) last; tokens = refl; goes = ended (all_last (length s.indents)) } }
 
 -- behind the marks of a line comes a token of it
 first_word : Place → Token
@@ -82,7 +84,8 @@ first_word place = record { kind = kind.Name; start = 0; end = 0; place = place 
 first_end : Place → Token
 first_end place = record { kind = kind.Newline; start = 0; end = 0; place = place }
 
-marks_complete : (s t : State) (blocks : List ℕ) (marks : List Token) (depth : ℕ) → s.at.place.column ≡ 1 + depth → t.tokens ≡ s.tokens ++ marks → All (λ m. m.place ≡ s.at.place) marks → Turns s.indents depth (kinds marks) blocks →
+marks_complete : (s t : State) (blocks : List ℕ) (marks : List Token) (depth : ℕ) → s.at.place.column ≡ 1 + depth → t.tokens ≡ s.tokens ++ marks
+    → All (λ m. m.place ≡ s.at.place) marks → Turns s.indents depth (kinds marks) blocks →
     (more : List Token) × (new : List Token) × (t.tokens ++ more ≡ s.tokens ++ new) × AreLines s.indents new
 unfolding first_word first_end
 marks_complete s t blocks marks depth column tokens places turns_so =
@@ -90,8 +93,14 @@ marks_complete s t blocks marks depth column tokens places turns_so =
     let end = first_end s.at.place in
     let ds = replicate (length blocks) last in
     let depth_is : depth ≡ depth_of first = omega (arith, column) in
-    let made = line marks first [] end ds (subst (λ d. Turns s.indents d (kinds marks) blocks) depth_is turns_so) places (All-cons (λ u. IsOfWords u.kind) first [] tt (All-nil (λ u. IsOfWords u.kind))) refl (inl refl, tt) refl (ended (all_last (length blocks))) in
-    (first ∷ end ∷ ds, marks ++ first ∷ end ∷ ds, ap (λ us. us ++ first ∷ end ∷ ds) tokens ∙ append_assoc s.tokens marks (first ∷ end ∷ ds), subst (AreLines s.indents) (append_assoc marks (first ∷ []) (end ∷ ds)) made)
+    let made = line marks first [] end ds (subst (λ d. Turns s.indents d (kinds marks) blocks) depth_is turns_so) places
+    (All-cons (λ u. IsOfWords u.kind) first [] tt (All-nil (λ u. IsOfWords u.kind))) refl (inl refl, tt) refl (ended (all_last (length blocks))) in (
+      first ∷ end ∷ ds,
+      marks ++ first ∷ end ∷ ds,
+      ap (λ us. us ++ first ∷ end ∷ ds) tokens
+          ∙ append_assoc s.tokens marks (first ∷ end ∷ ds),
+      subst (AreLines s.indents) (append_assoc marks (first ∷ []) (end ∷ ds)) made,
+    )
 
 -- ---- a whole reading
 stop_completes : (s t : State) (c : ℕ) (cs : List ℕ) (f : ReadFault) (stage : Stage s (c ∷ cs)) → IsRising 0 s.indents → IsFormed s → step s c cs ≡ (t, Err f) → Completes s (c ∷ cs) t.tokens stage
@@ -118,7 +127,8 @@ reads_complete : {s : State} {cs : List ℕ} {ts : List Token} {g : Option ReadF
 reads_complete {s = s} f stage rising some (ends {t = t} e are is) =
     let end = subst (EndIf s f) e (end_stops s f) (is ∙ some) in
     subst (λ us. Completes s [] us stage) (end.left ∙ are) (complete s [] stage)
-reads_complete {s = s} {cs = c ∷ cs} f stage rising some (stops {t = t} {f = h} e are is) = subst (λ us. Completes s (c ∷ cs) us stage) are (stop_completes s t c cs h stage rising (stage_formed s (c ∷ cs) stage) e)
+reads_complete {s = s} {cs = c ∷ cs} f stage rising some (stops {t = t} {f = h} e are is) =
+    subst (λ us. Completes s (c ∷ cs) us stage) are (stop_completes s t c cs h stage rising (stage_formed s (c ∷ cs) stage) e)
 reads_complete {s = s} {cs = c ∷ cs} {ts = ts} f stage rising some (goes_on {t = t} {n = n} e more) =
     let one = next s t c cs n rising stage (stepped s t c cs n e) in
     let rest = reads_complete f one.here one.rising some more in

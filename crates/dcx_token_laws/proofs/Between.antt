@@ -53,7 +53,8 @@ is_line_end c (d ∷ ds) n l count = by (eqb c 10) (eqb c 13) (eqb d 10) refl re
 abbrev IsClear : List ℕ → ℕ → Type 0
 IsClear cs n = (k : ℕ) → n ≡ suc k → n ≡ prefix_len is_not_line_feed cs → n < length cs → eqb (get_or cs k 0) 13 ≡ false
 
-ends_none : (c : ℕ) (cs : List ℕ) (n : ℕ) → eqb c 10 ≡ false → suc n ≤ 1 + prefix_len is_not_line_feed cs → (suc n ≡ 1 + prefix_len is_not_line_feed cs → suc n < suc (length cs) → eqb (get_or (c ∷ cs) n 0) 13 ≡ false) → ends_line c cs ≡ false
+ends_none : (c : ℕ) (cs : List ℕ) (n : ℕ) → eqb c 10 ≡ false → suc n ≤ 1 + prefix_len is_not_line_feed cs
+    → (suc n ≡ 1 + prefix_len is_not_line_feed cs → suc n < suc (length cs) → eqb (get_or (c ∷ cs) n 0) 13 ≡ false) → ends_line c cs ≡ false
 ends_none c [] n other le clear = other
 ends_none c (d ∷ ds) n other le clear = by (eqb c 13) (eqb d 10) refl refl
   where
@@ -119,7 +120,8 @@ return_next cs n some within is e =
     let return : get_or cs m 0 ≡ 13 = is_char (get_or cs m 0) 13 e in
     let first : drop m cs ≡ get_or cs m 0 ∷ drop (suc m) cs = drop-cons cs m 0 (omega arith) in
     let second : drop n cs ≡ get_or cs n 0 ∷ drop (suc n) cs = drop-cons cs n 0 within in
-    let both : drop m cs ≡ 13 ∷ 10 ∷ drop (suc n) cs = first ∙ ap (λ x. x ∷ drop (suc m) cs) return ∙ ap (λ i. 13 ∷ drop i cs) next ∙ ap (λ xs. 13 ∷ xs) (second ∙ ap (λ x. x ∷ drop (suc n) cs) feed) in
+    let both : drop m cs ≡ 13 ∷ 10 ∷ drop (suc n) cs =
+    first ∙ ap (λ x. x ∷ drop (suc m) cs) return ∙ ap (λ i. 13 ∷ drop i cs) next ∙ ap (λ xs. 13 ∷ xs) (second ∙ ap (λ x. x ∷ drop (suc n) cs) feed) in
     subst EndsLine (sym both) refl
 
 comment_of : (c : ℕ) (cs : List ℕ) (n m : ℕ) → c ≡ 35 → n ≡ suc m → m ≤ prefix_len is_not_line_feed cs → IsClear cs m → EndsLine (drop m cs) → IsComment (take n (c ∷ cs)) (drop n (c ∷ cs))
@@ -134,11 +136,14 @@ comment_by c cs n run true true true h is ea eb ed e =
     let some = is_less 0 run ea in
     comment_of c cs n (run - 1) h (omega arith) (omega arith) (λ k same at_end within. absurd (omega (arith, some, is, at_end))) (return_next cs run some (is_less run (length cs) eb) is ed)
 comment_by c cs n run true true false h is ea eb ed e =
-    comment_of c cs n run h (omega arith) (omega arith) (λ k same at_end within. let last : run - 1 ≡ k = omega (arith, same) in subst (λ i. eqb (get_or cs i 0) 13 ≡ false) last ed) (subst (λ i. EndsLine (drop i cs)) (sym is) (feed_next cs))
+    comment_of c cs n run h (omega arith) (omega arith) (λ k same at_end within. let last : run - 1 ≡ k = omega (arith, same) in
+    subst (λ i. eqb (get_or cs i 0) 13 ≡ false) last ed) (subst (λ i. EndsLine (drop i cs)) (sym is) (feed_next cs))
 comment_by c cs n run true false d h is ea eb ed e =
-    comment_of c cs n run h (omega arith) (omega arith) (λ k same at_end within. absurd (let most = not_less run (length cs) eb in omega (arith, most, within))) (subst (λ i. EndsLine (drop i cs)) (sym is) (feed_next cs))
+    comment_of c cs n run h (omega arith) (omega arith) (λ k same at_end within. absurd (let most = not_less run (length cs) eb in omega (arith, most, within)))
+    (subst (λ i. EndsLine (drop i cs)) (sym is) (feed_next cs))
 comment_by c cs n run false b d h is ea eb ed e =
-    comment_of c cs n run h (omega arith) (omega arith) (λ k same at_end within. absurd (let none = not_less 0 run ea in omega (arith, none, same))) (subst (λ i. EndsLine (drop i cs)) (sym is) (feed_next cs))
+    comment_of c cs n run h (omega arith) (omega arith) (λ k same at_end within. absurd (let none = not_less 0 run ea in omega (arith, none, same)))
+    (subst (λ i. EndsLine (drop i cs)) (sym is) (feed_next cs))
 
 pub is_comment : (c : ℕ) (cs : List ℕ) (n : ℕ) → eqb c 35 ≡ true → n ≡ 1 + up_to_line_end cs → IsComment (take n (c ∷ cs)) (drop n (c ∷ cs))
 is_comment c cs n h count =

@@ -1,5 +1,6 @@
 -- Along a reading: how far the line stands from the first column, and that its tokens are those of lines.
-use Rattle.std.proofs.Common.{◌≡◌, ◌≢◌, ◌⊎◌, inl, inr, ℕ, zero, suc, ◌+◌, ◌-◌, ◌<◌, Bool, true, false, cond, eqb, ◌||◌, List, [], ◌∷◌, ◌++◌, length, take, drop, replicate, Option, Some, None, refl, sym, ap, ◌∙◌, subst, append_assoc, arith}
+use Rattle.std.proofs.Common.{◌≡◌, ◌≢◌, ◌⊎◌, inl, inr, ℕ, zero, suc, ◌+◌, ◌-◌, ◌<◌, Bool, true, false, cond, eqb, ◌||◌, List, [], ◌∷◌}
+use Rattle.std.proofs.Common.{◌++◌, length, take, drop, replicate, Option, Some, None, refl, sym, ap, ◌∙◌, subst, append_assoc, arith}
 use Rattle.std.specs.Prelude.{IsTrue, slice_get}
 use Rattle.std.specs.List.{All, prefix_len}
 use Rattle.std.specs.Str.{chars}
@@ -27,7 +28,8 @@ use Rattle.dcx_token_laws.specs.Lines.{IsOfWords, depth_of, kinds, Turns, IsToge
 use Rattle.dcx_token_laws.proofs.Between.{run_is, are_blanks, is_line_end, is_comment}
 use Rattle.dcx_token_laws.proofs.Feeds.{HasNoFeed, not_end, token_feeds}
 use Rattle.dcx_token_laws.proofs.Heads.{Ends as HeadEnds, passed as end_passed, ended as end_ended, ends_at, comment_at, word_at, blanks_cut}
-use Rattle.dcx_token_laws.proofs.Same.{word_not_newline, mark_not_newline, word_not, same_span, same_marks, no_earlier, marks_kinds, a_line, not_newline, one_turn, AtEnd, at_end, end_lines, end_there, no_word_there, tokens_behind, token_among}
+use Rattle.dcx_token_laws.proofs.Same.{word_not_newline, mark_not_newline, word_not, same_span, same_marks, no_earlier, marks_kinds, a_line}
+use Rattle.dcx_token_laws.proofs.Same.{not_newline, one_turn, AtEnd, at_end, end_lines, end_there, no_word_there, tokens_behind, token_among}
 use Rattle.dcx_token_laws.proofs.Spelled.{is_word, is_longest}
 use Rattle.dcx_token_laws.proofs.Stretches.{IsBehind, next_behind, token_spans, last_is, step_moved}
 use Rattle.dcx_token_laws.proofs.Forms.{HasBegun, IsLed, Turned, deeper, back, turns, begun_is, IsNested, nests, Closes, over, inside, begun_closes, empty_ends}
@@ -142,12 +144,14 @@ pub record IsLined (s : State) (cs : List ℕ) (ts : List Token) (stage : Stage 
 
 -- ---- the first token of the rest of a line
 module _ (blocks : List ℕ) (row brackets : ℕ) (end : Token) (behind : List Token) (newline : end.kind ≡ kind.Newline) (t : Token) (ts : List Token) where
-  end_first : (more : List Token) → t ∷ ts ≡ more ++ end ∷ behind → All (λ u. IsOfWords u.kind) more → brackets_left brackets more ≡ 0 → AreLines blocks behind → t.kind ≡ kind.Newline → (brackets ≡ 0) × AreLines blocks ts
+  end_first : (more : List Token) → t ∷ ts ≡ more ++ end ∷ behind → All (λ u. IsOfWords u.kind) more → brackets_left brackets more ≡ 0 → AreLines blocks behind
+      → t.kind ≡ kind.Newline → (brackets ≡ 0) × AreLines blocks ts
   end_first [] e words closed lines is = (closed, subst (AreLines blocks) (sym (tail_is t end ts behind e)) lines)
   end_first (x ∷ xs) e words closed lines is =
       absurd (word_not_newline x.kind (All-head (λ u. IsOfWords u.kind) x xs words) (ap (λ (u : Token). u.kind) (sym (head_is t x ts (xs ++ end ∷ behind) e)) ∙ is))
 
-  word_first : (more : List Token) → t ∷ ts ≡ more ++ end ∷ behind → All (λ u. IsOfWords u.kind) more → brackets_left brackets more ≡ 0 → IsTogether row brackets (more ++ end ∷ []) → AreLines blocks behind → IsOfWords t.kind →
+  word_first : (more : List Token) → t ∷ ts ≡ more ++ end ∷ behind → All (λ u. IsOfWords u.kind) more → brackets_left brackets more ≡ 0
+      → IsTogether row brackets (more ++ end ∷ []) → AreLines blocks behind → IsOfWords t.kind →
       IsInside blocks t.place.line (brackets_behind brackets t.kind) ts
   word_first [] e words closed together lines word = absurd (word_not_newline t.kind word (ap (λ (u : Token). u.kind) (head_is t end ts behind e) ∙ newline))
   word_first (x ∷ xs) e words closed together lines word =
@@ -253,29 +257,37 @@ module _ (s : State) (c : ℕ) (cs : List ℕ) (n : ℕ) (rising : IsRising 0 s.
         by (inl e) = let r = next_row in omega (arith, e, r)
         by (inr some) = absurd (omega (arith, some, none))
 
-    over_after : (front : List ℕ) (us : List Token) → IsBehind front s → length s.brackets ≡ 0 → IsLineEnd (take n (c ∷ cs)) → HeadEnds front (take n (c ∷ cs)) (drop n (c ∷ cs)) us → IsInside s.indents row (length s.brackets) us →
-        (left : List Token) × Cut (front ++ take n (c ∷ cs)) (drop n (c ∷ cs)) left [] × AreLines s.indents left × (s.tokens ++ us ≡ (s.tokens ++ token_of s kind.Newline (take n (c ∷ cs)) ∷ []) ++ left)
-    over_after front us h none end (end_passed more) goes = absurd (rows_clash s.indents row (length s.brackets) (front ++ take n (c ∷ cs)) (drop n (c ∷ cs)) us more goes none (line_later front h none end))
+    over_after : (front : List ℕ) (us : List Token) → IsBehind front s → length s.brackets ≡ 0 → IsLineEnd (take n (c ∷ cs))
+        → HeadEnds front (take n (c ∷ cs)) (drop n (c ∷ cs)) us → IsInside s.indents row (length s.brackets) us →
+        (left : List Token) × Cut (front ++ take n (c ∷ cs)) (drop n (c ∷ cs)) left [] × AreLines s.indents left
+        × (s.tokens ++ us ≡ (s.tokens ++ token_of s kind.Newline (take n (c ∷ cs)) ∷ []) ++ left)
+    over_after front us h none end (end_passed more) goes =
+        absurd (rows_clash s.indents row (length s.brackets) (front ++ take n (c ∷ cs)) (drop n (c ∷ cs)) us more goes none (line_later front h none end))
     over_after front us h none end (end_ended t ts is newline spans more) goes =
         let token = token_of s kind.Newline (take n (c ∷ cs)) in
         let first = end_first s.indents row (length s.brackets) goes.end goes.behind goes.newline t ts goes.more (sym is ∙ goes.are) goes.words goes.closed goes.lines newline in
         let same = same_span t token front (take n (c ∷ cs)) newline spans (token_spans s kind.Newline front (take n (c ∷ cs)) h) in
         (ts, more, first.1, ap (λ zs. s.tokens ++ zs) (is ∙ ap (λ u. u ∷ ts) same) ∙ sym (append_assoc s.tokens (token ∷ []) ts))
 
-    inside_after : (front : List ℕ) (us : List Token) → 0 < length s.brackets → HeadEnds front (take n (c ∷ cs)) (drop n (c ∷ cs)) us → IsInside s.indents row (length s.brackets) us → Cut (front ++ take n (c ∷ cs)) (drop n (c ∷ cs)) us []
+    inside_after : (front : List ℕ) (us : List Token) → 0 < length s.brackets → HeadEnds front (take n (c ∷ cs)) (drop n (c ∷ cs)) us
+        → IsInside s.indents row (length s.brackets) us → Cut (front ++ take n (c ∷ cs)) (drop n (c ∷ cs)) us []
     inside_after front us some (end_passed more) goes = more
     inside_after front us some (end_ended t ts is newline spans more) goes =
-        absurd (let first = end_first s.indents row (length s.brackets) goes.end goes.behind goes.newline t ts goes.more (sym is ∙ goes.are) goes.words goes.closed goes.lines newline in let none = first.0 in omega (arith, none, some))
+        absurd (let first = end_first s.indents row (length s.brackets) goes.end goes.behind goes.newline t ts goes.more
+        (sym is ∙ goes.are) goes.words goes.closed goes.lines newline in let none = first.0 in omega (arith, none, some))
 
-    word_left : (front : List ℕ) (us : List Token) (v : State) (k : TokenKind) → IsBehind front s → IsToken c cs k n → IsNested s v k → IsInside s.indents row (length s.brackets) us → (marks : List Token) (t : Token) (behind : List Token) →
+    word_left : (front : List ℕ) (us : List Token) (v : State) (k : TokenKind) → IsBehind front s → IsToken c cs k n → IsNested s v k
+        → IsInside s.indents row (length s.brackets) us → (marks : List Token) (t : Token) (behind : List Token) →
         us ≡ marks ++ t ∷ behind → AreMarks front marks → t.kind ≡ k → Spans t front (take n (c ∷ cs)) →
         IsInside v.indents v.at.place.line (length v.brackets) behind × (s.tokens ++ us ≡ (v.tokens ++ token_of v k (take n (c ∷ cs)) ∷ []) ++ behind)
     word_left front us v k h token nest goes (m ∷ ms) t behind is are same spans =
-        absurd (no_mark_first s.indents row (length s.brackets) goes.end goes.behind goes.newline m (ms ++ t ∷ behind) goes.more (sym is ∙ goes.are) goes.words (All-head (λ u. IsMark u.kind × Spans u front []) m ms are).0)
+        absurd (no_mark_first s.indents row (length s.brackets) goes.end goes.behind goes.newline m (ms ++ t ∷ behind) goes.more (sym is ∙ goes.are) goes.words
+        (All-head (λ u. IsMark u.kind × Spans u front []) m ms are).0)
     word_left front us v k h token nest goes [] t behind is are same spans =
         let tok = token_of v k (take n (c ∷ cs)) in
         let one : t ≡ tok = same_span t tok front (take n (c ∷ cs)) same spans (token_spans v k front (take n (c ∷ cs)) (nest.at ∙ h)) in
-        let first = word_first s.indents row (length s.brackets) goes.end goes.behind goes.newline t behind goes.more (sym is ∙ goes.are) goes.words goes.closed goes.together goes.lines (subst IsOfWords (sym same) (is_of_words c cs k n token)) in
+        let first = word_first s.indents row (length s.brackets) goes.end goes.behind goes.newline t behind goes.more
+        (sym is ∙ goes.are) goes.words goes.closed goes.together goes.lines (subst IsOfWords (sym same) (is_of_words c cs k n token)) in
         let here_so = subst (λ (u : Token). IsInside s.indents u.place.line (brackets_behind (length s.brackets) u.kind) behind) one first in
         let nested_so = subst (λ b. IsInside s.indents v.at.place.line b behind) (sym nest.brackets) here_so in (
           subst (λ blocks. IsInside blocks v.at.place.line (length v.brackets) behind) (sym nest.indents) nested_so,
@@ -331,7 +343,10 @@ module _ (s : State) (c : ℕ) (cs : List ℕ) (n : ℕ) (rising : IsRising 0 s.
               are = ap (λ us. tok ∷ us) rest.are;
               words = All-cons (λ t. IsOfWords t.kind) tok rest.more (is_of_words c cs k n token) rest.words;
               closed = ap (λ m. brackets_left m rest.more) (sym nest.brackets) ∙ rest.closed;
-              together = (subst (λ p. (p ≡ row) ⊎ (0 < length s.brackets)) (sym (row_at v nest.at)) here, subst (λ b. IsTogether tok.place.line b (rest.more ++ rest.end ∷ [])) nest.brackets rest.together);
+              together = (
+                subst (λ p. (p ≡ row) ⊎ (0 < length s.brackets)) (sym (row_at v nest.at)) here,
+                subst (λ b. IsTogether tok.place.line b (rest.more ++ rest.end ∷ [])) nest.brackets rest.together,
+              );
               newline = rest.newline;
               lines = subst (λ blocks. AreLines blocks rest.behind) nest.indents rest.lines;
             };
@@ -356,7 +371,8 @@ module _ (s : State) (c : ℕ) (cs : List ℕ) (n : ℕ) (rising : IsRising 0 s.
           here = within row is (stays_here (take n (c ∷ cs)) (comment_feeds (take n (c ∷ cs)) (drop n (c ∷ cs)) (is_comment c cs n h count)));
           rising = rising;
           before = λ ts lined. record { new = lined.new; tokens = lined.tokens; goes = lined.goes };
-          after = λ front e us cut goes. record { left = us; cut = comment_at front (take n (c ∷ cs)) (drop n (c ∷ cs)) us (is_comment c cs n h count) (cut_in_two front us cut); goes = goes; tokens = refl };
+          after = λ front e us cut goes. record
+              { left = us; cut = comment_at front (take n (c ∷ cs)) (drop n (c ∷ cs)) us (is_comment c cs n h count) (cut_in_two front us cut); goes = goes; tokens = refl };
         })
     next_within t (steps.word u v k l b begins_so token nested_so same) =
         let nest = subst (λ (w : State). IsNested w v k) (begun_is s u is begins_so) (nests u v k nested_so) in
@@ -410,7 +426,8 @@ module _ (s : State) (c : ℕ) (cs : List ℕ) (n : ℕ) (rising : IsRising 0 s.
     empty_after front us (end_passed more) lines = more
     empty_after front us (end_ended t ts is newline spans more) lines = absurd (not_newline lines t ts is newline)
 
-    next_empty : (t : State) (stage : Stage s (c ∷ cs)) → ((new : List Token) → AreLines s.indents new → Goes s (c ∷ cs) stage new) → ((new : List Token) → Goes s (c ∷ cs) stage new → AreLines s.indents new) → ends_line c cs ≡ true → n ≡ line_end_len c →
+    next_empty : (t : State) (stage : Stage s (c ∷ cs)) → ((new : List Token) → AreLines s.indents new → Goes s (c ∷ cs) stage new)
+        → ((new : List Token) → Goes s (c ∷ cs) stage new → AreLines s.indents new) → ends_line c cs ≡ true → n ≡ line_end_len c →
         t ≡ record (moved s (take n (c ∷ cs))) { line = start.line } → Next s t (c ∷ cs) (take n (c ∷ cs)) (drop n (c ∷ cs)) stage
     next_empty t stage goes back_so l count same =
         subst (λ (w : State). Next s w (c ∷ cs) (take n (c ∷ cs)) (drop n (c ∷ cs)) stage) (sym same) (record {
@@ -444,9 +461,11 @@ module _ (s : State) (c : ℕ) (cs : List ℕ) (n : ℕ) (rising : IsRising 0 s.
           let place : tok.place ≡ s.at.place = rw at refl in
           let depth : length blanks ≡ depth_of tok = let e = ap (λ (p : Place). p.column) place in omega (arith, e, column) in
           let turns_at : Turns s.indents (depth_of tok) (kinds turned_so.marks) v.indents =
-          subst (λ blocks. Turns s.indents (depth_of tok) (kinds turned_so.marks) blocks) (sym nest.indents) (subst (λ d. Turns s.indents d (kinds turned_so.marks) u.indents) depth turned_so.turns_so) in
+          subst (λ blocks. Turns s.indents (depth_of tok) (kinds turned_so.marks) blocks) (sym nest.indents)
+          (subst (λ d. Turns s.indents d (kinds turned_so.marks) u.indents) depth turned_so.turns_so) in
           let places : All (λ m. m.place ≡ tok.place) turned_so.marks = subst (λ p. All (λ m. m.place ≡ p) turned_so.marks) (sym place) turned_so.places in
-          let closed : brackets_left 0 (tok ∷ rest.more) ≡ 0 = ap (λ b. brackets_left (brackets_behind b k) rest.more) (sym turned_so.brackets) ∙ ap (λ b. brackets_left b rest.more) (sym nest.brackets) ∙ rest.closed in
+          let closed : brackets_left 0 (tok ∷ rest.more) ≡ 0 =
+          ap (λ b. brackets_left (brackets_behind b k) rest.more) (sym turned_so.brackets) ∙ ap (λ b. brackets_left b rest.more) (sym nest.brackets) ∙ rest.closed in
           let words = All-cons (λ t. IsOfWords t.kind) tok rest.more (is_of_words c cs k n token) rest.words in
           let brackets : length v.brackets ≡ brackets_behind 0 k = nest.brackets ∙ ap (λ b. brackets_behind b k) turned_so.brackets in
           let together = subst (λ b. IsTogether tok.place.line b (rest.more ++ rest.end ∷ [])) brackets rest.together in
@@ -454,7 +473,8 @@ module _ (s : State) (c : ℕ) (cs : List ℕ) (n : ℕ) (rising : IsRising 0 s.
           subst (AreLines s.indents) (append_assoc turned_so.marks (tok ∷ rest.more) (rest.end ∷ rest.behind) ∙ ap (λ us. turned_so.marks ++ tok ∷ us) (sym rest.are)) made
 
       -- what is left behind the first token
-      first_left : (front : List ℕ) (us : List Token) (u v : State) (k : TokenKind) → IsBehind front s → (turned_so : IsTurned u) → IsToken c cs k n → IsNested u v k → AreLines s.indents us → (marks : List Token) (t : Token) (behind : List Token) →
+      first_left : (front : List ℕ) (us : List Token) (u v : State) (k : TokenKind) → IsBehind front s → (turned_so : IsTurned u) → IsToken c cs k n → IsNested u v k
+          → AreLines s.indents us → (marks : List Token) (t : Token) (behind : List Token) →
           us ≡ marks ++ t ∷ behind → AreMarks front marks → t.kind ≡ k → Spans t front (take n (c ∷ cs)) →
           IsInside v.indents v.at.place.line (length v.brackets) behind × (s.tokens ++ us ≡ (v.tokens ++ token_of v k (take n (c ∷ cs)) ∷ []) ++ behind)
       first_left front us u v k h turned_so token nest lines marks t behind is are same spans =
@@ -464,7 +484,8 @@ module _ (s : State) (c : ℕ) (cs : List ℕ) (n : ℕ) (rising : IsRising 0 s.
           let one : t ≡ tok = same_span t tok front (take n (c ∷ cs)) same spans (token_spans v k front (take n (c ∷ cs)) (at ∙ h)) in
           let found = a_line lines marks t behind is (marks_kinds front marks are) (subst IsOfWords (sym same) (is_of_words c cs k n token)) in
           let depth : depth_of t ≡ length blanks = ap depth_of one ∙ (let e = ap (λ (p : Place). p.column) place in omega (arith, e, column)) in
-          let turn = one_turn s.indents found.after u.indents (length blanks) (kinds marks) (kinds turned_so.marks) (subst (λ d. Turns s.indents d (kinds marks) found.after) depth found.turns) turned_so.turns_so in
+          let turn = one_turn s.indents found.after u.indents (length blanks) (kinds marks) (kinds turned_so.marks)
+          (subst (λ d. Turns s.indents d (kinds marks) found.after) depth found.turns) turned_so.turns_so in
           let all_marks = same_marks front marks turned_so.marks turn.marks are (turned_so.spans front h) in
           let brackets : brackets_behind 0 t.kind ≡ length v.brackets = ap (λ j. brackets_behind 0 j) same ∙ ap (λ b. brackets_behind b k) (sym turned_so.brackets) ∙ sym nest.brackets in
           let row : t.place.line ≡ v.at.place.line = ap (λ (x : Token). x.place.line) one in
@@ -484,7 +505,8 @@ module _ (s : State) (c : ℕ) (cs : List ℕ) (n : ℕ) (rising : IsRising 0 s.
                 ∙ ap (λ zs. zs ++ tok ∷ behind) (sym (nest.tokens ∙ turned_so.tokens)) ∙ sym (append_assoc v.tokens (tok ∷ []) behind),
           )
 
-      next_first : (t u v : State) (k : TokenKind) → ends_line c cs ≡ false → IsTurned u → IsToken c cs k n → IsNested u v k → t ≡ put v k (take n (c ∷ cs)) → Next s t (c ∷ cs) (take n (c ∷ cs)) (drop n (c ∷ cs)) ahead
+      next_first : (t u v : State) (k : TokenKind) → ends_line c cs ≡ false → IsTurned u → IsToken c cs k n → IsNested u v k → t ≡ put v k (take n (c ∷ cs))
+          → Next s t (c ∷ cs) (take n (c ∷ cs)) (drop n (c ∷ cs)) ahead
       next_first t u v k l turned_so token nest same =
           let tok = token_of v k (take n (c ∷ cs)) in
           subst (λ (w : State). Next s w (c ∷ cs) (take n (c ∷ cs)) (drop n (c ∷ cs)) ahead) (sym same) (record {
@@ -492,7 +514,8 @@ module _ (s : State) (c : ℕ) (cs : List ℕ) (n : ℕ) (rising : IsRising 0 s.
             rising = subst (IsRising 0) (sym nest.indents) turned_so.rises;
             before = λ ts lined. record {
               new = turned_so.marks ++ tok ∷ lined.new;
-              tokens = lined.tokens ∙ append_assoc v.tokens (tok ∷ []) lined.new ∙ ap (λ us. us ++ tok ∷ lined.new) (nest.tokens ∙ turned_so.tokens) ∙ append_assoc s.tokens turned_so.marks (tok ∷ lined.new);
+              tokens = lined.tokens ∙ append_assoc v.tokens (tok ∷ []) lined.new ∙ ap (λ us. us ++ tok ∷ lined.new) (nest.tokens ∙ turned_so.tokens)
+                  ∙ append_assoc s.tokens turned_so.marks (tok ∷ lined.new);
               goes = first_lines u v k lined.new turned_so token nest lined.goes;
             };
             after = λ front h us cut goes.
@@ -508,7 +531,8 @@ module _ (s : State) (c : ℕ) (cs : List ℕ) (n : ℕ) (rising : IsRising 0 s.
       none_before [] h b = refl
       none_before (x ∷ xs) h b = absurd (never_both (is_blank c) b h)
 
-      next_blank : (t : State) → is_blank c ≡ true → n ≡ 1 + run_of is_blank cs → t ≡ record s { line = led s.line (take n (c ∷ cs)); at = moved_over s.at (take n (c ∷ cs)) } → Next s t (c ∷ cs) (take n (c ∷ cs)) (drop n (c ∷ cs)) ahead
+      next_blank : (t : State) → is_blank c ≡ true → n ≡ 1 + run_of is_blank cs → t ≡ record s { line = led s.line (take n (c ∷ cs)); at = moved_over s.at (take n (c ∷ cs)) }
+          → Next s t (c ∷ cs) (take n (c ∷ cs)) (drop n (c ∷ cs)) ahead
       next_blank t b count same =
           let bl = take n (c ∷ cs) in
           let first = first_blanks blanks (none_before blanks last b) column in
@@ -532,7 +556,8 @@ module _ (s : State) (c : ℕ) (cs : List ℕ) (n : ℕ) (rising : IsRising 0 s.
             here = closing blanks is none (comment_ends (take n (c ∷ cs)) (drop n (c ∷ cs)) (is_comment c cs n h count));
             rising = rising;
             before = λ ts lined. record { new = lined.new; tokens = lined.tokens; goes = lined.goes };
-            after = λ front e us cut goes. record { left = us; cut = comment_at front (take n (c ∷ cs)) (drop n (c ∷ cs)) us (is_comment c cs n h count) (cut_in_two front us cut); goes = goes; tokens = refl };
+            after = λ front e us cut goes. record
+                { left = us; cut = comment_at front (take n (c ∷ cs)) (drop n (c ∷ cs)) us (is_comment c cs n h count) (cut_in_two front us cut); goes = goes; tokens = refl };
           })
       next_leads t (steps.word u v k l b begins_so token nested_so same) =
           next_first t u v k l (turned u (turns s u blanks is begins_so)) token (nests u v k nested_so) same
@@ -553,7 +578,8 @@ no_last (x ∷ xs) e =
 all_end : (n : ℕ) (d : Token) → d.kind ≡ kind.Dedent → kinds (replicate n d) ≡ replicate n kind.Dedent
 all_end n d is = kinds-replicate n d ∙ ap (λ k. replicate n k) is
 
-supplied_begun : (s : State) (row : ℕ) → HasBegun s → (s.at.place.line ≡ row) ⊎ (0 < length s.brackets) → length s.brackets ≡ 0 → (new : List Token) × ((all_ended (line_supplied s s.line)).tokens ≡ s.tokens ++ new) × IsInside s.indents row (length s.brackets) new
+supplied_begun : (s : State) (row : ℕ) → HasBegun s → (s.at.place.line ≡ row) ⊎ (0 < length s.brackets) → length s.brackets ≡ 0
+    → (new : List Token) × ((all_ended (line_supplied s s.line)).tokens ≡ s.tokens ++ new) × IsInside s.indents row (length s.brackets) new
 supplied_begun s row is here closed =
     let w = put s kind.Newline [] in
     let same : line_supplied s s.line ≡ w = rw is refl in
@@ -621,7 +647,8 @@ end_of_line s front row us h goes all = by goes.more goes.are goes.words
         let each = subst (All (AtEnd front)) e all in
         (token_among (AtEnd front) more goes.end goes.behind each, All-tail (AtEnd front) goes.end goes.behind (tokens_behind (AtEnd front) more (goes.end ∷ goes.behind) each))
 
-    by : (more : List Token) → us ≡ more ++ goes.end ∷ goes.behind → All (λ t. IsOfWords t.kind) more → us ≡ token_of s kind.Newline [] ∷ replicate (length s.indents) (dedent_at s (line_behind s.at.place))
+    by : (more : List Token) → us ≡ more ++ goes.end ∷ goes.behind → All (λ t. IsOfWords t.kind) more
+        → us ≡ token_of s kind.Newline [] ∷ replicate (length s.indents) (dedent_at s (line_behind s.at.place))
     by [] e words =
         let found = ends_so [] e in
         let end = same_span goes.end (token_of s kind.Newline []) front [] goes.newline (end_there front goes.end found.0 goes.newline) (token_spans s kind.Newline front [] h) in
@@ -631,12 +658,14 @@ end_of_line s front row us h goes all = by goes.more goes.are goes.words
         let each = subst (All (AtEnd front)) e all in
         absurd (no_word_there front x (All-head (AtEnd front) x (xs ++ goes.end ∷ goes.behind) each) (All-head (λ t. IsOfWords t.kind) x xs words))
 
-ended_one : (s : State) (front cs : List ℕ) (stage : Stage s cs) (us : List Token) → IsBehind front s → Goes s cs stage us → All (AtEnd front) us → (all_ended (line_supplied s s.line)).tokens ≡ s.tokens ++ us
+ended_one : (s : State) (front cs : List ℕ) (stage : Stage s cs) (us : List Token) → IsBehind front s → Goes s cs stage us → All (AtEnd front) us
+    → (all_ended (line_supplied s s.line)).tokens ≡ s.tokens ++ us
 ended_one s front cs (within row is here) us h goes all =
     let w = put s kind.Newline [] in
     let same : line_supplied s s.line ≡ w = rw is refl in
     let ds = replicate (length s.indents) (dedent_at s (line_behind s.at.place)) in
-    subst (λ (x : State). (all_ended x).tokens ≡ s.tokens ++ us) (sym same) (append_assoc s.tokens (token_of s kind.Newline [] ∷ []) ds ∙ ap (λ ts. s.tokens ++ ts) (sym (end_of_line s front row us h goes all)))
+    subst (λ (x : State). (all_ended x).tokens ≡ s.tokens ++ us) (sym same)
+    (append_assoc s.tokens (token_of s kind.Newline [] ∷ []) ds ∙ ap (λ ts. s.tokens ++ ts) (sym (end_of_line s front row us h goes all)))
 ended_one s front cs (leads blanks is none column last) us h goes all =
     let same : line_supplied s s.line ≡ s = rw is refl in
     subst (λ (x : State). (all_ended x).tokens ≡ s.tokens ++ us) (sym same) (ap (λ ts. s.tokens ++ ts) (sym (end_lines goes front (dedent_at s (line_behind s.at.place)) all (last_is s front h))))
@@ -644,7 +673,8 @@ ended_one s front cs (closing blanks is none end) us h goes all =
     let same : line_supplied s s.line ≡ s = rw is refl in
     subst (λ (x : State). (all_ended x).tokens ≡ s.tokens ++ us) (sym same) (ap (λ ts. s.tokens ++ ts) (sym (end_lines goes front (dedent_at s (line_behind s.at.place)) all (last_is s front h))))
 
-finished_one : (s : State) (front cs : List ℕ) (stage : Stage s cs) (us : List Token) → IsBehind front s → Goes s cs stage us → All (AtEnd front) us → fault_of (finished s).1 ≡ None → (finished s).0.tokens ≡ s.tokens ++ us
+finished_one : (s : State) (front cs : List ℕ) (stage : Stage s cs) (us : List Token) → IsBehind front s → Goes s cs stage us → All (AtEnd front) us
+    → fault_of (finished s).1 ≡ None → (finished s).0.tokens ≡ s.tokens ++ us
 unfolding finished
 finished_one s front cs stage us h goes all = by (slice_get s.brackets (length s.brackets - 1))
   where
@@ -652,7 +682,8 @@ finished_one s front cs stage us h goes all = by (slice_get s.brackets (length s
     by (Some opener) f = absurd (cc)
     by None f = ended_one s front cs stage us h goes all
 
-reads_one : {s : State} {cs : List ℕ} {ts : List Token} {f : Option ReadFault} (stage : Stage s cs) → IsRising 0 s.indents → f ≡ None → Reads s cs ts f → (front : List ℕ) → IsBehind front s → (us : List Token) → Cut front cs us [] → Goes s cs stage us → ts ≡ s.tokens ++ us
+reads_one : {s : State} {cs : List ℕ} {ts : List Token} {f : Option ReadFault} (stage : Stage s cs) → IsRising 0 s.indents → f ≡ None → Reads s cs ts f → (front : List ℕ)
+    → IsBehind front s → (us : List Token) → Cut front cs us [] → Goes s cs stage us → ts ≡ s.tokens ++ us
 reads_one {s = s} stage rising none (ends {t = t} e are is) front h us cut goes =
     let all = subst (λ (p : Answer (Unit {0})). fault_of p.1 ≡ None → p.0.tokens ≡ s.tokens ++ us) e (finished_one s front [] stage us h goes (at_end cut refl refl)) in
     sym are ∙ all (is ∙ none)

@@ -34,7 +34,8 @@ use Rattle.dcx_token_laws.proofs.Stretches.{IsBehind}
 
 -- ---- a character that begins nothing
 -- where no name, number, text and sign begins, no token is spelled
-no_word_by : (c : ℕ) (rest ws behind : List ℕ) → begins_name c ≡ false → begins_number c rest ≡ false → is_quote c ≡ false → sign_at c rest ≡ None → rest ≡ ws ++ behind → (k : TokenKind) → IsWord k (c ∷ ws) → ⊥
+no_word_by : (c : ℕ) (rest ws behind : List ℕ) → begins_name c ≡ false → begins_number c rest ≡ false → is_quote c ≡ false → sign_at c rest ≡ None → rest ≡ ws ++ behind
+    → (k : TokenKind) → IsWord k (c ∷ ws) → ⊥
 unfolding sign_at
 no_word_by c rest ws behind en ed eq eo e kind.Name h = never_both (begins_name c) h.0.0 en
 no_word_by c rest ws behind en ed eq eo e (kind.Keyword w) h = never_both (begins_name c) h.0.0 en
@@ -93,7 +94,8 @@ begins_nothing c rest begun en ed eq eo = record { no_word = no_word; no_between
 
     no_between : (cs behind : List ℕ) → c ∷ rest ≡ cs ++ behind → IsBetween cs behind → cs ≡ []
     no_between [] behind e h = refl
-    no_between (d ∷ ds) behind e h = absurd (no_between_by c rest ds behind begun (tail_is c d rest (ds ++ behind) e) (subst (λ x. IsBetween (x ∷ ds) behind) (sym (head_is c d rest (ds ++ behind) e)) h))
+    no_between (d ∷ ds) behind e h =
+        absurd (no_between_by c rest ds behind begun (tail_is c d rest (ds ++ behind) e) (subst (λ x. IsBetween (x ∷ ds) behind) (sym (head_is c d rest (ds ++ behind) e)) h))
 
 -- a token is no such character
 pub starts_some : (c : ℕ) (rest : List ℕ) → Starts c rest → BeginsNothing c rest → ⊥
@@ -138,13 +140,36 @@ stopping text ts f lexed =
           left = t;
           first = c;
           rest = cs;
-          up_to = record { parts = walks.parts; cut = subst (λ xs. Cut [] (chars text) ts xs) is cut; lines = lines_begin text ts f lexed; shallow = shallow text ts (Some f) lexed; numbers = numbers_end text ts (Some f) lexed; spaces = spaces_lead text ts (Some f) lexed };
+          up_to = record {
+            parts = walks.parts;
+            cut = subst (λ xs. Cut [] (chars text) ts xs) is cut;
+            lines = lines_begin text ts f lexed;
+            shallow = shallow text ts
+                (Some f) lexed;
+            numbers = numbers_end text ts (Some f) lexed;
+            spaces = spaces_lead text ts (Some f) lexed;
+          };
           walks = walks;
           tokens = tokens;
           halts = halted s t c cs f (spot_formed s front (c ∷ cs) walks.spot) e;
         })
     by front rest cut (at_end s opener is walks last f_is tokens) =
-        inr (record { state = s; opener = opener; up_to = record { parts = sym (append-nil (chars text)); cut = subst (λ xs. Cut [] (chars text) ts xs) is cut; lines = lines_begin text ts f lexed; shallow = shallow text ts (Some f) lexed; numbers = numbers_end text ts (Some f) lexed; spaces = spaces_lead text ts (Some f) lexed }; stacks = subst (λ us. Stacks us s.indents s.brackets) tokens walks.stacks; last = last; is = f_is })
+        inr (record {
+          state = s;
+          opener = opener;
+          up_to = record {
+            parts = sym (append-nil (chars text));
+            cut = subst (λ xs. Cut [] (chars text) ts xs) is cut;
+            lines = lines_begin text ts f lexed;
+            shallow = shallow text ts (Some f) lexed;
+            numbers = numbers_end text ts (Some f) lexed;
+            spaces = spaces_lead text ts
+                (Some f) lexed;
+          };
+          stacks = subst (λ us. Stacks us s.indents s.brackets) tokens walks.stacks;
+          last = last;
+          is = f_is;
+        })
 
 -- the faults differ
 abbrev pub place_in : ReadFault → Place

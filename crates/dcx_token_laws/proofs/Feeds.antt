@@ -51,9 +51,6 @@ first c n cs h more = rw one-add (All-cons (λ d. d ≢ 10) c (take n cs) h more
 digits_feeds : (cs : List ℕ) → HasNoFeed (take (run_of is_ascii_digit cs) cs)
 digits_feeds cs = subst (λ n. HasNoFeed (take n cs)) (sym (run_is is_ascii_digit cs)) (run_feeds is_ascii_digit refl cs)
 
-other : (c n : ℕ) → c ≡ n → n ≢ 10 → c ≢ 10
-other c n is h = subst (λ m. m ≢ 10) (sym is) h
-
 fraction_feeds : (cs : List ℕ) → HasNoFeed (take (fraction_len cs) cs)
 fraction_feeds [] = none
 fraction_feeds (c ∷ cs) = by (eqb c 46) refl
@@ -78,10 +75,12 @@ exponent_feeds (c ∷ cs) = by (begins_exponent c) refl
     of true e = none
     of false e =
         let rest = joined (exponent_sign_len cs) (run_of is_ascii_digit (drop (exponent_sign_len cs) cs)) cs (sign_feeds cs) (digits_feeds (drop (exponent_sign_len cs) cs)) in
-        let count : 1 + exponent_sign_len cs + run_of is_ascii_digit (drop (exponent_sign_len cs) cs) ≡ 1 + (exponent_sign_len cs + run_of is_ascii_digit (drop (exponent_sign_len cs) cs)) = omega arith in
+        let count : 1 + exponent_sign_len cs + run_of is_ascii_digit (drop (exponent_sign_len cs) cs)
+        ≡ 1 + (exponent_sign_len cs + run_of is_ascii_digit (drop (exponent_sign_len cs) cs)) = omega arith in
         subst (λ n. HasNoFeed (take n (c ∷ cs))) (sym count) (first c (exponent_sign_len cs + run_of is_ascii_digit (drop (exponent_sign_len cs) cs)) cs (passes_other begins_exponent refl c e) rest)
 
-    by : (b : Bool) → begins_exponent c ≡ b → HasNoFeed (take (cond (eqb (length (cond b (digits (drop (exponent_sign_len cs) cs)) [])) 0) 0 (1 + exponent_sign_len cs + length (cond b (digits (drop (exponent_sign_len cs) cs)) []))) (c ∷ cs))
+    by : (b : Bool) → begins_exponent c ≡ b → HasNoFeed (take (cond (eqb (length (cond b (digits (drop (exponent_sign_len cs) cs)) [])) 0) 0
+        (1 + exponent_sign_len cs + length (cond b (digits (drop (exponent_sign_len cs) cs)) []))) (c ∷ cs))
     by true e = of (eqb (length (digits (drop (exponent_sign_len cs) cs))) 0) e
     by false e = none
 
@@ -103,10 +102,12 @@ quote_feeds : (quote : ℕ) (is_taken : Bool) (cs : List ℕ) (n : ℕ) → up_t
 quote_feeds quote is_taken [] n e = absurd (none_is n e)
 quote_feeds quote is_taken (c ∷ cs) n e = by (eqb c 10) refl is_taken (eqb c quote) e (λ b m. quote_feeds quote b cs m)
   where
-    counted : (b : Bool) → eqb c 10 ≡ false → option_map (λ m. 1 + m) (up_to_quote quote b cs) ≡ Some n → ((b : Bool) (m : ℕ) → up_to_quote quote b cs ≡ Some m → HasNoFeed (take m cs)) → HasNoFeed (take n (c ∷ cs))
+    counted : (b : Bool) → eqb c 10 ≡ false → option_map (λ m. 1 + m) (up_to_quote quote b cs) ≡ Some n
+        → ((b : Bool) (m : ℕ) → up_to_quote quote b cs ≡ Some m → HasNoFeed (take m cs)) → HasNoFeed (take n (c ∷ cs))
     counted b f h more = let m = one_more (up_to_quote quote b cs) n h in subst (λ i. HasNoFeed (take i (c ∷ cs))) (sym m.is) (first c m.count cs (not_char c 10 f) (more b m.count m.was))
 
-    by : (l : Bool) → eqb c 10 ≡ l → (t q : Bool) → cond l None (cond t (option_map (λ m. 1 + m) (up_to_quote quote false cs)) (cond q (Some 1) (option_map (λ m. 1 + m) (up_to_quote quote (eqb c 92) cs)))) ≡ Some n →
+    by : (l : Bool) → eqb c 10 ≡ l → (t q : Bool)
+        → cond l None (cond t (option_map (λ m. 1 + m) (up_to_quote quote false cs)) (cond q (Some 1) (option_map (λ m. 1 + m) (up_to_quote quote (eqb c 92) cs)))) ≡ Some n →
         ((b : Bool) (m : ℕ) → up_to_quote quote b cs ≡ Some m → HasNoFeed (take m cs)) → HasNoFeed (take n (c ∷ cs))
     by true f t q h more = absurd (none_is n h)
     by false f true q h more = counted false f h more
@@ -132,7 +133,8 @@ text_second c d (x ∷ y ∷ ys) all e =
 
 sign_second : (signs : List (String × Symbol)) (c d : ℕ) (s : Symbol) → list_all (λ (p : String × Symbol). second_fine (codes p.0)) signs ≡ true → sign_of signs (c ∷ d ∷ []) ≡ Some s → d ≢ 10
 sign_second [] c d s all e = absurd (none_is s e)
-sign_second (p ∷ ps) c d s all e = by (pointwise nat_eq (c ∷ d ∷ []) (codes p.0)) refl e (sign_second ps c d s (right (second_fine (codes p.0)) (list_all (λ (p : String × Symbol). second_fine (codes p.0)) ps) all))
+sign_second (p ∷ ps) c d s all e = by (pointwise nat_eq (c ∷ d ∷ []) (codes p.0)) refl e
+    (sign_second ps c d s (right (second_fine (codes p.0)) (list_all (λ (p : String × Symbol). second_fine (codes p.0)) ps) all))
   where
     by : (b : Bool) → pointwise nat_eq (c ∷ d ∷ []) (codes p.0) ≡ b → cond b (Some p.1) (sign_of ps (c ∷ d ∷ [])) ≡ Some s → (sign_of ps (c ∷ d ∷ []) ≡ Some s → d ≢ 10) → d ≢ 10
     by true is h more = text_second c d (codes p.0) (left (second_fine (codes p.0)) (list_all (λ (p : String × Symbol). second_fine (codes p.0)) ps) all) is

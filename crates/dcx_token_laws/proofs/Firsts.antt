@@ -27,9 +27,11 @@ module _ (test : ℕ → Bool) where
   text_passes c cs [] all e = absurd (cc)
   text_passes c cs (x ∷ xs) all e = subst (λ y. test y ≡ true) (sym (is_char c x (left (nat_eq c x) (pointwise nat_eq cs xs) e))) all
 
-  sign_passes : (signs : List (String × Symbol)) (c : ℕ) (cs : List ℕ) (s : Symbol) → list_all (λ (p : String × Symbol). first_passes (codes p.0)) signs ≡ true → sign_of signs (c ∷ cs) ≡ Some s → test c ≡ true
+  sign_passes : (signs : List (String × Symbol)) (c : ℕ) (cs : List ℕ) (s : Symbol) → list_all (λ (p : String × Symbol). first_passes (codes p.0)) signs ≡ true
+      → sign_of signs (c ∷ cs) ≡ Some s → test c ≡ true
   sign_passes [] c cs s all e = absurd (none_is s e)
-  sign_passes (p ∷ ps) c cs s all e = by (pointwise nat_eq (c ∷ cs) (codes p.0)) refl e (sign_passes ps c cs s (right (first_passes (codes p.0)) (list_all (λ (p : String × Symbol). first_passes (codes p.0)) ps) all))
+  sign_passes (p ∷ ps) c cs s all e = by (pointwise nat_eq (c ∷ cs) (codes p.0)) refl e
+      (sign_passes ps c cs s (right (first_passes (codes p.0)) (list_all (λ (p : String × Symbol). first_passes (codes p.0)) ps) all))
     where
       by : (b : Bool) → pointwise nat_eq (c ∷ cs) (codes p.0) ≡ b → cond b (Some p.1) (sign_of ps (c ∷ cs)) ≡ Some s → (sign_of ps (c ∷ cs) ≡ Some s → test c ≡ true) → test c ≡ true
       by true is h more = text_passes c cs (codes p.0) (left (first_passes (codes p.0)) (list_all (λ (p : String × Symbol). first_passes (codes p.0)) ps) all) is

@@ -81,7 +81,8 @@ record IsFirst (ts : List Token) (f : ReadFault) (s : State) (front : List ℕ) 
   halts : LineHalts s blanks f
   stacks : Stacks ts s.indents s.brackets
 
-is_first : (text : List ℕ) (ts : List Token) (f : ReadFault) (x : Stopping text ts f) → IsBegun x.first x.rest → (HasBegun x.state → ⊥) → x.left ≡ x.state → ((blanks : List ℕ) → IsLed blanks x.state → LineHalts x.state blanks f) → IsFirst ts f x.state x.front
+is_first : (text : List ℕ) (ts : List Token) (f : ReadFault) (x : Stopping text ts f) → IsBegun x.first x.rest → (HasBegun x.state → ⊥) → x.left ≡ x.state
+    → ((blanks : List ℕ) → IsLed blanks x.state → LineHalts x.state blanks f) → IsFirst ts f x.state x.front
 is_first text ts f x begun not same how = by x.walks.spot
   where
     stack : Stacks ts x.state.indents x.state.brackets
@@ -98,7 +99,8 @@ pub indents : IndentsDoNotFollow
 indents text ts p lexed = by (stopping text ts (fault.Indent p) lexed)
   where
     Goal : Type 0
-    Goal = (front : List ℕ) × (c : ℕ) × (rest : List ℕ) × (blanks : List ℕ) × IsFineUpTo text ts front (c ∷ rest) × (p ≡ place_behind front) × (BeginsNothing c rest → ⊥) × IsLedBy blanks ts front × DoesNotFollow blanks ts
+    Goal = (front : List ℕ) × (c : ℕ) × (rest : List ℕ) × (blanks : List ℕ) × IsFineUpTo text ts front (c ∷ rest) × (p ≡ place_behind front) × (BeginsNothing c rest → ⊥)
+        × IsLedBy blanks ts front × DoesNotFollow blanks ts
 
     follows_not : (s : State) (blanks : List ℕ) → s.indents ≡ open_blocks [] ts → LineHalts s blanks (fault.Indent p) → (p ≡ s.at.place) × DoesNotFollow blanks ts
     follows_not s blanks blocks (tab e is) = (ap place_in is, inl e)
@@ -151,28 +153,50 @@ pub too_deep : TooDeepAreAbove64
 too_deep text ts p lexed = by (stopping text ts (fault.TooDeep p) lexed)
   where
     Goal : Type 0
-    Goal = (front : List ℕ) × (c : ℕ) × (rest : List ℕ) × IsFineUpTo text ts front (c ∷ rest) × (p ≡ place_behind front) × (brackets_left 0 ts + blocks_left 0 ts ≡ 64) × (OpensBracket c ⊎ BeginsBlock c rest ts front)
+    Goal = (front : List ℕ) × (c : ℕ) × (rest : List ℕ) × IsFineUpTo text ts front (c ∷ rest) × (p ≡ place_behind front) × (brackets_left 0 ts + blocks_left 0 ts ≡ 64)
+        × (OpensBracket c ⊎ BeginsBlock c rest ts front)
 
-    one_block : (s : State) (blanks : List ℕ) → s.indents ≡ open_blocks [] ts → LineHalts s blanks (fault.TooDeep p) → (p ≡ s.at.place) × (is_full s ≡ true) × (tab_among blanks ≡ false) × All (λ d. d < length blanks) (open_blocks [] ts)
+    one_block : (s : State) (blanks : List ℕ) → s.indents ≡ open_blocks [] ts → LineHalts s blanks (fault.TooDeep p)
+        → (p ≡ s.at.place) × (is_full s ≡ true) × (tab_among blanks ≡ false) × All (λ d. d < length blanks) (open_blocks [] ts)
     one_block s blanks blocks (tab e is) = absurd (clash (fault.TooDeep p) (fault.Indent s.at.place) is refl)
-    one_block s blanks blocks (full e d r is) =
-        (ap place_in is, r, e, all_below (open_blocks [] ts) (length blanks) (right (nat_lt 0 (length blanks)) (list_all (λ i. nat_lt i (length blanks)) (open_blocks [] ts)) (ap (λ bs. is_deeper bs (length blanks)) (sym blocks) ∙ d)))
+    one_block s blanks blocks (full e d r is) = (
+      ap place_in is,
+      r,
+      e,
+      all_below (open_blocks [] ts) (length blanks)
+          (right (nat_lt 0 (length blanks)) (list_all (λ i. nat_lt i (length blanks)) (open_blocks [] ts)) (ap (λ bs. is_deeper bs (length blanks)) (sym blocks) ∙ d)),
+    )
     one_block s blanks blocks (apart e d st is) = absurd (clash (fault.TooDeep p) (fault.Indent s.at.place) is refl)
 
     of : (x : Stopping text ts (fault.TooDeep p)) → Halts x.state x.left x.first x.rest (fault.TooDeep p) → Goal
     of x (char begun en ed eq eo same is) = absurd (clash (fault.TooDeep p) (fault.BadChar x.state.at.place) is refl)
     of x (line begun starts not same how) =
         let first = is_first text ts (fault.TooDeep p) x begun not same how in
-        let one = one_block x.state first.blanks first.stacks.blocks_are first.halts in
-        (x.front, x.first, x.rest, x.up_to, one.0 ∙ place_is x.state x.front x.walks.behind, all_64 text ts (Some (fault.TooDeep p)) x.state lexed first.stacks one.1, inr (first.blanks, starts_some x.first x.rest starts, first.led, one.2, one.3))
+        let one = one_block x.state first.blanks first.stacks.blocks_are first.halts in (
+          x.front,
+          x.first,
+          x.rest,
+          x.up_to,
+          one.0 ∙ place_is x.state x.front x.walks.behind,
+          all_64 text ts (Some (fault.TooDeep p)) x.state lexed first.stacks one.1,
+          inr (first.blanks, starts_some x.first x.rest starts, first.led, one.2, one.3),
+        )
     of x (bad_number begun first en ed none is) = absurd (clash (fault.TooDeep p) (fault.BadNumber x.left.at.place) is refl)
     of x (open_text begun first en ed eq none is) = absurd (clash (fault.TooDeep p) (fault.Unclosed x.left.at.place) is refl)
     of x (bracket symbol n begun first token opener room is) =
         let formed = spot_formed x.state x.front (x.first ∷ x.rest) x.walks.spot in
         let begun_so = stacks_begun x.state x.left x.front (x.first ∷ x.rest) x.walks.spot first x.walks.stacks (λ end. never_both (ends_line x.first x.rest) end begun.no_end) in
         let stacks = subst (λ us. Stacks us x.left.indents x.left.brackets) x.tokens begun_so in
-        let sign = opener_alone symbol x.first x.rest (take n (x.first ∷ x.rest)) n opener refl (is_word x.first x.rest (kind.Sign symbol) n token) in
-        (x.front, x.first, x.rest, x.up_to, ap place_in is ∙ begun_place x.state x.left x.front x.walks.behind formed first, all_64 text ts (Some (fault.TooDeep p)) x.left lexed stacks room, inl (symbol, opener, sign))
+        let sign = opener_alone symbol x.first x.rest (take n (x.first ∷ x.rest)) n opener refl (is_word x.first x.rest (kind.Sign symbol) n token) in (
+          x.front,
+          x.first,
+          x.rest,
+          x.up_to,
+          ap place_in is
+              ∙ begun_place x.state x.left x.front x.walks.behind formed first,
+          all_64 text ts (Some (fault.TooDeep p)) x.left lexed stacks room,
+          inl (symbol, opener, sign),
+        )
 
     by : Stopping text ts (fault.TooDeep p) ⊎ AtEnd text ts (fault.TooDeep p) → Goal
     by (inl x) = of x x.halts

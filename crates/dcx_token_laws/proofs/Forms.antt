@@ -49,7 +49,9 @@ turns s u blanks is given =
     same = rw is refl
 
     by : (t d f st : Bool) → is_deeper s.indents (length blanks) ≡ d → is_standing s.indents (length blanks) ≡ st →
-        cond {A = Answer (Unit {0})} t (s, Err (fault.Indent s.at.place)) (cond {A = Answer (Unit {0})} d (cond {A = Answer (Unit {0})} f (s, Err (fault.TooDeep s.at.place)) (record (put s kind.Indent []) { indents = s.indents ++ length blanks ∷ []; line = (dedented start 0).line }, Ok tt)) (cond {A = Answer (Unit {0})} st (dedented s (length blanks), Ok tt) (s, Err (fault.Indent s.at.place)))) ≡ (u, Ok tt) →
+        cond {A = Answer (Unit {0})} t (s, Err (fault.Indent s.at.place)) (cond {A = Answer (Unit {0})} d (cond {A = Answer (Unit {0})} f (s, Err (fault.TooDeep s.at.place))
+        (record (put s kind.Indent []) { indents = s.indents ++ length blanks ∷ []; line = (dedented start 0).line }, Ok tt))
+        (cond {A = Answer (Unit {0})} st (dedented s (length blanks), Ok tt) (s, Err (fault.Indent s.at.place)))) ≡ (u, Ok tt) →
         Turned s u (length blanks)
     by true d f st ed es e = absurd (never_ok s u (fault.Indent s.at.place) tt e)
     by false true true st ed es e = absurd (never_ok s u (fault.TooDeep s.at.place) tt e)
@@ -76,17 +78,22 @@ pub record IsNested (u v : State) (k : TokenKind) : Type 0 where
 pub nests : (u v : State) (k : TokenKind) → nested u k ≡ (v, Ok tt) → IsNested u v k
 nests u v (kind.Sign symbol) nested_so = by (opens symbol) (is_full u) (closes symbol) refl refl nested_so
   where
-    behind : (o c : Bool) → opens symbol ≡ o → closes symbol ≡ c → brackets_behind (length u.brackets) (kind.Sign symbol) ≡ cond o (length u.brackets + 1) (cond c (length u.brackets - 1) (length u.brackets))
-    behind o c eo ec = ap (λ x. cond x (length u.brackets + 1) (cond (closes symbol) (length u.brackets - 1) (length u.brackets))) eo ∙ ap (λ x. cond o (length u.brackets + 1) (cond x (length u.brackets - 1) (length u.brackets))) ec
+    behind : (o c : Bool) → opens symbol ≡ o → closes symbol ≡ c
+        → brackets_behind (length u.brackets) (kind.Sign symbol) ≡ cond o (length u.brackets + 1) (cond c (length u.brackets - 1) (length u.brackets))
+    behind o c eo ec = ap (λ x. cond x (length u.brackets + 1) (cond (closes symbol) (length u.brackets - 1) (length u.brackets))) eo
+        ∙ ap (λ x. cond o (length u.brackets + 1) (cond x (length u.brackets - 1) (length u.brackets))) ec
 
-    with_brackets : (w : State) → w.tokens ≡ u.tokens → w.indents ≡ u.indents → w.line ≡ u.line → w.at ≡ u.at → length w.brackets ≡ brackets_behind (length u.brackets) (kind.Sign symbol) → v ≡ w → IsNested u v (kind.Sign symbol)
+    with_brackets : (w : State) → w.tokens ≡ u.tokens → w.indents ≡ u.indents → w.line ≡ u.line → w.at ≡ u.at
+        → length w.brackets ≡ brackets_behind (length u.brackets) (kind.Sign symbol) → v ≡ w → IsNested u v (kind.Sign symbol)
     with_brackets w a b c d e same = subst (λ x. IsNested u x (kind.Sign symbol)) (sym same) (record { tokens = a; indents = b; line = c; at = d; brackets = e })
 
     by : (o f c : Bool) → opens symbol ≡ o → closes symbol ≡ c →
-        cond {A = Answer (Unit {0})} o (cond {A = Answer (Unit {0})} f (u, Err (fault.TooDeep u.at.place)) (record u { brackets = u.brackets ++ u.at.place ∷ [] }, Ok tt)) (cond {A = Answer (Unit {0})} c (record u { brackets = take (length u.brackets - 1) u.brackets }, Ok tt) (u, Ok tt)) ≡ (v, Ok tt) →
+        cond {A = Answer (Unit {0})} o (cond {A = Answer (Unit {0})} f (u, Err (fault.TooDeep u.at.place)) (record u { brackets = u.brackets ++ u.at.place ∷ [] }, Ok tt))
+        (cond {A = Answer (Unit {0})} c (record u { brackets = take (length u.brackets - 1) u.brackets }, Ok tt) (u, Ok tt)) ≡ (v, Ok tt) →
         IsNested u v (kind.Sign symbol)
     by true true c eo ec e = absurd (never_ok u v (fault.TooDeep u.at.place) tt e)
-    by true false c eo ec e = with_brackets (record u { brackets = u.brackets ++ u.at.place ∷ [] }) refl refl refl refl (length-append u.brackets (u.at.place ∷ []) ∙ sym (behind true c eo ec)) (first_is _ v e)
+    by true false c eo ec e = with_brackets (record u { brackets = u.brackets ++ u.at.place ∷ [] }) refl refl refl refl
+        (length-append u.brackets (u.at.place ∷ []) ∙ sym (behind true c eo ec)) (first_is _ v e)
     by false f true eo ec e =
         let less = length-take (length u.brackets - 1) u.brackets in
         let count : length (take (length u.brackets - 1) u.brackets) ≡ length u.brackets - 1 = omega (arith, less) in

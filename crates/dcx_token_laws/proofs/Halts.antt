@@ -17,7 +17,8 @@ use Rattle.dcx_tokens.specs.Quoted.{up_to_quote}
 use Rattle.dcx_tokens.specs.State.{State, Answer, and_then, moved, put, is_full, dedented, begin_line, line_begun_at, nested, token_read, line_ended, step, led, start}
 use Rattle.dcx_tokens.proofs.Kept.{token_next, line_next}
 use Rattle.dcx_token_laws.proofs.Forms.{IsFormed, HasBegun, IsLed}
-use Rattle.dcx_token_laws.proofs.Steps.{IsToken, name, number, text, sign, line_end_front, blank_front, comment_front, name_front, number_front, text_front, sign_front_is, front_is_sign, name_token, number_token, text_token, sign_token, as_token, number_is, text_is}
+use Rattle.dcx_token_laws.proofs.Steps.{IsToken, name, number, text, sign, line_end_front, blank_front, comment_front, name_front, number_front, text_front}
+use Rattle.dcx_token_laws.proofs.Steps.{sign_front_is, front_is_sign, name_token, number_token, text_token, sign_token, as_token, number_is, text_is}
 use Rattle.dcx_token_laws.proofs.Stops.{never_err, left_is, line_begun_left, nested_left}
 
 -- a token of some kind begins, or what may be malformed: a number or a text
@@ -41,8 +42,10 @@ pub data Halts (s t : State) (c : ℕ) (cs : List ℕ) (f : ReadFault) : Type 0 
   char : IsBegun c cs → begins_name c ≡ false → begins_number c cs ≡ false → is_quote c ≡ false → sign_at c cs ≡ None → t ≡ s → f ≡ fault.BadChar s.at.place → Halts s t c cs f
   line : IsBegun c cs → Starts c cs → (HasBegun s → ⊥) → t ≡ s → ((blanks : List ℕ) → IsLed blanks s → LineHalts s blanks f) → Halts s t c cs f
   bad_number : IsBegun c cs → line_begun_at s s.line ≡ (t, Ok tt) → begins_name c ≡ false → begins_number c cs ≡ true → number_at (c ∷ cs) ≡ None → f ≡ fault.BadNumber t.at.place → Halts s t c cs f
-  open_text : IsBegun c cs → line_begun_at s s.line ≡ (t, Ok tt) → begins_name c ≡ false → begins_number c cs ≡ false → is_quote c ≡ true → up_to_quote c false cs ≡ None → f ≡ fault.Unclosed t.at.place → Halts s t c cs f
-  bracket : (symbol : Symbol) (n : ℕ) → IsBegun c cs → line_begun_at s s.line ≡ (t, Ok tt) → IsToken c cs (kind.Sign symbol) n → opens symbol ≡ true → is_full t ≡ true → f ≡ fault.TooDeep t.at.place → Halts s t c cs f
+  open_text : IsBegun c cs → line_begun_at s s.line ≡ (t, Ok tt) → begins_name c ≡ false → begins_number c cs ≡ false → is_quote c ≡ true → up_to_quote c false cs ≡ None
+      → f ≡ fault.Unclosed t.at.place → Halts s t c cs f
+  bracket : (symbol : Symbol) (n : ℕ) → IsBegun c cs → line_begun_at s s.line ≡ (t, Ok tt) → IsToken c cs (kind.Sign symbol) n → opens symbol ≡ true → is_full t ≡ true
+      → f ≡ fault.TooDeep t.at.place → Halts s t c cs f
 
 fault_is : {A : Type 0} (s t : State) (g f : ReadFault) → ◌≡◌ {A = Answer A} (s, Err g) (t, Err f) → f ≡ g
 fault_is {A = A} s t g f e = let same : ◌≡◌ {A = Result A ReadFault} (Err g) (Err f) = ap (λ (p : Answer A). p.1) e in cc
@@ -54,7 +57,9 @@ line_halts : (s t : State) (blanks : List ℕ) (g : ReadFault) → begin_line s 
 line_halts s t blanks g = by (tab_among blanks) (is_deeper s.indents (length blanks)) (is_full s) (is_standing s.indents (length blanks)) refl refl refl refl
   where
     by : (b d f st : Bool) → tab_among blanks ≡ b → is_deeper s.indents (length blanks) ≡ d → is_full s ≡ f → is_standing s.indents (length blanks) ≡ st →
-        cond {A = Answer (Unit {0})} b (s, Err (fault.Indent s.at.place)) (cond {A = Answer (Unit {0})} d (cond {A = Answer (Unit {0})} f (s, Err (fault.TooDeep s.at.place)) (record (put s kind.Indent []) { indents = s.indents ++ length blanks ∷ []; line = (dedented start 0).line }, Ok tt)) (cond {A = Answer (Unit {0})} st (dedented s (length blanks), Ok tt) (s, Err (fault.Indent s.at.place)))) ≡ (t, Err g) → LineHalts s blanks g
+        cond {A = Answer (Unit {0})} b (s, Err (fault.Indent s.at.place)) (cond {A = Answer (Unit {0})} d (cond {A = Answer (Unit {0})} f (s, Err (fault.TooDeep s.at.place))
+        (record (put s kind.Indent []) { indents = s.indents ++ length blanks ∷ []; line = (dedented start 0).line }, Ok tt))
+        (cond {A = Answer (Unit {0})} st (dedented s (length blanks), Ok tt) (s, Err (fault.Indent s.at.place)))) ≡ (t, Err g) → LineHalts s blanks g
     by true d f st eb ed ef es e = tab eb (fault_is s t (fault.Indent s.at.place) g e)
     by false true true st eb ed ef es e = full eb ed ef (fault_is s t (fault.TooDeep s.at.place) g e)
     by false true false st eb ed ef es e = absurd (never_err (record (put s kind.Indent []) { indents = s.indents ++ length blanks ∷ []; line = (dedented start 0).line }) t tt g e)
@@ -71,7 +76,8 @@ bracket_halts : (u t : State) (symbol : Symbol) (g : ReadFault) → nested u (ki
 bracket_halts u t symbol g = by (opens symbol) (is_full u) (closes symbol) refl refl
   where
     by : (o f c : Bool) → opens symbol ≡ o → is_full u ≡ f →
-        cond {A = Answer (Unit {0})} o (cond {A = Answer (Unit {0})} f (u, Err (fault.TooDeep u.at.place)) (record u { brackets = u.brackets ++ u.at.place ∷ [] }, Ok tt)) (cond {A = Answer (Unit {0})} c (record u { brackets = take (length u.brackets - 1) u.brackets }, Ok tt) (u, Ok tt)) ≡ (t, Err g) → BracketHalts u symbol g
+        cond {A = Answer (Unit {0})} o (cond {A = Answer (Unit {0})} f (u, Err (fault.TooDeep u.at.place)) (record u { brackets = u.brackets ++ u.at.place ∷ [] }, Ok tt))
+        (cond {A = Answer (Unit {0})} c (record u { brackets = take (length u.brackets - 1) u.brackets }, Ok tt) (u, Ok tt)) ≡ (t, Err g) → BracketHalts u symbol g
     by true true c eo ef e = record { opener = eo; no_room = ef; is = fault_is u t (fault.TooDeep u.at.place) g e }
     by true false c eo ef e = absurd (never_err (record u { brackets = u.brackets ++ u.at.place ∷ [] }) t tt g e)
     by false f true eo ef e = absurd (never_err (record u { brackets = take (length u.brackets - 1) u.brackets }) t tt g e)
@@ -81,7 +87,8 @@ module _ (s t : State) (c : ℕ) (cs : List ℕ) (f : ReadFault) (formed : IsFor
   nest_halts : (u : State) (k : TokenKind) (n : ℕ) → line_begun_at s s.line ≡ (u, Ok tt) → IsToken c cs k n → t ≡ u → (g : ReadFault) → nested u k ≡ (t, Err g) → f ≡ g → Halts s t c cs f
   nest_halts u (kind.Sign symbol) n first token left g e same =
       let h = bracket_halts u t symbol g e in
-      bracket symbol n begins (subst (λ (w : State). line_begun_at s s.line ≡ (w, Ok tt)) (sym left) first) token h.opener (subst (λ (w : State). is_full w ≡ true) (sym left) h.no_room) (same ∙ h.is ∙ ap (λ (w : State). fault.TooDeep w.at.place) (sym left))
+      bracket symbol n begins (subst (λ (w : State). line_begun_at s s.line ≡ (w, Ok tt)) (sym left) first) token h.opener
+      (subst (λ (w : State). is_full w ≡ true) (sym left) h.no_room) (same ∙ h.is ∙ ap (λ (w : State). fault.TooDeep w.at.place) (sym left))
   nest_halts u kind.Name n first token left g e same = absurd (never_err u t tt g e)
   nest_halts u (kind.Keyword w) n first token left g e same = absurd (never_err u t tt g e)
   nest_halts u (kind.Number x) n first token left g e same = absurd (never_err u t tt g e)
@@ -110,7 +117,8 @@ module _ (s t : State) (c : ℕ) (cs : List ℕ) (f : ReadFault) (formed : IsFor
       by (Err g) et h = none g et (left_is u t g f h) (fault_is u t g f h)
 
   token_halts : Starts c cs → ((place : Place) (token : TokenKind × ℕ) → token_at place (front_at c cs) c cs ≡ Ok token → IsToken c cs token.0 token.1) →
-      ((u : State) (g : ReadFault) → line_begun_at s s.line ≡ (u, Ok tt) → token_at u.at.place (front_at c cs) c cs ≡ Err g → t ≡ u → f ≡ g → Halts s t c cs f) → token_read s (front_at c cs) c cs ≡ (t, Err f) → Halts s t c cs f
+      ((u : State) (g : ReadFault) → line_begun_at s s.line ≡ (u, Ok tt) → token_at u.at.place (front_at c cs) c cs ≡ Err g → t ≡ u → f ≡ g → Halts s t c cs f)
+      → token_read s (front_at c cs) c cs ≡ (t, Err f) → Halts s t c cs f
   token_halts starts is none e = by (line_begun_at s s.line) refl e
     where
       line_by : (g : ReadFault) → line_begun_at s s.line ≡ (t, Err g) → f ≡ g → Halts s t c cs f
@@ -153,7 +161,8 @@ text_starts c cs None n d q e = starts_text n d q e
 pub halted : (s t : State) (c : ℕ) (cs : List ℕ) (f : ReadFault) → IsFormed s → step s c cs ≡ (t, Err f) → Halts s t c cs f
 halted s t c cs f formed e = by (ends_line c cs) (is_blank c) (eqb c 35) (begins_name c) (begins_number c cs) (is_quote c) (sign_at c cs) refl refl refl refl refl refl refl
   where
-    by : (l b h n d q : Bool) (o : Option Symbol) → ends_line c cs ≡ l → is_blank c ≡ b → eqb c 35 ≡ h → begins_name c ≡ n → begins_number c cs ≡ d → is_quote c ≡ q → sign_at c cs ≡ o → Halts s t c cs f
+    by : (l b h n d q : Bool) (o : Option Symbol) → ends_line c cs ≡ l → is_blank c ≡ b → eqb c 35 ≡ h → begins_name c ≡ n → begins_number c cs ≡ d
+        → is_quote c ≡ q → sign_at c cs ≡ o → Halts s t c cs f
     by true b h n d q o el eb eh en ed eq eo =
         absurd (never_err (line_ended s s.line (take (line_end_len c) (c ∷ cs))) t (line_end_len c) f (sym (line_end_front s c cs el) ∙ e))
     by false true h n d q o el eb eh en ed eq eo =

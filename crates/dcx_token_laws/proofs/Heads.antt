@@ -20,7 +20,8 @@ pub data Head (front : List ℕ) (c : ℕ) (ds : List ℕ) (us : List Token) : T
   passes : (ys behind : List ℕ) → ds ≡ ys ++ behind → IsBetween (c ∷ ys) behind → Cut (front ++ c ∷ ys) behind us [] → Head front c ds us
   has_word : (marks : List Token) (t : Token) (ts : List Token) (ys behind : List ℕ) → us ≡ marks ++ t ∷ ts → ds ≡ ys ++ behind → AreMarks front marks →
       IsWord t.kind (c ∷ ys) → IsLongest (c ∷ ys) behind → Spans t front (c ∷ ys) → Cut (front ++ c ∷ ys) behind ts [] → Head front c ds us
-  has_end : (t : Token) (ts : List Token) (ys behind : List ℕ) → us ≡ t ∷ ts → ds ≡ ys ++ behind → t.kind ≡ kind.Newline → IsLineEnd (c ∷ ys) → Spans t front (c ∷ ys) → Cut (front ++ c ∷ ys) behind ts [] → Head front c ds us
+  has_end : (t : Token) (ts : List Token) (ys behind : List ℕ) → us ≡ t ∷ ts → ds ≡ ys ++ behind → t.kind ≡ kind.Newline → IsLineEnd (c ∷ ys) → Spans t front (c ∷ ys)
+      → Cut (front ++ c ∷ ys) behind ts [] → Head front c ds us
 
 pub none_word : (k : TokenKind) → IsWord k [] → ⊥
 none_word kind.Name h = h.0
@@ -187,7 +188,8 @@ end_cut front c xs a us end cut = by (head cut c (xs ++ a) refl refl)
     by (has_end t ts ys behind is e newline other spans more) =
         let one = one_end c xs ys end other in
         let same : a ≡ behind = same_behind ys a behind (ap (λ zs. zs ++ a) (sym one) ∙ e) in
-        ended t ts is newline (subst (λ zs. Spans t front (c ∷ zs)) (sym one) spans) (subst (λ zs. Cut (front ++ c ∷ zs) a ts []) (sym one) (subst (λ zs. Cut (front ++ c ∷ ys) zs ts []) (sym same) more))
+        ended t ts is newline (subst (λ zs. Spans t front (c ∷ zs)) (sym one) spans)
+        (subst (λ zs. Cut (front ++ c ∷ zs) a ts []) (sym one) (subst (λ zs. Cut (front ++ c ∷ ys) zs ts []) (sym same) more))
 
 -- ---- a token
 -- of two fronts of a list one goes on to the other

@@ -1,4 +1,4 @@
--- The lemmas.
+-- The lemmas by which each step of a reading cuts off a stretch, and spells, begins and ends what it must.
 pub mod Basics
 pub mod Steps
 pub mod Forms

@@ -10,7 +10,8 @@ use Rattle.unicode_ident.specs.Ident.{is_xid_continue}
 use Rattle.unicode_ident.proofs.IdentLemmas.{is_xid_continue-ascii}
 use Rattle.dcx_frac.specs.declared.fraction.Frac.{Frac}
 use Rattle.dcx_tokens.specs.Front.{run_of}
-use Rattle.dcx_tokens.specs.Number.{digits, fraction_digits, fraction_len, begins_exponent, exponent_sign_len, exponent_digits, is_negative, exponent_len, Spelling, mantissa_len, spelling_at, is_spoiled, frac_of_spelling, number_at}
+use Rattle.dcx_tokens.specs.Number.{digits, fraction_digits, fraction_len, begins_exponent, exponent_sign_len, exponent_digits, is_negative}
+use Rattle.dcx_tokens.specs.Number.{exponent_len, Spelling, mantissa_len, spelling_at, is_spoiled, frac_of_spelling, number_at}
 use Rattle.dcx_token_laws.proofs.Between.{run_is}
 use Rattle.dcx_token_laws.proofs.Basics.{is_char, never_both, not_zero}
 
@@ -91,7 +92,8 @@ exponent_none (y ∷ ys) h fine = by (begins_exponent y) refl
     by false e = no_exponent y ys e
 
 -- with digits the exponent counts e, its sign and them
-pub with_digits : (d : ℕ) (xs ys : List ℕ) (e : ℕ) → begins_exponent e ≡ true → exponent_sign_len ((d ∷ xs) ++ ys) + length (digits (drop (exponent_sign_len ((d ∷ xs) ++ ys)) ((d ∷ xs) ++ ys))) ≤ suc (length xs) →
+pub with_digits : (d : ℕ) (xs ys : List ℕ) (e : ℕ) → begins_exponent e ≡ true
+    → exponent_sign_len ((d ∷ xs) ++ ys) + length (digits (drop (exponent_sign_len ((d ∷ xs) ++ ys)) ((d ∷ xs) ++ ys))) ≤ suc (length xs) →
     IsSameExponent (e ∷ d ∷ (xs ++ ys)) (e ∷ d ∷ xs)
 with_digits d xs ys e begins le =
     let sign = exponent_sign_len (d ∷ xs) in
@@ -102,7 +104,8 @@ with_digits d xs ys e begins le =
     let ds : exponent_digits (e ∷ d ∷ (xs ++ ys)) ≡ exponent_digits (e ∷ d ∷ xs) = rw begins same in
     record { len = ap (λ zs. cond (eqb (length zs) 0) 0 (1 + sign + length zs)) ds; ds = ds; sign = refl }
 
-exponent_some : (e : ℕ) (xs ys : List ℕ) → begins_exponent e ≡ true → eqb (length (exponent_digits (e ∷ (xs ++ ys)))) 0 ≡ false → exponent_len (e ∷ (xs ++ ys)) ≤ suc (length xs) → IsSameExponent (e ∷ (xs ++ ys)) (e ∷ xs)
+exponent_some : (e : ℕ) (xs ys : List ℕ) → begins_exponent e ≡ true → eqb (length (exponent_digits (e ∷ (xs ++ ys)))) 0 ≡ false
+    → exponent_len (e ∷ (xs ++ ys)) ≤ suc (length xs) → IsSameExponent (e ∷ (xs ++ ys)) (e ∷ xs)
 exponent_some e xs ys begins some le = by xs refl
   where
     ds : exponent_digits (e ∷ (xs ++ ys)) ≡ digits (drop (exponent_sign_len (xs ++ ys)) (xs ++ ys))
@@ -119,7 +122,8 @@ exponent_some e xs ys begins some le = by xs refl
 
     by : (zs : List ℕ) → zs ≡ xs → IsSameExponent (e ∷ (xs ++ ys)) (e ∷ xs)
     by [] is = let m = more in let l = ap (λ ws. length ws) is in absurd (omega (arith, m, l))
-    by (d ∷ zs) is = subst (λ ws. IsSameExponent (e ∷ (ws ++ ys)) (e ∷ ws)) is (with_digits d zs ys e begins (subst (λ ws. exponent_sign_len (ws ++ ys) + length (digits (drop (exponent_sign_len (ws ++ ys)) (ws ++ ys))) ≤ length ws) (sym is) few))
+    by (d ∷ zs) is = subst (λ ws. IsSameExponent (e ∷ (ws ++ ys)) (e ∷ ws)) is
+        (with_digits d zs ys e begins (subst (λ ws. exponent_sign_len (ws ++ ys) + length (digits (drop (exponent_sign_len (ws ++ ys)) (ws ++ ys))) ≤ length ws) (sym is) few))
 
 exponent_front : (xs ys : List ℕ) → exponent_len (xs ++ ys) ≤ length xs → is_spoiled (drop (exponent_len (xs ++ ys)) (xs ++ ys)) ≡ false → IsSameExponent (xs ++ ys) xs
 exponent_front [] ys h fine = exponent_none ys h fine
@@ -215,7 +219,8 @@ number_front xs ys x n e le =
     let len = len_is (xs ++ ys) in
     let is = t.is in
     let short : mantissa_len (xs ++ ys) + exponent_len (drop (mantissa_len (xs ++ ys)) (xs ++ ys)) ≤ length xs = omega (arith, len, is, le) in
-    let fine : is_spoiled (drop (mantissa_len (xs ++ ys) + exponent_len (drop (mantissa_len (xs ++ ys)) (xs ++ ys))) (xs ++ ys)) ≡ false = subst (λ m. is_spoiled (drop m (xs ++ ys)) ≡ false) len t.fine in
+    let fine : is_spoiled (drop (mantissa_len (xs ++ ys) + exponent_len (drop (mantissa_len (xs ++ ys)) (xs ++ ys))) (xs ++ ys)) ≡ false =
+    subst (λ m. is_spoiled (drop m (xs ++ ys)) ≡ false) len t.fine in
     let cut : drop s.len (xs ++ ys) ≡ drop s.len xs ++ ys = drop-append-le s.len xs ys (omega (arith, is, le)) in
     let also : is_spoiled (drop s.len xs) ≡ false = spoiled_front (drop s.len xs) ys (ap (λ zs. is_spoiled zs) (sym cut) ∙ t.fine) in
     by_spelling xs ∙ ap (λ (z : Spelling). number_by z xs) (sym (same_spelling xs ys short fine))
@@ -250,7 +255,8 @@ exponent_within (x ∷ xs) = by (begins_exponent x)
         let most = prefix_len-le-length is_ascii_digit (drop (exponent_sign_len xs) xs) in
         omega (arith, sign, rest, run, most)
 
-    by : (b : Bool) → cond (eqb (length (cond b (digits (drop (exponent_sign_len xs) xs)) [])) 0) 0 (1 + exponent_sign_len xs + length (cond b (digits (drop (exponent_sign_len xs) xs)) [])) ≤ suc (length xs)
+    by : (b : Bool) → cond (eqb (length (cond b (digits (drop (exponent_sign_len xs) xs)) [])) 0) 0
+        (1 + exponent_sign_len xs + length (cond b (digits (drop (exponent_sign_len xs) xs)) [])) ≤ suc (length xs)
     by false = omega arith
     by true = of (eqb (length (digits (drop (exponent_sign_len xs) xs))) 0)
       where

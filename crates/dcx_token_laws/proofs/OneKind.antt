@@ -7,7 +7,8 @@ use Rattle.dcx_tokens.specs.declared.token.TokenKind.TheVariants as kind
 use Rattle.dcx_tokens.specs.Front.{is_quote, begins_name, begins_number, long_sign, short_sign}
 use Rattle.dcx_token_laws.specs.Words.{IsSign, IsWord}
 use Rattle.dcx_token_laws.proofs.Basics.{none_is, same_some}
-use Rattle.dcx_token_laws.proofs.Firsts.{long_plain, name_ascii, name_not_plain, name_not_number, name_not_quote, number_not_plain, number_not_quote, quote_not_plain, short_not_digit, short_not_quote, short_not_name}
+use Rattle.dcx_token_laws.proofs.Firsts.{long_plain, name_ascii, name_not_plain, name_not_number, name_not_quote, number_not_plain}
+use Rattle.dcx_token_laws.proofs.Firsts.{number_not_quote, quote_not_plain, short_not_digit, short_not_quote, short_not_name}
 
 -- ---- one kind
 sign_not_name : (s : Symbol) (c : ℕ) (xs : List ℕ) → IsSign s (c ∷ xs) → begins_name c ≡ true → ⊥

@@ -19,7 +19,8 @@ pub quote_some : (quote : ℕ) (is_taken : Bool) (xs : List ℕ) (n : ℕ) → u
 quote_some quote is_taken [] n e = absurd (none_is n e)
 quote_some quote is_taken (c ∷ cs) n e = by (eqb c 10) is_taken (eqb c quote) e (λ b m. quote_some quote b cs m)
   where
-    counted : (b : Bool) → option_map (λ m. 1 + m) (up_to_quote quote b cs) ≡ Some n → ((b : Bool) (m : ℕ) → up_to_quote quote b cs ≡ Some m → (0 < m) × (m ≤ length cs)) → (0 < n) × (n ≤ suc (length cs))
+    counted : (b : Bool) → option_map (λ m. 1 + m) (up_to_quote quote b cs) ≡ Some n
+        → ((b : Bool) (m : ℕ) → up_to_quote quote b cs ≡ Some m → (0 < m) × (m ≤ length cs)) → (0 < n) × (n ≤ suc (length cs))
     counted b h more = let one = one_more (up_to_quote quote b cs) n h in let rest = more b one.count one.was in let is = one.is in let top = rest.1 in (omega arith, omega (arith, top, is))
 
     by : (l t q : Bool) → cond l None (cond t (option_map (λ m. 1 + m) (up_to_quote quote false cs)) (cond q (Some 1) (option_map (λ m. 1 + m) (up_to_quote quote (eqb c 92) cs)))) ≡ Some n →
@@ -33,14 +34,16 @@ pub quote_front : (quote : ℕ) (is_taken : Bool) (xs ys : List ℕ) (n : ℕ) �
 quote_front quote is_taken [] ys n e le = absurd (let some = (quote_some quote is_taken ys n e).0 in omega (arith, some, le))
 quote_front quote is_taken (c ∷ cs) ys n e le = by (eqb c 10) is_taken (eqb c quote) e (λ b m. quote_front quote b cs ys m)
   where
-    counted : (b : Bool) → option_map (λ m. 1 + m) (up_to_quote quote b (cs ++ ys)) ≡ Some n → ((b : Bool) (m : ℕ) → up_to_quote quote b (cs ++ ys) ≡ Some m → m ≤ length cs → up_to_quote quote b cs ≡ Some m) →
+    counted : (b : Bool) → option_map (λ m. 1 + m) (up_to_quote quote b (cs ++ ys)) ≡ Some n
+        → ((b : Bool) (m : ℕ) → up_to_quote quote b (cs ++ ys) ≡ Some m → m ≤ length cs → up_to_quote quote b cs ≡ Some m) →
         option_map (λ m. 1 + m) (up_to_quote quote b cs) ≡ Some n
     counted b h more =
         let one = one_more (up_to_quote quote b (cs ++ ys)) n h in
         let is = one.is in
         rw (more b one.count one.was (omega (arith, is, le))) (ap (λ m. Some m) (sym is))
 
-    by : (l t q : Bool) → cond l None (cond t (option_map (λ m. 1 + m) (up_to_quote quote false (cs ++ ys))) (cond q (Some 1) (option_map (λ m. 1 + m) (up_to_quote quote (eqb c 92) (cs ++ ys))))) ≡ Some n →
+    by : (l t q : Bool) → cond l None (cond t (option_map (λ m. 1 + m) (up_to_quote quote false (cs ++ ys)))
+        (cond q (Some 1) (option_map (λ m. 1 + m) (up_to_quote quote (eqb c 92) (cs ++ ys))))) ≡ Some n →
         ((b : Bool) (m : ℕ) → up_to_quote quote b (cs ++ ys) ≡ Some m → m ≤ length cs → up_to_quote quote b cs ≡ Some m) →
         cond l None (cond t (option_map (λ m. 1 + m) (up_to_quote quote false cs)) (cond q (Some 1) (option_map (λ m. 1 + m) (up_to_quote quote (eqb c 92) cs)))) ≡ Some n
     by true t q h more = h

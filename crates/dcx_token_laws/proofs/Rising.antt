@@ -17,9 +17,6 @@ IsRising low [] = Unit {0}
 IsRising low (x ∷ xs) = (low < x) × IsRising x xs
 
 -- ---- tests
-le : (a b : ℕ) → nat_le a b ≡ true → a ≤ b
-le a b e = grind (arith, nat_tests)
-
 above : (a b : ℕ) → nat_le a b ≡ false → b < a
 above a b e = grind (arith, nat_tests)
 
@@ -69,7 +66,8 @@ kept_stands low [] x r e = absurd (cc)
 kept_stands low (y ∷ ys) x r e = by (eqb y x) refl e (kept_stands y ys x r.1)
   where
     by : (b : Bool) → eqb y x ≡ b → (b || list_any (λ i. eqb i x) ys) ≡ true →
-        (list_any (λ i. eqb i x) ys ≡ true → (outer : List ℕ) × (take (prefix_len (λ i. nat_le i x) ys) ys ≡ outer ++ x ∷ [])) → (outer : List ℕ) × (take (prefix_len (λ i. nat_le i x) (y ∷ ys)) (y ∷ ys) ≡ outer ++ x ∷ [])
+        (list_any (λ i. eqb i x) ys ≡ true → (outer : List ℕ) × (take (prefix_len (λ i. nat_le i x) ys) ys ≡ outer ++ x ∷ []))
+        → (outer : List ℕ) × (take (prefix_len (λ i. nat_le i x) (y ∷ ys)) (y ∷ ys) ≡ outer ++ x ∷ [])
     by true is h more =
         let same = is_char y x is in
         let yes : nat_le y x ≡ true = le_true y x (omega arith) in
@@ -108,7 +106,8 @@ stands blocks depth r = by (eqb depth 0) refl
         inl (rw none refl, zero)
     by false is e = inr (kept_stands 0 blocks depth r e)
 
-pub back_turns : (blocks : List ℕ) (depth : ℕ) → IsRising 0 blocks → is_standing blocks depth ≡ true → Turns blocks depth (replicate (length blocks - length (kept blocks depth)) kind.Dedent) (kept blocks depth)
+pub back_turns : (blocks : List ℕ) (depth : ℕ) → IsRising 0 blocks → is_standing blocks depth ≡ true
+    → Turns blocks depth (replicate (length blocks - length (kept blocks depth)) kind.Dedent) (kept blocks depth)
 back_turns blocks depth r e =
     let n = prefix_len (λ i. nat_le i depth) blocks in
     let count : length (drop n blocks) ≡ length blocks - length (kept blocks depth) = length-drop n blocks ∙ ap (λ m. length blocks - m) (sym (length-prefix_len (λ i. nat_le i depth) blocks)) in

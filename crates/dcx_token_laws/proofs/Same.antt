@@ -59,8 +59,10 @@ same_marks front [] [] e a b = refl
 same_marks front [] (n ∷ ns) e a b = absurd (nil_not n.kind (kinds ns) e)
 same_marks front (m ∷ ms) [] e a b = absurd (nil_not m.kind (kinds ms) (sym e))
 same_marks front (m ∷ ms) (n ∷ ns) e a b =
-    let first = same_span m n front [] (head_is m.kind n.kind (kinds ms) (kinds ns) e) (All-head (λ t. IsMark t.kind × Spans t front []) m ms a).1 (All-head (λ t. IsMark t.kind × Spans t front []) n ns b).1 in
-    let more = same_marks front ms ns (tail_is m.kind n.kind (kinds ms) (kinds ns) e) (All-tail (λ t. IsMark t.kind × Spans t front []) m ms a) (All-tail (λ t. IsMark t.kind × Spans t front []) n ns b) in
+    let first = same_span m n front [] (head_is m.kind n.kind (kinds ms) (kinds ns) e) (All-head (λ t. IsMark t.kind × Spans t front []) m ms a).1
+    (All-head (λ t. IsMark t.kind × Spans t front []) n ns b).1 in
+    let more = same_marks front ms ns (tail_is m.kind n.kind (kinds ms) (kinds ns) e) (All-tail (λ t. IsMark t.kind × Spans t front []) m ms a)
+    (All-tail (λ t. IsMark t.kind × Spans t front []) n ns b) in
     ap (λ t. t ∷ ms) first ∙ ap (λ ts. n ∷ ts) more
 
 -- ---- rows
@@ -101,7 +103,8 @@ at_row u t us ts front xs e spans =
     let row = ap (λ (p : Place). p.line) spans.place in
     omega (arith, first, row)
 
-marks_row : (front : List ℕ) (marks us : List Token) (t : Token) (ts : List Token) → AreMarks front marks → ((u : Token) (vs : List Token) → us ≡ u ∷ vs → (place_behind front).line ≤ u.place.line) → marks ++ us ≡ t ∷ ts → (place_behind front).line ≤ t.place.line
+marks_row : (front : List ℕ) (marks us : List Token) (t : Token) (ts : List Token) → AreMarks front marks
+    → ((u : Token) (vs : List Token) → us ≡ u ∷ vs → (place_behind front).line ≤ u.place.line) → marks ++ us ≡ t ∷ ts → (place_behind front).line ≤ t.place.line
 marks_row front [] us t ts are more e = more t ts e
 marks_row front (m ∷ ms) us t ts are more e = at_row m t (ms ++ us) ts front [] e (All-head (λ t. IsMark t.kind × Spans t front []) m ms are).1
 
@@ -134,7 +137,8 @@ pub record OneSplit (ms ns : List Token) (t u : Token) (xs ys : List Token) : Ty
   pub token : t ≡ u
   pub behind : xs ≡ ys
 
-pub one_split : (ms ns : List Token) (t u : Token) (xs ys : List Token) → ms ++ t ∷ xs ≡ ns ++ u ∷ ys → All IsMark (kinds ms) → All IsMark (kinds ns) → IsOfWords t.kind → IsOfWords u.kind → OneSplit ms ns t u xs ys
+pub one_split : (ms ns : List Token) (t u : Token) (xs ys : List Token) → ms ++ t ∷ xs ≡ ns ++ u ∷ ys → All IsMark (kinds ms) → All IsMark (kinds ns) → IsOfWords t.kind
+    → IsOfWords u.kind → OneSplit ms ns t u xs ys
 one_split [] [] t u xs ys e a b h k = record { marks = refl; token = head_is t u xs ys e; behind = tail_is t u xs ys e }
 one_split [] (n ∷ ns) t u xs ys e a b h k = absurd (word_not t n (head_is t n xs (ns ++ u ∷ ys) e) h (All-head IsMark n.kind (kinds ns) b))
 one_split (m ∷ ms) [] t u xs ys e a b h k = absurd (word_not u m (sym (head_is m u (ms ++ t ∷ xs) ys e)) k (All-head IsMark m.kind (kinds ms) a))
@@ -175,10 +179,12 @@ pub record IsLine (blocks : List ℕ) (marks : List Token) (t : Token) (us : Lis
   pub newline : end.kind ≡ kind.Newline
   pub lines : AreLines after behind
 
-pub a_line : {blocks : List ℕ} {us : List Token} → AreLines blocks us → (marks : List Token) (t : Token) (vs : List Token) → us ≡ marks ++ t ∷ vs → All IsMark (kinds marks) → IsOfWords t.kind → IsLine blocks marks t vs
+pub a_line : {blocks : List ℕ} {us : List Token} → AreLines blocks us → (marks : List Token) (t : Token) (vs : List Token) → us ≡ marks ++ t ∷ vs → All IsMark (kinds marks)
+    → IsOfWords t.kind → IsLine blocks marks t vs
 a_line (ended {blocks = blocks} e) marks t vs is are word = absurd (word_not_dedent t.kind word (all_dedents marks t vs (length blocks) (ap kinds (sym is) ∙ e)))
 a_line {blocks = blocks} (line {after = after} ms first more end ts turns places words closed together newline lines) marks t vs is are word =
-    let split = one_split ms marks first t (more ++ end ∷ ts) vs (sym (append_assoc ms (first ∷ more) (end ∷ ts)) ∙ is) (turns_marks turns) are (All-head (λ u. IsOfWords u.kind) first more words) word in
+    let split = one_split ms marks first t (more ++ end ∷ ts) vs (sym (append_assoc ms (first ∷ more) (end ∷ ts)) ∙ is) (turns_marks turns) are
+    (All-head (λ u. IsOfWords u.kind) first more words) word in
     subst (λ zs. IsLine blocks marks t zs) split.behind (subst (λ ns. IsLine blocks ns t (more ++ end ∷ ts)) split.marks (subst (λ u. IsLine blocks ms u (more ++ end ∷ ts)) split.token (record {
       after = after;
       more = more;
@@ -242,7 +248,8 @@ stands_alone depth stay more other gone e (inl at) all = right_nil stay more (sy
 stands_alone depth stay more other gone e (inr (outer, at)) all = none_more depth stay more outer (sym e ∙ at) (all_left (λ d. depth < d) more gone all)
 
 -- the same blocks stay
-one_back : (depth : ℕ) (stay other gone rest : List ℕ) → Fronts stay other gone rest → StandsAt stay depth → StandsAt other depth → All (λ d. depth < d) gone → All (λ d. depth < d) rest → (stay ≡ other) × (gone ≡ rest)
+one_back : (depth : ℕ) (stay other gone rest : List ℕ) → Fronts stay other gone rest → StandsAt stay depth → StandsAt other depth → All (λ d. depth < d) gone
+    → All (λ d. depth < d) rest → (stay ≡ other) × (gone ≡ rest)
 one_back depth stay other gone rest (first_on more e f) at also all each =
     let none = stands_alone depth stay more other rest e also (subst (All (λ d. depth < d)) f all) in
     (sym (e ∙ ap (λ zs. stay ++ zs) none ∙ append-nil stay), f ∙ ap (λ zs. zs ++ rest) none)
@@ -318,4 +325,5 @@ same_dedents front (suc n) (u ∷ us) d e all is =
 pub end_lines : {blocks : List ℕ} {us : List Token} → AreLines blocks us → (front : List ℕ) (d : Token) → All (AtEnd front) us → IsLast d front → us ≡ replicate (length blocks) d
 end_lines (ended {blocks = blocks} {ts = us} e) front d all is = same_dedents front (length blocks) us d e all is
 end_lines (line ms first more end ts turns places words closed together newline lines) front d all is =
-    absurd (no_word_there front first (token_among (AtEnd front) ms first (more ++ end ∷ ts) (subst (All (AtEnd front)) (append_assoc ms (first ∷ more) (end ∷ ts)) all)) (All-head (λ u. IsOfWords u.kind) first more words))
+    absurd (no_word_there front first (token_among (AtEnd front) ms first (more ++ end ∷ ts) (subst (All (AtEnd front)) (append_assoc ms (first ∷ more) (end ∷ ts)) all))
+    (All-head (λ u. IsOfWords u.kind) first more words))

@@ -18,5 +18,6 @@ shallow_end b i (u ∷ ts) h = shallow_end (brackets_behind b u.kind) (blocks_be
 pub shallow : (text : List ℕ) (ts : List Token) (f : Option ReadFault) → IsLexed text ts f → StaysShallow 0 0 ts
 shallow text ts f lexed =
     let total = bytes_of (chars text) in
-    let last = reads_keep (λ (s : State). Nested s.tokens (length s.brackets) (length s.indents)) total (nesting.nests total) (record { shallow = omega arith; brackets_are = refl; blocks_are = refl }) (omega arith) lexed in
+    let last = reads_keep (λ (s : State). Nested s.tokens (length s.brackets) (length s.indents)) total (nesting.nests total)
+    (record { shallow = omega arith; brackets_are = refl; blocks_are = refl }) (omega arith) lexed in
     subst (λ us. StaysShallow 0 0 us) last.are last.keeps.shallow

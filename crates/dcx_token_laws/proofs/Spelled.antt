@@ -1,5 +1,6 @@
 -- The characters of a token spell it, and no more of them would spell one.
-use Rattle.std.proofs.Common.{◌≡◌, ℕ, zero, suc, ◌+◌, ◌<◌, Bool, true, false, cond, eqb, ◌||◌, ◌&&◌, List, [], ◌∷◌, ◌++◌, length, take, drop, Option, Some, None, refl, sym, ap, ◌∙◌, subst, append_assoc, arith, length-append}
+use Rattle.std.proofs.Common.{◌≡◌, ℕ, zero, suc, ◌+◌, ◌<◌, Bool, true, false, cond, eqb, ◌||◌, ◌&&◌, List, [], ◌∷◌, ◌++◌, length}
+use Rattle.std.proofs.Common.{take, drop, Option, Some, None, refl, sym, ap, ◌∙◌, subst, append_assoc, arith, length-append}
 use Rattle.std.specs.Prelude.{IsTrue}
 use Rattle.std.specs.Char.{is_ascii_digit}
 use Rattle.std.specs.List.{All, prefix_len}
@@ -37,7 +38,7 @@ run_stops p (c ∷ cs) (x ∷ xs) rest e h = by (p c) refl e (λ f. run_stops p 
     by true is f more = more (sym (ap (λ n. drop n (c ∷ cs)) (one-add (prefix_len p cs))) ∙ f)
     by false is f more = absurd (never_both (p c) (subst (λ d. p d ≡ true) (sym (head_is c x cs (xs ++ rest) f)) (All-head (λ d. IsTrue (p d)) x xs h)) is)
 
-all_right : (P : ℕ → Type 0) (xs ys : List ℕ) → All P (xs ++ ys) → All P ys
+pub all_right : (P : ℕ → Type 0) (xs ys : List ℕ) → All P (xs ++ ys) → All P ys
 all_right P [] ys h = h
 all_right P (x ∷ xs) ys h = all_right P xs ys (All-tail P x (xs ++ ys) h)
 
@@ -226,7 +227,8 @@ module _ (c : ℕ) (cs : List ℕ) (m : ℕ) (more rest : List ℕ) (split : dro
       none_left (take m cs) more m len (omega (arith, few, one))
   two_signs (d ∷ f ∷ us) s t is all count e h = absurd h
 
-  sign_ends : (k : TokenKind) (s : Symbol) → begins_name c ≡ false → begins_number c cs ≡ false → is_quote c ≡ false → suc m ≡ sign_len s → sign_at c cs ≡ Some s → IsWord k (c ∷ (take m cs ++ more)) → more ≡ []
+  sign_ends : (k : TokenKind) (s : Symbol) → begins_name c ≡ false → begins_number c cs ≡ false → is_quote c ≡ false → suc m ≡ sign_len s → sign_at c cs ≡ Some s
+      → IsWord k (c ∷ (take m cs ++ more)) → more ≡ []
   sign_ends kind.Name s b d q count e h = absurd (never_both (begins_name c) h.0.0 b)
   sign_ends (kind.Keyword w) s b d q count e h = absurd (never_both (begins_name c) h.0.0 b)
   sign_ends (kind.Number y) s b d q count e h = absurd (no_number d h.0)
@@ -244,7 +246,8 @@ number_longest : (c : ℕ) (cs : List ℕ) (x : Frac) (n : ℕ) → begins_name 
 number_longest c cs x zero b d e = absurd (let some = number_some c cs (x, zero) d e in omega (arith, some))
 number_longest c cs x (suc m) b d e = λ more rest k split h. number_ends c cs m more rest split k x b d e h
 
-sign_longest : (c : ℕ) (cs : List ℕ) (s : Symbol) (n : ℕ) → begins_name c ≡ false → begins_number c cs ≡ false → is_quote c ≡ false → n ≡ sign_len s → sign_at c cs ≡ Some s → IsLongest (take n (c ∷ cs)) (drop n (c ∷ cs))
+sign_longest : (c : ℕ) (cs : List ℕ) (s : Symbol) (n : ℕ) → begins_name c ≡ false → begins_number c cs ≡ false → is_quote c ≡ false → n ≡ sign_len s → sign_at c cs ≡ Some s
+    → IsLongest (take n (c ∷ cs)) (drop n (c ∷ cs))
 sign_longest c cs s zero b d q count e = absurd (let some = sign_some s in omega (arith, some, count))
 sign_longest c cs s (suc m) b d q count e = λ more rest k split h. sign_ends c cs m more rest split k s b d q count e h
 

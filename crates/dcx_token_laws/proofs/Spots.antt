@@ -21,6 +21,7 @@ use Rattle.dcx_token_laws.proofs.Steps as steps
 use Rattle.dcx_token_laws.proofs.Steps.{IsToken, Step}
 use Rattle.dcx_token_laws.proofs.Totals.{token_long}
 use Rattle.dcx_token_laws.proofs.Basics.{is_char, never_both}
+use Rattle.dcx_token_laws.proofs.Spelled.{all_right}
 
 -- no line begins in front of blanks at the end of these characters
 abbrev pub NotLed : List ℕ → Type 0
@@ -46,10 +47,6 @@ ten_blank e = cc
 pub all_left : (P : ℕ → Type 0) (xs ys : List ℕ) → All P (xs ++ ys) → All P xs
 all_left P [] ys h = All-nil P
 all_left P (x ∷ xs) ys h = All-cons P x xs (All-head P x (xs ++ ys) h) (all_left P xs ys (All-tail P x (xs ++ ys) h))
-
-all_right : (P : ℕ → Type 0) (xs ys : List ℕ) → All P (xs ++ ys) → All P ys
-all_right P [] ys h = h
-all_right P (x ∷ xs) ys h = all_right P xs ys (All-tail P x (xs ++ ys) h)
 
 -- behind what begins with no blank and has no line feed
 not_led : (front : List ℕ) (c : ℕ) (ws : List ℕ) → is_blank c ≡ false → HasNoFeed (c ∷ ws) → NotLed (front ++ c ∷ ws)
@@ -78,7 +75,8 @@ not_led_blanks front bl h are before blanks e starts also = by (fronts front bef
 -- the line has a token; or blanks alone lead it, all of them; or it is at its end, and has none
 pub data Spot (s : State) (front cs : List ℕ) : Type 0 where
   within : HasBegun s → (length s.brackets ≡ 0 → NotLed front) → Spot s front cs
-  leads : (before blanks : List ℕ) → IsLed blanks s → length s.brackets ≡ 0 → front ≡ before ++ blanks → StartsLine before → AreBlanks blanks → s.at.place.column ≡ 1 + length blanks → NoMore blanks cs → Spot s front cs
+  leads : (before blanks : List ℕ) → IsLed blanks s → length s.brackets ≡ 0 → front ≡ before ++ blanks → StartsLine before → AreBlanks blanks
+      → s.at.place.column ≡ 1 + length blanks → NoMore blanks cs → Spot s front cs
   closing : (blanks : List ℕ) → IsLed blanks s → length s.brackets ≡ 0 → EndsLine cs → Spot s front cs
 
 pub spot_formed : (s : State) (front cs : List ℕ) → Spot s front cs → IsFormed s
@@ -127,7 +125,8 @@ module _ (s t : State) (front : List ℕ) (c : ℕ) (cs : List ℕ) (n : ℕ) (s
   comment_apart h count =
       let some : n ≡ suc (up_to_line_end cs) = count ∙ one-add (up_to_line_end cs) in
       let feeds = comment_feeds (take n (c ∷ cs)) (drop n (c ∷ cs)) (is_comment c cs n h count) in
-      subst (λ xs. NotLed (front ++ xs)) (sym (ap (λ i. take i (c ∷ cs)) some)) (not_led front c (take (up_to_line_end cs) cs) (ap is_blank (is_char c 35 h)) (subst HasNoFeed (ap (λ i. take i (c ∷ cs)) some) feeds))
+      subst (λ xs. NotLed (front ++ xs)) (sym (ap (λ i. take i (c ∷ cs)) some))
+      (not_led front c (take (up_to_line_end cs) cs) (ap is_blank (is_char c 35 h)) (subst HasNoFeed (ap (λ i. take i (c ∷ cs)) some) feeds))
 
   word_apart : (k : TokenKind) → ends_line c cs ≡ false → is_blank c ≡ false → IsToken c cs k n → NotLed now
   word_apart k l b token = by n (token_long c cs k n token) (token_feeds c cs k n l token)
@@ -138,8 +137,10 @@ module _ (s t : State) (front : List ℕ) (c : ℕ) (cs : List ℕ) (n : ℕ) (s
 
   pub leads_next : Spot s front (c ∷ cs) → Step s t c cs n → Leads t now (drop n (c ∷ cs))
   leads_next (within is apart) (steps.line_end l count same) = end_of is (is_line_end c cs n l count) (begun_closes s t (take n (c ∷ cs)) is same)
-  leads_next (within is apart) (steps.blank l b count same) = subst (λ (x : State). Leads x now (drop n (c ∷ cs))) (sym same) (record { spot = within (rw is refl) (λ zero. not_led_blanks front (take n (c ∷ cs)) (apart zero) (are_blanks c cs n b count)); stacks = stacks })
-  leads_next (within is apart) (steps.comment l h count same) = subst (λ (x : State). Leads x now (drop n (c ∷ cs))) (sym same) (record { spot = within is (λ zero. comment_apart h count); stacks = stacks })
+  leads_next (within is apart) (steps.blank l b count same) = subst (λ (x : State). Leads x now (drop n (c ∷ cs))) (sym same)
+      (record { spot = within (rw is refl) (λ zero. not_led_blanks front (take n (c ∷ cs)) (apart zero) (are_blanks c cs n b count)); stacks = stacks })
+  leads_next (within is apart) (steps.comment l h count same) =
+      subst (λ (x : State). Leads x now (drop n (c ∷ cs))) (sym same) (record { spot = within is (λ zero. comment_apart h count); stacks = stacks })
   leads_next (within is apart) (steps.word u v k l b begins_so token nested_so same) =
       let stays = begun_is s u is begins_so in
       let nest = nests u v k nested_so in
@@ -147,7 +148,8 @@ module _ (s t : State) (front : List ℕ) (c : ℕ) (cs : List ℕ) (n : ℕ) (s
         spot = within (nest.line ∙ subst HasBegun (sym stays) is) (λ zero. word_apart k l b token);
         stacks = stacks_word u v k (take n (c ∷ cs)) (is_of_words c cs k n token) nested_so (subst StacksOf (sym stays) stacks);
       })
-  leads_next (leads before blanks is none parts starts are column last) (steps.line_end l count same) = empty_line blanks is none (is_line_end c cs n l count) (empty_ends s t (take n (c ∷ cs)) blanks is same)
+  leads_next (leads before blanks is none parts starts are column last) (steps.line_end l count same) =
+      empty_line blanks is none (is_line_end c cs n l count) (empty_ends s t (take n (c ∷ cs)) blanks is same)
   leads_next (leads before blanks is none parts starts are column last) (steps.blank l b count same) =
       let bl = take n (c ∷ cs) in
       let no = none_before c cs blanks last b in
@@ -159,7 +161,8 @@ module _ (s t : State) (front : List ℕ) (c : ℕ) (cs : List ℕ) (n : ℕ) (s
         stacks = stacks;
       })
   leads_next (leads before blanks is none parts starts are column last) (steps.comment l h count same) =
-      subst (λ (x : State). Leads x now (drop n (c ∷ cs))) (sym same) (record { spot = closing blanks is none (comment_ends (take n (c ∷ cs)) (drop n (c ∷ cs)) (is_comment c cs n h count)); stacks = stacks })
+      subst (λ (x : State). Leads x now (drop n (c ∷ cs))) (sym same)
+      (record { spot = closing blanks is none (comment_ends (take n (c ∷ cs)) (drop n (c ∷ cs)) (is_comment c cs n h count)); stacks = stacks })
   leads_next (leads before blanks is none parts starts are column last) (steps.word u v k l b begins_so token nested_so same) =
       let nest = nests u v k nested_so in
       subst (λ (x : State). Leads x now (drop n (c ∷ cs))) (sym same) (record {

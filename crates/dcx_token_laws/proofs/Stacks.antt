@@ -1,5 +1,6 @@
 -- Which brackets and blocks are open behind tokens, as stacks: with one token more, and along a step.
-use Rattle.std.proofs.Common.{◌≡◌, ℕ, zero, suc, ◌+◌, ◌-◌, ◌<◌, ◌≤◌, Bool, true, false, cond, List, [], ◌∷◌, ◌++◌, length, take, replicate, refl, sym, ap, ◌∙◌, subst, append_assoc, arith, length-append}
+use Rattle.std.proofs.Common.{◌≡◌, ℕ, zero, suc, ◌+◌, ◌-◌, ◌<◌, ◌≤◌, Bool, true, false, cond, List, [], ◌∷◌, ◌++◌}
+use Rattle.std.proofs.Common.{length, take, replicate, refl, sym, ap, ◌∙◌, subst, append_assoc, arith, length-append}
 use Rattle.std.specs.Prelude.{Ok, Err, nat_le}
 use Rattle.std.specs.List.{prefix_len}
 use Rattle.std.proofs.lemmas.List.{append-nil, length-take, take-append-le, take-take}
@@ -21,6 +22,7 @@ use Rattle.dcx_token_laws.specs.Faults.{IsOpener, StaysOpen, blocks_with, open_b
 use Rattle.dcx_token_laws.specs.Lines.{IsOfWords, depth_of}
 use Rattle.dcx_token_laws.proofs.Basics.{head_is, tail_is, nil_not}
 use Rattle.dcx_token_laws.proofs.Forms.{Turned, deeper, back, nests, never_ok, first_is}
+use Rattle.dcx_tokens.proofs.Nesting.{brackets_left-push}
 
 -- ---- a bracket that is open
 -- it is among the tokens, and behind it so many others are open
@@ -38,10 +40,6 @@ pub record IsOpenAt (ts : List Token) (p : Place) (inner : ℕ) : Type 0 where
 abbrev pub AreOpen : List Token → List Place → Type 0
 AreOpen ts ps = (qs : List Place) (p : Place) (rs : List Place) → ps ≡ qs ++ p ∷ rs → IsOpenAt ts p (length rs)
 
-left_push : (n : ℕ) (ts : List Token) (t : Token) → brackets_left n (ts ++ t ∷ []) ≡ brackets_behind (brackets_left n ts) t.kind
-left_push n [] t = refl
-left_push n (u ∷ ts) t = left_push (brackets_behind n u.kind) ts t
-
 stays_push : (n : ℕ) (ts : List Token) (t : Token) → StaysOpen n ts → 0 < brackets_behind (brackets_left n ts) t.kind → StaysOpen n (ts ++ t ∷ [])
 stays_push n [] t h some = (some, tt)
 stays_push n (u ∷ ts) t h some = (h.0, stays_push (brackets_behind n u.kind) ts t h.1 some)
@@ -58,7 +56,7 @@ open_push ts t p i j h count =
       opens_one = h.opens_one;
       place = h.place;
       stays = stays_push 1 h.behind t h.stays (omega (arith, now));
-      left = left_push 1 h.behind t ∙ now;
+      left = brackets_left-push 1 h.behind t ∙ now;
     }
 
 pub brackets_left-append : (n : ℕ) (xs ys : List Token) → brackets_left n (xs ++ ys) ≡ brackets_left (brackets_left n xs) ys
@@ -78,7 +76,8 @@ mark_brackets n (kind.Sign s) h = absurd h
 marks_brackets : (front : List ℕ) (n : ℕ) (ms : List Token) → AreMarks front ms → brackets_left n ms ≡ n
 marks_brackets front n [] are = refl
 marks_brackets front n (m ∷ ms) are =
-    ap (λ i. brackets_left i ms) (mark_brackets n m.kind (All-head (λ t. IsMark t.kind × Spans t front []) m ms are).0) ∙ marks_brackets front n ms (All-tail (λ t. IsMark t.kind × Spans t front []) m ms are)
+    ap (λ i. brackets_left i ms) (mark_brackets n m.kind (All-head (λ t. IsMark t.kind × Spans t front []) m ms are).0)
+    ∙ marks_brackets front n ms (All-tail (λ t. IsMark t.kind × Spans t front []) m ms are)
 
 -- marks leave the brackets as they are
 pub marks_outside : (front : List ℕ) (ts ms : List Token) → AreMarks front ms → brackets_left 0 (ts ++ ms) ≡ brackets_left 0 ts
@@ -152,11 +151,13 @@ no_stacks = record { blocks_are = refl; are_open = λ qs p rs e. absurd (some_th
 push_blocks : (ts : List Token) (blocks : List ℕ) (t : Token) → blocks ≡ open_blocks [] ts → blocks_with blocks (depth_of t) t.kind ≡ open_blocks [] (ts ++ t ∷ [])
 push_blocks ts blocks t e = ap (λ bs. blocks_with bs (depth_of t) t.kind) e ∙ sym (open_blocks-append [] ts (t ∷ []))
 
-push_count : (ts : List Token) (brackets now : List Place) (t : Token) → length brackets ≡ brackets_left 0 ts → length now ≡ brackets_behind (length brackets) t.kind → length now ≡ brackets_left 0 (ts ++ t ∷ [])
-push_count ts brackets now t e f = f ∙ ap (λ n. brackets_behind n t.kind) e ∙ sym (left_push 0 ts t)
+push_count : (ts : List Token) (brackets now : List Place) (t : Token) → length brackets ≡ brackets_left 0 ts → length now ≡ brackets_behind (length brackets) t.kind
+    → length now ≡ brackets_left 0 (ts ++ t ∷ [])
+push_count ts brackets now t e f = f ∙ ap (λ n. brackets_behind n t.kind) e ∙ sym (brackets_left-push 0 ts t)
 
 -- a token that is no bracket
-pub push_other : (ts : List Token) (blocks now : List ℕ) (brackets : List Place) (t : Token) → now ≡ blocks_with blocks (depth_of t) t.kind → ((n : ℕ) → brackets_behind n t.kind ≡ n) → Stacks ts blocks brackets → Stacks (ts ++ t ∷ []) now brackets
+pub push_other : (ts : List Token) (blocks now : List ℕ) (brackets : List Place) (t : Token) → now ≡ blocks_with blocks (depth_of t) t.kind
+    → ((n : ℕ) → brackets_behind n t.kind ≡ n) → Stacks ts blocks brackets → Stacks (ts ++ t ∷ []) now brackets
 push_other ts blocks now brackets t with_it other h = record {
   blocks_are = with_it ∙ push_blocks ts blocks t h.blocks_are;
   are_open = λ qs p rs e. open_push ts t p (length rs) (length rs) (h.are_open qs p rs e) (other (suc (length rs)));
@@ -174,7 +175,8 @@ opens_more kind.Newline h n = absurd h
 opens_more kind.Indent h n = absurd h
 opens_more kind.Dedent h n = absurd h
 
-pub push_open : (ts : List Token) (blocks : List ℕ) (brackets : List Place) (t : Token) → blocks ≡ blocks_with blocks (depth_of t) t.kind → IsOpener t.kind → Stacks ts blocks brackets → Stacks (ts ++ t ∷ []) blocks (brackets ++ t.place ∷ [])
+pub push_open : (ts : List Token) (blocks : List ℕ) (brackets : List Place) (t : Token) → blocks ≡ blocks_with blocks (depth_of t) t.kind → IsOpener t.kind
+    → Stacks ts blocks brackets → Stacks (ts ++ t ∷ []) blocks (brackets ++ t.place ∷ [])
 push_open ts blocks brackets t same opener h = record {
   blocks_are = same ∙ push_blocks ts blocks t h.blocks_are;
   are_open = λ qs p rs e. by qs p rs (last_of brackets qs t.place p rs e);
@@ -182,7 +184,8 @@ push_open ts blocks brackets t same opener h = record {
 }
   where
     by : (qs : List Place) (p : Place) (rs : List Place) → LastOf brackets qs t.place p rs → IsOpenAt (ts ++ t ∷ []) p (length rs)
-    by qs p rs (is_last a b c) = let none = ap (λ zs. length zs) c in record { before = ts; opener = t; behind = []; among = refl; opens_one = opener; place = sym b; stays = tt; left = ap (λ n. suc n) (sym none) }
+    by qs p rs (is_last a b c) = let none = ap (λ zs. length zs) c in
+        record { before = ts; opener = t; behind = []; among = refl; opens_one = opener; place = sym b; stays = tt; left = ap (λ n. suc n) (sym none) }
     by qs p rs (is_inner ms a b) =
         let count = ap (λ zs. length zs) b ∙ length-append ms (t.place ∷ []) in
         let more = opens_more t.kind opener (suc (length ms)) in
@@ -203,11 +206,13 @@ closes_one kind.Newline h n = absurd h
 closes_one kind.Indent h n = absurd h
 closes_one kind.Dedent h n = absurd h
 
-pub push_close : (ts : List Token) (blocks : List ℕ) (brackets : List Place) (t : Token) → blocks ≡ blocks_with blocks (depth_of t) t.kind → IsCloser t.kind → Stacks ts blocks brackets → Stacks (ts ++ t ∷ []) blocks (take (length brackets - 1) brackets)
+pub push_close : (ts : List Token) (blocks : List ℕ) (brackets : List Place) (t : Token) → blocks ≡ blocks_with blocks (depth_of t) t.kind → IsCloser t.kind
+    → Stacks ts blocks brackets → Stacks (ts ++ t ∷ []) blocks (take (length brackets - 1) brackets)
 push_close ts blocks brackets t same closer h = record {
   blocks_are = same ∙ push_blocks ts blocks t h.blocks_are;
   are_open = λ qs p rs e. by brackets refl qs p rs e;
-  count = push_count ts brackets (take (length brackets - 1) brackets) t h.count (let few = length-take (length brackets - 1) brackets in let less = closes_one t.kind closer (length brackets) in omega (arith, few, less));
+  count = push_count ts brackets (take (length brackets - 1) brackets) t h.count
+      (let few = length-take (length brackets - 1) brackets in let less = closes_one t.kind closer (length brackets) in omega (arith, few, less));
 }
   where
     by : (ps : List Place) → ps ≡ brackets → (qs : List Place) (p : Place) (rs : List Place) → take (length brackets - 1) brackets ≡ qs ++ p ∷ rs → IsOpenAt (ts ++ t ∷ []) p (length rs)
@@ -222,7 +227,8 @@ push_close ts blocks brackets t same closer h = record {
         open_push ts t p (length (rs ++ u.last ∷ [])) (length rs) (h.are_open qs p (rs ++ u.last ∷ []) stack) (omega (arith, count, less))
 
 -- ends of blocks
-pub push_dedents : (m : ℕ) (ts : List Token) (blocks : List ℕ) (brackets : List Place) (s : State) (p : Place) → Stacks ts blocks brackets → Stacks (ts ++ replicate m (dedent_at s p)) (take (length blocks - m) blocks) brackets
+pub push_dedents : (m : ℕ) (ts : List Token) (blocks : List ℕ) (brackets : List Place) (s : State) (p : Place) → Stacks ts blocks brackets
+    → Stacks (ts ++ replicate m (dedent_at s p)) (take (length blocks - m) blocks) brackets
 push_dedents zero ts blocks brackets s p h =
     subst (λ us. Stacks us (take (length blocks - 0) blocks) brackets) (sym (append-nil ts)) (subst (λ bs. Stacks ts bs brackets) (sym (ap (λ n. take n blocks) (omega arith) ∙ take-length blocks)) h)
 push_dedents (suc m) ts blocks brackets s p h =
@@ -230,7 +236,8 @@ push_dedents (suc m) ts blocks brackets s p h =
     let count = length-take (length blocks - 1) blocks in
     let one : Stacks (ts ++ dedent_at s p ∷ []) fewer brackets = push_other ts blocks fewer brackets (dedent_at s p) refl (λ n. refl) h in
     let more = push_dedents m (ts ++ dedent_at s p ∷ []) fewer brackets s p one in
-    let same : take (length fewer - m) fewer ≡ take (length blocks - suc m) blocks = ap (λ n. take n fewer) (omega (arith, count)) ∙ take-take (length blocks - suc m) (length blocks - 1) blocks (omega arith) in
+    let same : take (length fewer - m) fewer ≡ take (length blocks - suc m) blocks =
+    ap (λ n. take n fewer) (omega (arith, count)) ∙ take-take (length blocks - suc m) (length blocks - 1) blocks (omega arith) in
     subst (λ us. Stacks us (take (length blocks - suc m) blocks) brackets) (append_assoc ts (dedent_at s p ∷ []) (replicate m (dedent_at s p)))
     (subst (λ bs. Stacks ((ts ++ dedent_at s p ∷ []) ++ replicate m (dedent_at s p)) bs brackets) same more)
 
@@ -255,7 +262,8 @@ stacks_turned s u spaces column (deeper d same) h =
     subst StacksOf (sym same) (push_other s.tokens s.indents (s.indents ++ spaces ∷ []) s.brackets token (ap (λ n. s.indents ++ n ∷ []) (sym depth)) (λ n. refl) h)
 stacks_turned s u spaces column (back st same) h =
     let m = length s.indents - length (kept s.indents spaces) in
-    subst StacksOf (sym same) (subst (λ bs. Stacks (s.tokens ++ replicate m (dedent_at s s.at.place)) bs s.brackets) (kept_left s.indents spaces) (push_dedents m s.tokens s.indents s.brackets s s.at.place h))
+    subst StacksOf (sym same) (subst (λ bs. Stacks (s.tokens ++ replicate m (dedent_at s s.at.place)) bs s.brackets) (kept_left s.indents spaces)
+    (push_dedents m s.tokens s.indents s.brackets s s.at.place h))
 
 -- what a token makes of the brackets
 pub data Nesting (u v : State) (k : TokenKind) : Type 0 where
@@ -267,7 +275,8 @@ nesting : (u v : State) (k : TokenKind) → nested u k ≡ (v, Ok tt) → Nestin
 nesting u v (kind.Sign symbol) e = by (opens symbol) (is_full u) (closes symbol) refl refl e
   where
     by : (o f c : Bool) → opens symbol ≡ o → closes symbol ≡ c →
-        cond {A = Answer (Unit {0})} o (cond {A = Answer (Unit {0})} f (u, Err (fault.TooDeep u.at.place)) (record u { brackets = u.brackets ++ u.at.place ∷ [] }, Ok tt)) (cond {A = Answer (Unit {0})} c (record u { brackets = take (length u.brackets - 1) u.brackets }, Ok tt) (u, Ok tt)) ≡ (v, Ok tt) →
+        cond {A = Answer (Unit {0})} o (cond {A = Answer (Unit {0})} f (u, Err (fault.TooDeep u.at.place)) (record u { brackets = u.brackets ++ u.at.place ∷ [] }, Ok tt))
+        (cond {A = Answer (Unit {0})} c (record u { brackets = take (length u.brackets - 1) u.brackets }, Ok tt) (u, Ok tt)) ≡ (v, Ok tt) →
         Nesting u v (kind.Sign symbol)
     by true true c eo ec e = absurd (never_ok u v (fault.TooDeep u.at.place) tt e)
     by true false c eo ec e = opened eo (ap (λ (w : State). w.brackets) (first_is (record u { brackets = u.brackets ++ u.at.place ∷ [] }) v e))
@@ -306,9 +315,12 @@ stacks_word u v k cs word e h =
     by : Nesting u v k → Stacks (u.tokens ++ token_of v k cs ∷ []) u.indents v.brackets
     by (opened opener is) =
         let at : (token_of v k cs).place ≡ u.at.place = place_same u v (nests u v k e).at in
-        subst (λ ps. Stacks (u.tokens ++ token_of v k cs ∷ []) u.indents ps) (ap (λ p. u.brackets ++ p ∷ []) at ∙ sym is) (push_open u.tokens u.indents u.brackets (token_of v k cs) (same_blocks u.indents (depth_of (token_of v k cs)) k word) opener h)
-    by (closed closer is) = subst (λ ps. Stacks (u.tokens ++ token_of v k cs ∷ []) u.indents ps) (sym is) (push_close u.tokens u.indents u.brackets (token_of v k cs) (same_blocks u.indents (depth_of (token_of v k cs)) k word) closer h)
-    by (other none is) = subst (λ ps. Stacks (u.tokens ++ token_of v k cs ∷ []) u.indents ps) (sym is) (push_other u.tokens u.indents u.indents u.brackets (token_of v k cs) (same_blocks u.indents (depth_of (token_of v k cs)) k word) none h)
+        subst (λ ps. Stacks (u.tokens ++ token_of v k cs ∷ []) u.indents ps) (ap (λ p. u.brackets ++ p ∷ []) at ∙ sym is)
+        (push_open u.tokens u.indents u.brackets (token_of v k cs) (same_blocks u.indents (depth_of (token_of v k cs)) k word) opener h)
+    by (closed closer is) = subst (λ ps. Stacks (u.tokens ++ token_of v k cs ∷ []) u.indents ps) (sym is)
+        (push_close u.tokens u.indents u.brackets (token_of v k cs) (same_blocks u.indents (depth_of (token_of v k cs)) k word) closer h)
+    by (other none is) = subst (λ ps. Stacks (u.tokens ++ token_of v k cs ∷ []) u.indents ps) (sym is)
+        (push_other u.tokens u.indents u.indents u.brackets (token_of v k cs) (same_blocks u.indents (depth_of (token_of v k cs)) k word) none h)
 
 pub stacks_end : (s : State) (end : List ℕ) → StacksOf s → Stacks (s.tokens ++ token_of s kind.Newline end ∷ []) s.indents s.brackets
 stacks_end s end h = push_other s.tokens s.indents s.indents s.brackets (token_of s kind.Newline end) refl (λ n. refl) h

@@ -175,7 +175,8 @@ no_tab s u blanks is e = by (tab_among blanks) refl (sym same ∙ e)
     by false eb f = eb
 
 module _ (text : List ℕ) (s : State) (front : List ℕ) (c : ℕ) (cs : List ℕ) (walks : Walks text s front (c ∷ cs)) where
-  token_holds : (u v : State) (k : TokenKind) (n : ℕ) (marks : List Token) → is_blank c ≡ false → (ends_line c cs ≡ false) → line_begun_at s s.line ≡ (u, Ok tt) → IsToken c cs k n → v.at ≡ s.at → brackets_left 0 (s.tokens ++ marks) ≡ length s.brackets →
+  token_holds : (u v : State) (k : TokenKind) (n : ℕ) (marks : List Token) → is_blank c ≡ false → (ends_line c cs ≡ false) → line_begun_at s s.line ≡ (u, Ok tt)
+      → IsToken c cs k n → v.at ≡ s.at → brackets_left 0 (s.tokens ++ marks) ≡ length s.brackets →
       HoldsAt text (s.tokens ++ marks) (token_of v k (take n (c ∷ cs)))
   token_holds u v k n marks blank l first token at outside = record {
     number = λ other word behind x parts spans is.
@@ -235,7 +236,8 @@ module _ (text : List ℕ) where
   finished_holds s formed all = by (slice_get s.brackets (length s.brackets - 1))
     where
       ended : (w : State) → AllHold text w.tokens → AllHold text (all_ended w).tokens
-      ended w h = hold_bare text w.tokens (replicate (length w.indents) (dedent_at w (line_behind w.at.place))) h (All-replicate (λ t. IsBare t.kind) (length w.indents) (dedent_at w (line_behind w.at.place)) tt)
+      ended w h = hold_bare text w.tokens (replicate (length w.indents) (dedent_at w (line_behind w.at.place))) h
+          (All-replicate (λ t. IsBare t.kind) (length w.indents) (dedent_at w (line_behind w.at.place)) tt)
 
       supplied : IsFormed s → AllHold text (line_supplied s s.line).tokens
       supplied (inl is) =

@@ -16,6 +16,7 @@ use Rattle.dcx_tokens.specs.Quoted.{up_to_quote}
 use Rattle.dcx_tokens.specs.Position.{moved_over}
 use Rattle.dcx_tokens.specs.State.{State, Answer, and_then, moved, put, line_begun_at, nested, token_read, line_ended, blanks_read, comment_read, line_end_read, front_read, step, led}
 use Rattle.dcx_tokens.proofs.Kept.{token_next, line_next}
+use Rattle.dcx_tokens.proofs.OneReading.{count_of}
 
 -- ---- what stands in front
 pub line_end_front : (s : State) (c : ℕ) (cs : List ℕ) → ends_line c cs ≡ true → step s c cs ≡ line_end_read s c cs
@@ -34,31 +35,38 @@ pub name_front : (s : State) (c : ℕ) (cs : List ℕ) → ends_line c cs ≡ fa
 unfolding step front_at
 name_front s c cs l b h n = rw (l, b, h, n) refl
 
-pub number_front : (s : State) (c : ℕ) (cs : List ℕ) → ends_line c cs ≡ false → is_blank c ≡ false → eqb c 35 ≡ false → begins_name c ≡ false → begins_number c cs ≡ true → step s c cs ≡ token_read s (front_at c cs) c cs
+pub number_front : (s : State) (c : ℕ) (cs : List ℕ) → ends_line c cs ≡ false → is_blank c ≡ false → eqb c 35 ≡ false → begins_name c ≡ false → begins_number c cs ≡ true
+    → step s c cs ≡ token_read s (front_at c cs) c cs
 unfolding step front_at
 number_front s c cs l b h n d = rw (l, b, h, n, d) refl
 
-pub text_front : (s : State) (c : ℕ) (cs : List ℕ) → ends_line c cs ≡ false → is_blank c ≡ false → eqb c 35 ≡ false → begins_name c ≡ false → begins_number c cs ≡ false → is_quote c ≡ true → step s c cs ≡ token_read s (front_at c cs) c cs
+pub text_front : (s : State) (c : ℕ) (cs : List ℕ) → ends_line c cs ≡ false → is_blank c ≡ false → eqb c 35 ≡ false → begins_name c ≡ false → begins_number c cs ≡ false
+    → is_quote c ≡ true → step s c cs ≡ token_read s (front_at c cs) c cs
 unfolding step front_at
 text_front s c cs l b h n d q = rw (l, b, h, n, d, q) refl
 
-pub sign_front_is : (s : State) (c : ℕ) (cs : List ℕ) (o : Option Symbol) → ends_line c cs ≡ false → is_blank c ≡ false → eqb c 35 ≡ false → begins_name c ≡ false → begins_number c cs ≡ false → is_quote c ≡ false → sign_at c cs ≡ o → step s c cs ≡ front_read s (sign_front o) c cs
+pub sign_front_is : (s : State) (c : ℕ) (cs : List ℕ) (o : Option Symbol) → ends_line c cs ≡ false → is_blank c ≡ false → eqb c 35 ≡ false → begins_name c ≡ false
+    → begins_number c cs ≡ false → is_quote c ≡ false → sign_at c cs ≡ o → step s c cs ≡ front_read s (sign_front o) c cs
 unfolding step front_at
 sign_front_is s c cs o l b h n d q e = rw (l, b, h, n, d, q, e) refl
 
-pub front_is_sign : (c : ℕ) (cs : List ℕ) (symbol : Symbol) → ends_line c cs ≡ false → is_blank c ≡ false → eqb c 35 ≡ false → begins_name c ≡ false → begins_number c cs ≡ false → is_quote c ≡ false → sign_at c cs ≡ Some symbol → front_at c cs ≡ sign_front (Some symbol)
+pub front_is_sign : (c : ℕ) (cs : List ℕ) (symbol : Symbol) → ends_line c cs ≡ false → is_blank c ≡ false → eqb c 35 ≡ false → begins_name c ≡ false
+    → begins_number c cs ≡ false → is_quote c ≡ false → sign_at c cs ≡ Some symbol → front_at c cs ≡ sign_front (Some symbol)
 unfolding front_at
 front_is_sign c cs symbol l b h n d q e = rw (l, b, h, n, d, q, e) refl
 
-pub name_token : (place : Place) (c : ℕ) (cs : List ℕ) → ends_line c cs ≡ false → is_blank c ≡ false → eqb c 35 ≡ false → begins_name c ≡ true → token_at place (front_at c cs) c cs ≡ Ok (word_token_of (c ∷ cs) cs)
+pub name_token : (place : Place) (c : ℕ) (cs : List ℕ) → ends_line c cs ≡ false → is_blank c ≡ false → eqb c 35 ≡ false → begins_name c ≡ true
+    → token_at place (front_at c cs) c cs ≡ Ok (word_token_of (c ∷ cs) cs)
 unfolding front_at token_at
 name_token place c cs l b h n = rw (l, b, h, n) refl
 
-pub number_token : (place : Place) (c : ℕ) (cs : List ℕ) → ends_line c cs ≡ false → is_blank c ≡ false → eqb c 35 ≡ false → begins_name c ≡ false → begins_number c cs ≡ true → token_at place (front_at c cs) c cs ≡ number_token_of place (c ∷ cs)
+pub number_token : (place : Place) (c : ℕ) (cs : List ℕ) → ends_line c cs ≡ false → is_blank c ≡ false → eqb c 35 ≡ false → begins_name c ≡ false → begins_number c cs ≡ true
+    → token_at place (front_at c cs) c cs ≡ number_token_of place (c ∷ cs)
 unfolding front_at token_at
 number_token place c cs l b h n d = rw (l, b, h, n, d) refl
 
-pub text_token : (place : Place) (c : ℕ) (cs : List ℕ) → ends_line c cs ≡ false → is_blank c ≡ false → eqb c 35 ≡ false → begins_name c ≡ false → begins_number c cs ≡ false → is_quote c ≡ true → token_at place (front_at c cs) c cs ≡ text_token_of place c cs
+pub text_token : (place : Place) (c : ℕ) (cs : List ℕ) → ends_line c cs ≡ false → is_blank c ≡ false → eqb c 35 ≡ false → begins_name c ≡ false → begins_number c cs ≡ false
+    → is_quote c ≡ true → token_at place (front_at c cs) c cs ≡ text_token_of place c cs
 unfolding front_at token_at
 text_token place c cs l b h n d q = rw (l, b, h, n, d, q) refl
 
@@ -80,11 +88,6 @@ never_ok f a e = cc
 pub both : {A B : Type 0} (answer : Answer A) (next : State → A → Answer B) (t : State) (b : B) → and_then answer next ≡ (t, Ok b) → Both answer next t b
 both (u, Ok a) next t b e = record { state = u; value = a; first = refl; then = e }
 both {B = B} (u, Err f) next t b e = absurd (never_ok f b (ap (λ (p : Answer B). p.1) e))
-
--- how many characters an answer tells
-abbrev count_of : Result ℕ ReadFault → ℕ
-count_of (Ok n) = n
-count_of (Err f) = 0
 
 state_is : (s t : State) (n m : ℕ) → ◌≡◌ {A = Answer ℕ} (s, Ok m) (t, Ok n) → t ≡ s
 state_is s t n m e = sym (ap (λ (p : Answer ℕ). p.0) e)
@@ -108,7 +111,8 @@ pub data Step (s t : State) (c : ℕ) (cs : List ℕ) (n : ℕ) : Type 0 where
   line_end : ends_line c cs ≡ true → n ≡ line_end_len c → t ≡ line_ended s s.line (take n (c ∷ cs)) → Step s t c cs n
   blank : ends_line c cs ≡ false → is_blank c ≡ true → n ≡ 1 + run_of is_blank cs → t ≡ record s { line = led s.line (take n (c ∷ cs)); at = moved_over s.at (take n (c ∷ cs)) } → Step s t c cs n
   comment : ends_line c cs ≡ false → eqb c 35 ≡ true → n ≡ 1 + up_to_line_end cs → t ≡ moved s (take n (c ∷ cs)) → Step s t c cs n
-  word : (u v : State) (k : TokenKind) → ends_line c cs ≡ false → is_blank c ≡ false → line_begun_at s s.line ≡ (u, Ok tt) → IsToken c cs k n → nested u k ≡ (v, Ok tt) → t ≡ put v k (take n (c ∷ cs)) → Step s t c cs n
+  word : (u v : State) (k : TokenKind) → ends_line c cs ≡ false → is_blank c ≡ false → line_begun_at s s.line ≡ (u, Ok tt) → IsToken c cs k n → nested u k ≡ (v, Ok tt)
+      → t ≡ put v k (take n (c ∷ cs)) → Step s t c cs n
 
 module _ (s t : State) (c : ℕ) (cs : List ℕ) (n : ℕ) where
   step_line_end : ends_line c cs ≡ true → line_end_read s c cs ≡ (t, Ok n) → Step s t c cs n
@@ -149,27 +153,33 @@ module _ (c : ℕ) (cs : List ℕ) where
   pub as_token : (a token : TokenKind × ℕ) → IsToken c cs a.0 a.1 → ◌≡◌ {A = Result (TokenKind × ℕ) ReadFault} (Ok a) (Ok token) → IsToken c cs token.0 token.1
   as_token a token is e = subst (λ (p : TokenKind × ℕ). IsToken c cs p.0 p.1) (sym (same_token a token e)) is
 
-  pub number_is : (place : Place) (token : TokenKind × ℕ) (o : Option (Frac × ℕ)) → begins_name c ≡ false → begins_number c cs ≡ true → number_at (c ∷ cs) ≡ o → number_or place o ≡ Ok token → IsToken c cs token.0 token.1
+  pub number_is : (place : Place) (token : TokenKind × ℕ) (o : Option (Frac × ℕ)) → begins_name c ≡ false → begins_number c cs ≡ true → number_at (c ∷ cs) ≡ o
+      → number_or place o ≡ Ok token → IsToken c cs token.0 token.1
   number_is place token (Some x) n d is e = as_token (kind.Number x.0, x.1) token (number x.0 n d is refl) e
   number_is place token None n d is e = absurd (never_ok (fault.BadNumber place) token e)
 
-  pub text_is : (place : Place) (token : TokenKind × ℕ) (o : Option ℕ) → begins_name c ≡ false → begins_number c cs ≡ false → is_quote c ≡ true → up_to_quote c false cs ≡ o → text_or place o ≡ Ok token → IsToken c cs token.0 token.1
+  pub text_is : (place : Place) (token : TokenKind × ℕ) (o : Option ℕ) → begins_name c ≡ false → begins_number c cs ≡ false → is_quote c ≡ true → up_to_quote c false cs ≡ o
+      → text_or place o ≡ Ok token → IsToken c cs token.0 token.1
   text_is place token (Some m) n d q is e = as_token (kind.Text, 1 + m) token (text m n d q is refl refl) e
   text_is place token None n d q is e = absurd (never_ok (fault.Unclosed place) token e)
 
 pub stepped : (s t : State) (c : ℕ) (cs : List ℕ) (n : ℕ) → step s c cs ≡ (t, Ok n) → Step s t c cs n
 stepped s t c cs m e = by (ends_line c cs) (is_blank c) (eqb c 35) (begins_name c) (begins_number c cs) (is_quote c) (sign_at c cs) refl refl refl refl refl refl refl
   where
-    by : (l b h n d q : Bool) (o : Option Symbol) → ends_line c cs ≡ l → is_blank c ≡ b → eqb c 35 ≡ h → begins_name c ≡ n → begins_number c cs ≡ d → is_quote c ≡ q → sign_at c cs ≡ o → Step s t c cs m
+    by : (l b h n d q : Bool) (o : Option Symbol) → ends_line c cs ≡ l → is_blank c ≡ b → eqb c 35 ≡ h → begins_name c ≡ n → begins_number c cs ≡ d
+        → is_quote c ≡ q → sign_at c cs ≡ o → Step s t c cs m
     by true b h n d q o el eb eh en ed eq eo = step_line_end s t c cs m el (sym (line_end_front s c cs el) ∙ e)
     by false true h n d q o el eb eh en ed eq eo = step_blank s t c cs m el eb (sym (blank_front s c cs el eb) ∙ e)
     by false false true n d q o el eb eh en ed eq eo = step_comment s t c cs m el eh (sym (comment_front s c cs el eb eh) ∙ e)
     by false false false true d q o el eb eh en ed eq eo =
-        step_token s t c cs m el eb (λ place token f. as_token c cs (word_token_of (c ∷ cs) cs) token (name en refl refl) (sym (name_token place c cs el eb eh en) ∙ f)) (sym (name_front s c cs el eb eh en) ∙ e)
+        step_token s t c cs m el eb (λ place token f. as_token c cs (word_token_of (c ∷ cs) cs) token (name en refl refl) (sym (name_token place c cs el eb eh en) ∙ f))
+        (sym (name_front s c cs el eb eh en) ∙ e)
     by false false false false true q o el eb eh en ed eq eo =
-        step_token s t c cs m el eb (λ place token f. number_is c cs place token (number_at (c ∷ cs)) en ed refl (sym (number_token place c cs el eb eh en ed) ∙ f)) (sym (number_front s c cs el eb eh en ed) ∙ e)
+        step_token s t c cs m el eb (λ place token f. number_is c cs place token (number_at (c ∷ cs)) en ed refl (sym (number_token place c cs el eb eh en ed) ∙ f))
+        (sym (number_front s c cs el eb eh en ed) ∙ e)
     by false false false false false true o el eb eh en ed eq eo =
-        step_token s t c cs m el eb (λ place token f. text_is c cs place token (up_to_quote c false cs) en ed eq refl (sym (text_token place c cs el eb eh en ed eq) ∙ f)) (sym (text_front s c cs el eb eh en ed eq) ∙ e)
+        step_token s t c cs m el eb (λ place token f. text_is c cs place token (up_to_quote c false cs) en ed eq refl (sym (text_token place c cs el eb eh en ed eq) ∙ f))
+        (sym (text_front s c cs el eb eh en ed eq) ∙ e)
     by false false false false false false (Some symbol) el eb eh en ed eq eo =
         let front = front_is_sign c cs symbol el eb eh en ed eq eo in
         step_token s t c cs m el eb

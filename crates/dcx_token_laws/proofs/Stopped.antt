@@ -30,7 +30,8 @@ pub record Walks (text : List ℕ) (s : State) (front cs : List ℕ) : Type 0 wh
 -- it stops there in a step, or at the end of the text, where a bracket is open
 pub data StopsAt (text : List ℕ) (ts : List Token) (f : ReadFault) (front rest : List ℕ) : Type 0 where
   in_step : (s t : State) (c : ℕ) (cs : List ℕ) → rest ≡ c ∷ cs → Walks text s front (c ∷ cs) → step s c cs ≡ (t, Err f) → t.tokens ≡ ts → StopsAt text ts f front rest
-  at_end : (s : State) (opener : Place) → rest ≡ [] → Walks text s front [] → slice_get s.brackets (length s.brackets - 1) ≡ Some opener → f ≡ fault.Unclosed opener → s.tokens ≡ ts → StopsAt text ts f front rest
+  at_end : (s : State) (opener : Place) → rest ≡ [] → Walks text s front [] → slice_get s.brackets (length s.brackets - 1) ≡ Some opener → f ≡ fault.Unclosed opener
+      → s.tokens ≡ ts → StopsAt text ts f front rest
 
 pub record Stopped (text : List ℕ) (s : State) (front cs : List ℕ) (ts : List Token) (f : ReadFault) : Type 0 where
   pub passed : List ℕ
@@ -57,7 +58,8 @@ end_stops s f = by (slice_get s.brackets (length s.brackets - 1)) refl
     by None e g = absurd (none_is f g)
 
 -- behind a step
-pub walks_next : (text : List ℕ) (s t : State) (front : List ℕ) (c : ℕ) (cs : List ℕ) (n : ℕ) → Walks text s front (c ∷ cs) → step s c cs ≡ (t, Ok n) → Walks text t (front ++ take n (c ∷ cs)) (drop n (c ∷ cs))
+pub walks_next : (text : List ℕ) (s t : State) (front : List ℕ) (c : ℕ) (cs : List ℕ) (n : ℕ) → Walks text s front (c ∷ cs) → step s c cs ≡ (t, Ok n)
+    → Walks text t (front ++ take n (c ∷ cs)) (drop n (c ∷ cs))
 walks_next text s t front c cs n walks e =
     let next = leads_next s t front c cs n walks.stacks walks.spot (stepped s t c cs n e) in
     record {
@@ -71,7 +73,8 @@ walks_next text s t front c cs n walks e =
 pub walks_first : (text : List ℕ) → Walks text start [] (chars text)
 walks_first text = record { parts = refl; behind = refl; spot = leads [] [] refl refl refl (inl refl) (All-nil (λ d. IsTrue (is_blank d))) refl tt; stacks = no_stacks }
 
-pub reads_stopped : {s : State} {cs : List ℕ} {ts : List Token} {g : Option ReadFault} (text : List ℕ) (f : ReadFault) (front : List ℕ) → g ≡ Some f → Walks text s front cs → Reads s cs ts g → Stopped text s front cs ts f
+pub reads_stopped : {s : State} {cs : List ℕ} {ts : List Token} {g : Option ReadFault} (text : List ℕ) (f : ReadFault) (front : List ℕ) → g ≡ Some f → Walks text s front cs
+    → Reads s cs ts g → Stopped text s front cs ts f
 reads_stopped {s = s} {ts = ts} text f front some walks (ends {t = t} e are is) =
     let end = subst (EndIf s f) e (end_stops s f) (is ∙ some) in
     record {
@@ -91,7 +94,13 @@ reads_stopped {s = s} {cs = c ∷ cs} {ts = ts} text f front some walks (stops {
     }
 reads_stopped {s = s} {cs = c ∷ cs} {ts = ts} text f front some walks (goes_on {t = t} {n = n} e more) =
     let rest = reads_stopped text f (front ++ take n (c ∷ cs)) some (walks_next text s t front c cs n walks e) more in
-    record { passed = rest.passed; rest = rest.rest; stop = rest.stop; cut = step_cut s t front c cs n rest.rest ts walks.behind (spot_formed s front (c ∷ cs) walks.spot) (stepped s t c cs n e) rest.cut }
+    record {
+      passed = rest.passed;
+      rest = rest.rest;
+      stop = rest.stop;
+      cut = step_cut s t front c cs n rest.rest ts walks.behind
+          (spot_formed s front (c ∷ cs) walks.spot) (stepped s t c cs n e) rest.cut;
+    }
 
 pub record StopsIn (text : List ℕ) (ts : List Token) (f : ReadFault) : Type 0 where
   pub front : List ℕ

@@ -35,14 +35,17 @@ pub record Second {A B : Type 0} (answer : Answer A) (next : State → A → Ans
   pub first : answer ≡ (state, Ok value)
   pub then : next state value ≡ (t, Err f)
 
-pub one_stops : {A B : Type 0} (answer : Answer A) (next : State → A → Answer B) (t : State) (f : ReadFault) → and_then answer next ≡ (t, Err f) → ((g : ReadFault) × (answer ≡ (t, Err g))) ⊎ Second answer next t f
+pub one_stops : {A B : Type 0} (answer : Answer A) (next : State → A → Answer B) (t : State) (f : ReadFault) → and_then answer next ≡ (t, Err f)
+    → ((g : ReadFault) × (answer ≡ (t, Err g))) ⊎ Second answer next t f
 one_stops (u, Ok a) next t f e = inr (record { state = u; value = a; first = refl; then = e })
 one_stops {A = A} {B = B} (u, Err g) next t f e = inl (g, ap (λ (w : State). stop_at {A = A} w g) (ap (λ (p : Answer B). p.0) e))
 
 begin_line_left : (s : State) (spaces : ℕ) (has_tab : Bool) (t : State) (f : ReadFault) → begin_line s spaces has_tab ≡ (t, Err f) → t ≡ s
 begin_line_left s spaces has_tab t g = by has_tab (is_deeper s.indents spaces) (is_full s) (is_standing s.indents spaces)
   where
-    by : (b d f st : Bool) → cond {A = Answer (Unit {0})} b (s, Err (fault.Indent s.at.place)) (cond {A = Answer (Unit {0})} d (cond {A = Answer (Unit {0})} f (s, Err (fault.TooDeep s.at.place)) (record (put s kind.Indent []) { indents = s.indents ++ spaces ∷ []; line = (dedented start 0).line }, Ok tt)) (cond {A = Answer (Unit {0})} st (dedented s spaces, Ok tt) (s, Err (fault.Indent s.at.place)))) ≡ (t, Err g) → t ≡ s
+    by : (b d f st : Bool) → cond {A = Answer (Unit {0})} b (s, Err (fault.Indent s.at.place)) (cond {A = Answer (Unit {0})} d (cond {A = Answer (Unit {0})} f
+        (s, Err (fault.TooDeep s.at.place)) (record (put s kind.Indent []) { indents = s.indents ++ spaces ∷ []; line = (dedented start 0).line }, Ok tt))
+        (cond {A = Answer (Unit {0})} st (dedented s spaces, Ok tt) (s, Err (fault.Indent s.at.place)))) ≡ (t, Err g) → t ≡ s
     by true d f st e = left_is s t (fault.Indent s.at.place) g e
     by false true true st e = left_is s t (fault.TooDeep s.at.place) g e
     by false true false st e = absurd (never_err (record (put s kind.Indent []) { indents = s.indents ++ spaces ∷ []; line = (dedented start 0).line }) t tt g e)
@@ -53,7 +56,9 @@ begin_line_left s spaces has_tab t g = by has_tab (is_deeper s.indents spaces) (
 sign_left : (u t : State) (symbol : Symbol) (g : ReadFault) → nested u (kind.Sign symbol) ≡ (t, Err g) → t ≡ u
 sign_left u t symbol g = by (opens symbol) (is_full u) (closes symbol)
   where
-    by : (o f c : Bool) → cond {A = Answer (Unit {0})} o (cond {A = Answer (Unit {0})} f (u, Err (fault.TooDeep u.at.place)) (record u { brackets = u.brackets ++ u.at.place ∷ [] }, Ok tt)) (cond {A = Answer (Unit {0})} c (record u { brackets = take (length u.brackets - 1) u.brackets }, Ok tt) (u, Ok tt)) ≡ (t, Err g) → t ≡ u
+    by : (o f c : Bool) → cond {A = Answer (Unit {0})} o (cond {A = Answer (Unit {0})} f (u, Err (fault.TooDeep u.at.place))
+        (record u { brackets = u.brackets ++ u.at.place ∷ [] }, Ok tt)) (cond {A = Answer (Unit {0})} c
+        (record u { brackets = take (length u.brackets - 1) u.brackets }, Ok tt) (u, Ok tt)) ≡ (t, Err g) → t ≡ u
     by true true c e = left_is u t (fault.TooDeep u.at.place) g e
     by true false c e = absurd (never_err (record u { brackets = u.brackets ++ u.at.place ∷ [] }) t tt g e)
     by false f true e = absurd (never_err (record u { brackets = take (length u.brackets - 1) u.brackets }) t tt g e)
@@ -89,7 +94,8 @@ module _ (s t : State) (c : ℕ) (cs : List ℕ) (f : ReadFault) (formed : IsFor
   word_stops : (u : State) → line_begun_at s s.line ≡ (u, Ok tt) → line_next (front_at c cs) c cs u tt ≡ (t, Err f) → Stops s t
   word_stops u first e = by (one_stops {A = TokenKind × ℕ} (u, token_at u.at.place (front_at c cs) c cs) (token_next c cs) t f e)
     where
-      by : ((g : ReadFault) × (◌≡◌ {A = Answer (TokenKind × ℕ)} (u, token_at u.at.place (front_at c cs) c cs) (t, Err g))) ⊎ Second {A = TokenKind × ℕ} (u, token_at u.at.place (front_at c cs) c cs) (token_next c cs) t f → Stops s t
+      by : ((g : ReadFault) × (◌≡◌ {A = Answer (TokenKind × ℕ)} (u, token_at u.at.place (front_at c cs) c cs) (t, Err g)))
+          ⊎ Second {A = TokenKind × ℕ} (u, token_at u.at.place (front_at c cs) c cs) (token_next c cs) t f → Stops s t
       by (inl (g, is)) = begun_at u first (sym (ap (λ (p : Answer (TokenKind × ℕ)). p.0) is))
       by (inr r) =
           let same : r.state ≡ u = sym (ap (λ (p : Answer (TokenKind × ℕ)). p.0) r.first) in

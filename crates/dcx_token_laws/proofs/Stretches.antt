@@ -65,7 +65,13 @@ dedents s front n h = All-replicate (λ m. IsMark m.kind × Spans m front []) n 
 
 turned_marks : (front : List ℕ) (s u : State) (spaces : ℕ) → IsBehind front s → Turned s u spaces → IsMarked front s u
 turned_marks front s u spaces h (deeper d same) =
-    subst (IsMarked front s) (sym same) (record { marks = token_of s kind.Indent [] ∷ []; tokens = refl; at = refl; are = All-cons (λ m. IsMark m.kind × Spans m front []) (token_of s kind.Indent []) [] (tt, token_spans s kind.Indent front [] h) (All-nil (λ m. IsMark m.kind × Spans m front [])) })
+    subst (IsMarked front s) (sym same) (record {
+      marks = token_of s kind.Indent [] ∷ [];
+      tokens = refl;
+      at = refl;
+      are = All-cons (λ m. IsMark m.kind × Spans m front [])
+          (token_of s kind.Indent []) [] (tt, token_spans s kind.Indent front [] h) (All-nil (λ m. IsMark m.kind × Spans m front []));
+    })
 turned_marks front s u spaces h (back st same) =
     let n = length s.indents - length (kept s.indents spaces) in
     subst (IsMarked front s) (sym same) (record { marks = replicate n (dedent_at s s.at.place); tokens = refl; at = refl; are = dedents s front n h })
@@ -120,7 +126,8 @@ step_cut s t front c cs n rest ts h formed (steps.line_end l count same) more = 
     end = is_line_end c cs n l count
 
     by : LineEnds s t (take n (c ∷ cs)) → IsCut s front (c ∷ cs) rest ts
-    by (closes_it is (over none e)) = lined s t (token_of s kind.Newline (take n (c ∷ cs))) front (c ∷ cs) n rest ts (ap (λ (w : State). w.tokens) e) refl end (token_spans s kind.Newline front (take n (c ∷ cs)) h) more
+    by (closes_it is (over none e)) = lined s t (token_of s kind.Newline (take n (c ∷ cs))) front (c ∷ cs) n rest ts (ap (λ (w : State). w.tokens) e) refl end
+        (token_spans s kind.Newline front (take n (c ∷ cs)) h) more
     by (closes_it is (inside some e)) = passed s t front (c ∷ cs) n rest ts (ap (λ (w : State). w.tokens) e) (inr (inr end)) more
     by (empty blanks is e) = passed s t front (c ∷ cs) n rest ts (ap (λ (w : State). w.tokens) e) (inr (inr end)) more
 step_cut s t front c cs n rest ts h formed (steps.blank l b count same) more = passed s t front (c ∷ cs) n rest ts (ap (λ (w : State). w.tokens) same) (inl (are_blanks c cs n b count)) more

@@ -1,16 +1,16 @@
 -- Each text has a reading: a step reads a character at least.
-use Rattle.std.proofs.Common.{◌≡◌, ℕ, zero, suc, ◌<◌, ◌≤◌, Bool, true, false, cond, eqb, List, [], ◌∷◌, length, drop, Option, Some, refl, arith}
+use Rattle.std.proofs.Common.{◌≡◌, ℕ, zero, suc, ◌<◌, ◌≤◌, List, [], ◌∷◌, length, drop, Option, Some, refl, arith}
 use Rattle.std.specs.Prelude.{Ok, Err}
 use Rattle.std.proofs.lemmas.List.{length-drop}
 use Rattle.dcx_tokens.specs.declared.fault.ReadFault.{ReadFault}
 use Rattle.dcx_tokens.specs.declared.token.Token.{Token}
 use Rattle.dcx_tokens.specs.declared.token.TokenKind.{TokenKind}
-use Rattle.dcx_tokens.specs.Front.{line_end_len}
 use Rattle.dcx_tokens.specs.Reading.{Reads, ends, stops, goes_on, fault_of}
 use Rattle.dcx_tokens.specs.State.{State, Answer, finished, step}
 use Rattle.dcx_tokens.proofs.Lengths.{number_some}
 use Rattle.dcx_token_laws.proofs.Spelled.{sign_some}
 use Rattle.dcx_token_laws.proofs.Steps.{IsToken, name, number, text, sign, Step, line_end, blank, comment, word, stepped}
+use Rattle.dcx_tokens.proofs.Kept.{line_end_some}
 
 pub token_long : (c : ℕ) (cs : List ℕ) (k : TokenKind) (n : ℕ) → IsToken c cs k n → 0 < n
 token_long c cs k n (name b count is) = omega (arith, count)
@@ -18,15 +18,8 @@ token_long c cs k n (number x b d e same) = number_some c cs (x, n) d e
 token_long c cs k n (text m b d q e count same) = omega (arith, count)
 token_long c cs k n (sign s b d q e count same) = let some = sign_some s in omega (arith, count, some)
 
-line_end_long : (c : ℕ) → 0 < line_end_len c
-line_end_long c = by (eqb c 13)
-  where
-    by : (b : Bool) → 0 < cond b 2 1
-    by true = omega arith
-    by false = omega arith
-
 step_long : (s t : State) (c : ℕ) (cs : List ℕ) (n : ℕ) → Step s t c cs n → 0 < n
-step_long s t c cs n (line_end l count same) = let some = line_end_long c in omega (arith, count, some)
+step_long s t c cs n (line_end l count same) = let some = line_end_some c in omega (arith, count, some)
 step_long s t c cs n (blank l b count same) = omega (arith, count)
 step_long s t c cs n (comment l h count same) = omega (arith, count)
 step_long s t c cs n (word u v k l b begins_so token nested_so same) = token_long c cs k n token

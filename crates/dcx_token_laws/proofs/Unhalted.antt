@@ -1,5 +1,6 @@
 -- A text that is cut into tokens of lines as it must be has no fault.
-use Rattle.std.proofs.Common.{◌≡◌, inr, ℕ, zero, suc, ◌+◌, ◌-◌, ◌≤◌, Bool, true, false, eqb, ◌&&◌, List, [], ◌∷◌, ◌++◌, length, take, drop, replicate, Option, Some, None, refl, sym, ap, ◌∙◌, subst, append_assoc, length-append, arith}
+use Rattle.std.proofs.Common.{◌≡◌, inr, ℕ, zero, suc, ◌+◌, ◌-◌, ◌≤◌, Bool, true, false, eqb, ◌&&◌, List, [], ◌∷◌, ◌++◌, length, take}
+use Rattle.std.proofs.Common.{drop, replicate, Option, Some, None, refl, sym, ap, ◌∙◌, subst, append_assoc, length-append, arith}
 use Rattle.std.specs.Prelude.{slice_get}
 use Rattle.std.specs.Char.{is_ascii_digit}
 use Rattle.std.specs.List.{All}
@@ -104,7 +105,8 @@ ahead front c cs left begun cut = by (head cut c cs refl refl)
   where
     by : Head front c cs left → IsAhead front c cs left
     by (passes ys behind e how more) = absurd (no_between_by c cs ys behind begun e how)
-    by (has_word marks t ts ys behind is e are word longest spans more) = record { marks = marks; token = t; after = ts; ys = ys; behind = behind; are = is; parts = e; are_marks = are; word = word; longest = longest; spans = spans }
+    by (has_word marks t ts ys behind is e are word longest spans more) =
+        record { marks = marks; token = t; after = ts; ys = ys; behind = behind; are = is; parts = e; are_marks = are; word = word; longest = longest; spans = spans }
     by (has_end t ts ys behind is e newline end spans more) = absurd (no_between_by c cs ys behind begun e (inr (inr end)))
 
 -- ---- what it isn't
@@ -130,7 +132,8 @@ no_sign_there c [] (d ∷ ds) s begins h longest = by (is_ascii_digit c) refl
     by false e = no_point_sign c d ds e begins longest
 no_sign_there c (d ∷ ys) behind s begins h longest = sign_not_number s c (d ∷ ys) h begins
 
-no_number_there : (c : ℕ) (ys behind : List ℕ) (k : TokenKind) → begins_name c ≡ false → begins_number c (ys ++ behind) ≡ true → number_at (c ∷ (ys ++ behind)) ≡ None → IsLongest (c ∷ ys) behind → ((x : Frac) → k ≡ kind.Number x → is_spoiled behind ≡ false) → IsWord k (c ∷ ys) → ⊥
+no_number_there : (c : ℕ) (ys behind : List ℕ) (k : TokenKind) → begins_name c ≡ false → begins_number c (ys ++ behind) ≡ true → number_at (c ∷ (ys ++ behind)) ≡ None
+    → IsLongest (c ∷ ys) behind → ((x : Frac) → k ≡ kind.Number x → is_spoiled behind ≡ false) → IsWord k (c ∷ ys) → ⊥
 no_number_there c ys behind kind.Name en ed none longest fine h = never_both (begins_name c) h.0.0 en
 no_number_there c ys behind (kind.Keyword w) en ed none longest fine h = never_both (begins_name c) h.0.0 en
 no_number_there c ys behind (kind.Number x) en ed none longest fine h = none_is (x, length (c ∷ ys)) (sym none ∙ number_longer (c ∷ ys) behind x h.1 (fine x refl))
@@ -140,7 +143,8 @@ no_number_there c ys behind kind.Newline en ed none longest fine h = h
 no_number_there c ys behind kind.Indent en ed none longest fine h = h
 no_number_there c ys behind kind.Dedent en ed none longest fine h = h
 
-no_text_there : (c : ℕ) (ys behind : List ℕ) (k : TokenKind) → begins_name c ≡ false → begins_number c (ys ++ behind) ≡ false → is_quote c ≡ true → up_to_quote c false (ys ++ behind) ≡ None → IsWord k (c ∷ ys) → ⊥
+no_text_there : (c : ℕ) (ys behind : List ℕ) (k : TokenKind) → begins_name c ≡ false → begins_number c (ys ++ behind) ≡ false → is_quote c ≡ true
+    → up_to_quote c false (ys ++ behind) ≡ None → IsWord k (c ∷ ys) → ⊥
 no_text_there c ys behind kind.Name en ed eq none h = never_both (begins_name c) h.0.0 en
 no_text_there c ys behind (kind.Keyword w) en ed eq none h = never_both (begins_name c) h.0.0 en
 no_text_there c ys behind (kind.Number x) en ed eq none h = never_both (begins_number c (ys ++ behind)) (begins_more c ys behind h.0) ed
@@ -190,7 +194,8 @@ module _ (text : List ℕ) (us : List Token) (fine : IsFine text us) where
     few ms more e = shallow_behind 0 0 (s.tokens ++ ms) more (subst (StaysShallow 0 0) (sym all ∙ ap (λ ts. s.tokens ++ ts) e ∙ sym (append_assoc s.tokens ms more)) fine.shallow)
 
     -- the first token of a line
-    line_fine : (before blanks : List ℕ) (f : ReadFault) → IsBegun c cs → IsAhead front c cs left → IsRising 0 s.indents → length s.brackets ≡ 0 → front ≡ before ++ blanks → StartsLine before → AreBlanks blanks → s.at.place.column ≡ 1 + length blanks → AreLines s.indents left → LineHalts s blanks f → ⊥
+    line_fine : (before blanks : List ℕ) (f : ReadFault) → IsBegun c cs → IsAhead front c cs left → IsRising 0 s.indents → length s.brackets ≡ 0 → front ≡ before ++ blanks
+        → StartsLine before → AreBlanks blanks → s.at.place.column ≡ 1 + length blanks → AreLines s.indents left → LineHalts s blanks f → ⊥
     line_fine before blanks f begun a rising none parts starts are column lines how = by how
       where
         word : IsOfWords a.token.kind
@@ -209,7 +214,8 @@ module _ (text : List ℕ) (us : List Token) (fine : IsFine text us) where
 
         by : LineHalts s blanks f → ⊥
         by (halts.tab e is) =
-            never_both (tab_among blanks) e (fine.spaces (s.tokens ++ a.marks) a.token front a.behind blanks (there begun a) word (record { before = before; parts = parts; starts = starts; are = are; outside = marks_outside a.marks a.are_marks ∙ none }))
+            never_both (tab_among blanks) e (fine.spaces (s.tokens ++ a.marks) a.token front a.behind blanks (there begun a) word
+            (record { before = before; parts = parts; starts = starts; are = are; outside = marks_outside a.marks a.are_marks ∙ none }))
         by (halts.full e d room is) =
             let one = (one_turn s.indents found.after (s.indents ++ length blanks ∷ []) (length blanks) (kinds a.marks) (kind.Indent ∷ []) turns_so (deeper_turns s.indents (length blanks) d)).marks in
             let brackets = marks_outside a.marks a.are_marks in
@@ -220,19 +226,23 @@ module _ (text : List ℕ) (us : List Token) (fine : IsFine text us) where
         by (halts.apart e d st is) = no_turn d st turns_so
 
     -- what a bracket finds open
-    bracket_fine : (t : State) (symbol : Symbol) (marks : List Token) (token : Token) (after : List Token) → left ≡ marks ++ token ∷ after → AreMarks front marks → token.kind ≡ kind.Sign symbol → opens symbol ≡ true → is_full t ≡ true →
+    bracket_fine : (t : State) (symbol : Symbol) (marks : List Token) (token : Token) (after : List Token) → left ≡ marks ++ token ∷ after → AreMarks front marks
+        → token.kind ≡ kind.Sign symbol → opens symbol ≡ true → is_full t ≡ true →
         length t.brackets ≡ length s.brackets → length t.indents ≡ blocks_after (length s.indents) (kinds marks) → ⊥
     bracket_fine t symbol marks token after e are is opener room brackets blocks =
         let all_marks = append_assoc s.tokens marks (token ∷ []) in
         let last : brackets_left 0 (s.tokens ++ (marks ++ token ∷ [])) ≡ length s.brackets + 1 =
-        ap (λ ts. brackets_left 0 ts) (sym all_marks) ∙ brackets_left-append 0 (s.tokens ++ marks) (token ∷ []) ∙ ap (λ k. brackets_behind (brackets_left 0 (s.tokens ++ marks)) k) is ∙ (rw opener refl) ∙ ap (λ n. n + 1) (marks_outside marks are) in
+        ap (λ ts. brackets_left 0 ts) (sym all_marks) ∙ brackets_left-append 0 (s.tokens ++ marks) (token ∷ [])
+        ∙ ap (λ k. brackets_behind (brackets_left 0 (s.tokens ++ marks)) k) is ∙ (rw opener refl) ∙ ap (λ n. n + 1) (marks_outside marks are) in
         let same : blocks_left 0 (s.tokens ++ (marks ++ token ∷ [])) ≡ length t.indents =
-        ap (λ ts. blocks_left 0 ts) (sym all_marks) ∙ blocks_left-append 0 (s.tokens ++ marks) (token ∷ []) ∙ ap (λ k. blocks_behind (blocks_left 0 (s.tokens ++ marks)) k) is ∙ marks_blocks marks ∙ sym blocks in
+        ap (λ ts. blocks_left 0 ts) (sym all_marks) ∙ blocks_left-append 0 (s.tokens ++ marks) (token ∷ [])
+        ∙ ap (λ k. blocks_behind (blocks_left 0 (s.tokens ++ marks)) k) is ∙ marks_blocks marks ∙ sym blocks in
         let most = few (marks ++ token ∷ []) after (e ∙ sym (append_assoc marks (token ∷ []) after)) in
         let least = is_64 t room in
         omega (arith, last, same, most, least, brackets)
 
-    turned_fine : (t : State) (blanks : List ℕ) (marks : List Token) (after : List ℕ) → IsRising 0 s.indents → Turned s t (length blanks) → Turns s.indents (length blanks) (kinds marks) after → (length t.brackets ≡ length s.brackets) × (length t.indents ≡ blocks_after (length s.indents) (kinds marks))
+    turned_fine : (t : State) (blanks : List ℕ) (marks : List Token) (after : List ℕ) → IsRising 0 s.indents → Turned s t (length blanks)
+        → Turns s.indents (length blanks) (kinds marks) after → (length t.brackets ≡ length s.brackets) × (length t.indents ≡ blocks_after (length s.indents) (kinds marks))
     turned_fine t blanks marks after rising (deeper d same) turns_so =
         let one = (one_turn s.indents after (s.indents ++ length blanks ∷ []) (length blanks) (kinds marks) (kind.Indent ∷ []) turns_so (deeper_turns s.indents (length blanks) d)).marks in (
           ap (λ (w : State). length w.brackets) same,
@@ -260,11 +270,13 @@ module _ (text : List ℕ) (us : List Token) (fine : IsFine text us) where
         by (spots.within is apart) here goes = not is
         by (spots.closing blanks led none end) here goes = never_both (ends_line c cs) end begun.no_end
         by (spots.leads before blanks led none parts starts_so are column last) (within row is here) goes = not is
-        by (spots.leads before blanks led none parts starts_so are column last) (leads blanks' led' none' column' last') goes = line_fine before blanks f begun a rising none parts starts_so are column goes (how blanks led)
+        by (spots.leads before blanks led none parts starts_so are column last) (leads blanks' led' none' column' last') goes =
+            line_fine before blanks f begun a rising none parts starts_so are column goes (how blanks led)
         by (spots.leads before blanks led none parts starts_so are column last) (closing blanks' led' none' end) goes = never_both (ends_line c cs) end begun.no_end
     step_fine t f stage rising cut goes (halts.bad_number begun first en ed none is) =
         let a = ahead front c cs left begun cut in
-        no_number_there c a.ys a.behind a.token.kind en (ap (λ xs. begins_number c xs) (sym a.parts) ∙ ed) (ap (λ xs. number_at (c ∷ xs)) (sym a.parts) ∙ none) a.longest (λ x k. fine.numbers (s.tokens ++ a.marks) a.token front a.behind x (there begun a) k) a.word
+        no_number_there c a.ys a.behind a.token.kind en (ap (λ xs. begins_number c xs) (sym a.parts) ∙ ed) (ap (λ xs. number_at (c ∷ xs)) (sym a.parts) ∙ none) a.longest
+        (λ x k. fine.numbers (s.tokens ++ a.marks) a.token front a.behind x (there begun a) k) a.word
     step_fine t f stage rising cut goes (halts.open_text begun first en ed eq none is) =
         let a = ahead front c cs left begun cut in
         no_text_there c a.ys a.behind a.token.kind en (ap (λ xs. begins_number c xs) (sym a.parts) ∙ ed) eq (ap (λ xs. up_to_quote c false xs) (sym a.parts) ∙ none) a.word
@@ -288,7 +300,8 @@ module _ (text : List ℕ) (us : List Token) (fine : IsFine text us) where
             of : (ms : List Token) → left ≡ ms ++ w.token ∷ w.behind → AreMarks front ms → ⊥
             of [] e are = bracket_fine t symbol [] w.token w.behind e are w.is opener room (ap (λ (x : State). length x.brackets) same) (ap (λ (x : State). length x.indents) same)
             of (m ∷ ms) e are =
-                no_mark_first s.indents row (length s.brackets) goes.end goes.behind goes.newline m (ms ++ w.token ∷ w.behind) goes.more (sym e ∙ goes.are) goes.words (All-head (λ u. IsMark u.kind × Spans u front []) m ms are).0
+                no_mark_first s.indents row (length s.brackets) goes.end goes.behind goes.newline m (ms ++ w.token ∷ w.behind) goes.more (sym e ∙ goes.are) goes.words
+                (All-head (λ u. IsMark u.kind × Spans u front []) m ms are).0
 
         at_first : (blanks : List ℕ) → IsLed blanks s → s.at.place.column ≡ 1 + length blanks → AreLines s.indents left → ⊥
         at_first blanks led column lines =
@@ -304,7 +317,8 @@ module _ (text : List ℕ) (us : List Token) (fine : IsFine text us) where
         by spot (closing blanks led none end) goes = never_both (ends_line c cs) end begun.no_end
 
   -- nor does the reading
-  reads_fine : {s : State} {cs : List ℕ} {ts : List Token} {g : Option ReadFault} (f : ReadFault) (front : List ℕ) (stage : Stage s cs) → IsRising 0 s.indents → Walks text s front cs → (left : List Token) → Cut front cs left [] → Goes s cs stage left → s.tokens ++ left ≡ us → g ≡ Some f → Reads s cs ts g → ⊥
+  reads_fine : {s : State} {cs : List ℕ} {ts : List Token} {g : Option ReadFault} (f : ReadFault) (front : List ℕ) (stage : Stage s cs) → IsRising 0 s.indents
+      → Walks text s front cs → (left : List Token) → Cut front cs left [] → Goes s cs stage left → s.tokens ++ left ≡ us → g ≡ Some f → Reads s cs ts g → ⊥
   reads_fine {s = s} f front stage rising walks left cut goes all some (ends {t = t} e are is) = by stage goes
     where
       end : EndStops s t f

@@ -91,7 +91,8 @@ DoesNotFollow blanks ts = IsTrue (tab_among blanks) ⊎ ((marks : List TokenKind
 
 abbrev pub IndentsDoNotFollow : Type 0
 IndentsDoNotFollow = (text : List ℕ) (ts : List Token) (p : Place) → IsLexed text ts (Some (fault.Indent p)) →
-    (front : List ℕ) × (c : ℕ) × (rest : List ℕ) × (blanks : List ℕ) × IsFineUpTo text ts front (c ∷ rest) × (p ≡ place_behind front) × (BeginsNothing c rest → ⊥) × IsLedBy blanks ts front × DoesNotFollow blanks ts
+    (front : List ℕ) × (c : ℕ) × (rest : List ℕ) × (blanks : List ℕ) × IsFineUpTo text ts front (c ∷ rest) × (p ≡ place_behind front) × (BeginsNothing c rest → ⊥)
+    × IsLedBy blanks ts front × DoesNotFollow blanks ts
 
 -- ---- 7: more than 64 are open
 -- a bracket opens there
@@ -105,4 +106,5 @@ BeginsBlock c rest ts front = (blanks : List ℕ) × (BeginsNothing c rest → �
 -- there are 64 already
 abbrev pub TooDeepAreAbove64 : Type 0
 TooDeepAreAbove64 = (text : List ℕ) (ts : List Token) (p : Place) → IsLexed text ts (Some (fault.TooDeep p)) →
-    (front : List ℕ) × (c : ℕ) × (rest : List ℕ) × IsFineUpTo text ts front (c ∷ rest) × (p ≡ place_behind front) × (brackets_left 0 ts + blocks_left 0 ts ≡ 64) × (OpensBracket c ⊎ BeginsBlock c rest ts front)
+    (front : List ℕ) × (c : ℕ) × (rest : List ℕ) × IsFineUpTo text ts front (c ∷ rest) × (p ≡ place_behind front) × (brackets_left 0 ts + blocks_left 0 ts ≡ 64)
+    × (OpensBracket c ⊎ BeginsBlock c rest ts front)

@@ -38,7 +38,8 @@ NumbersEnd cs ts = (before : List Token) (t : Token) (front behind : List ℕ) (
 
 -- no tab is among the blanks that lead a line with a token
 abbrev pub SpacesLead : List ℕ → List Token → Type 0
-SpacesLead cs ts = (before : List Token) (t : Token) (front behind blanks : List ℕ) → StandsThere cs ts before t front behind → IsOfWords t.kind → IsLedBy blanks before front → IsFalse (tab_among blanks)
+SpacesLead cs ts = (before : List Token) (t : Token) (front behind blanks : List ℕ) → StandsThere cs ts before t front behind → IsOfWords t.kind
+    → IsLedBy blanks before front → IsFalse (tab_among blanks)
 
 -- ---- a part of a text, and the whole
 -- up to the characters rest, which stand behind those of front, the text is cut into these tokens, with some more they are those of

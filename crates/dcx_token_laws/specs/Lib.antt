@@ -1,4 +1,4 @@
--- The words of the laws.
+-- What the laws cite: how tokens are spelled, texts cut into them, lines, and what a fault says.
 pub mod Words
 pub mod Cut
 pub mod Lines

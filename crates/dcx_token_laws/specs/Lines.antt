@@ -47,7 +47,8 @@ pub data AreLines : List ℕ → List Token → Type 0 where
   -- all closed, and its end; it goes over several rows of the text only inside brackets. Then come other lines.
   line : {blocks after : List ℕ} (marks : List Token) (first : Token) (more : List Token) (end : Token) (ts : List Token) →
       Turns blocks (depth_of first) (kinds marks) after → All (λ m. m.place ≡ first.place) marks → All (λ t. IsOfWords t.kind) (first ∷ more) →
-      brackets_left 0 (first ∷ more) ≡ 0 → IsTogether first.place.line (brackets_behind 0 first.kind) (more ++ end ∷ []) → end.kind ≡ kind.Newline → AreLines after ts → AreLines blocks (marks ++ first ∷ more ++ end ∷ ts)
+      brackets_left 0 (first ∷ more) ≡ 0 → IsTogether first.place.line (brackets_behind 0 first.kind) (more ++ end ∷ []) → end.kind ≡ kind.Newline → AreLines after ts
+      → AreLines blocks (marks ++ first ∷ more ++ end ∷ ts)
 
 -- the tokens of a text without a fault are those of lines
 abbrev pub TextsAreLines : Type 0

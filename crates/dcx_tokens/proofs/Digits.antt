@@ -10,7 +10,7 @@ use Rattle.std.proofs.lemmas.List.Sums.{take_while-cons}
 use Rattle.std.proofs.str.Laws.{order}
 use Rattle.dcx_tokens.specs.Number.{digits}
 
-digit_small : (c : ℕ) → is_ascii_digit c ≡ true → digit_value c < 10
+pub digit_small : (c : ℕ) → is_ascii_digit c ≡ true → digit_value c < 10
 digit_small c e = grind (arith, nat_tests)
 
 -- the digits in front are digits

@@ -33,7 +33,9 @@ then_read (t, Err f) next h on = h
 begin_line_read : (s : State) (spaces : ℕ) (has_tab : Bool) → IsRead (begin_line s spaces has_tab).1
 begin_line_read s spaces has_tab = by has_tab (is_deeper s.indents spaces) (is_full s) (is_standing s.indents spaces)
   where
-    by : (t d f st : Bool) → IsRead (cond {A = Answer (Unit {0})} t (s, Err (fault.Indent s.at.place)) (cond {A = Answer (Unit {0})} d (cond {A = Answer (Unit {0})} f (s, Err (fault.TooDeep s.at.place)) (record (put s kind.Indent []) { indents = s.indents ++ spaces ∷ []; line = Begun }, Ok tt)) (cond {A = Answer (Unit {0})} st (dedented s spaces, Ok tt) (s, Err (fault.Indent s.at.place))))).1
+    by : (t d f st : Bool) → IsRead (cond {A = Answer (Unit {0})} t (s, Err (fault.Indent s.at.place)) (cond {A = Answer (Unit {0})} d
+        (cond {A = Answer (Unit {0})} f (s, Err (fault.TooDeep s.at.place)) (record (put s kind.Indent []) { indents = s.indents ++ spaces ∷ []; line = Begun }, Ok tt))
+        (cond {A = Answer (Unit {0})} st (dedented s spaces, Ok tt) (s, Err (fault.Indent s.at.place))))).1
     by true d f st = tt
     by false true true st = tt
     by false true false st = tt
@@ -47,7 +49,9 @@ line_begun_read s (Lead spaces has_tab) = begin_line_read s spaces has_tab
 sign_nested_read : (s : State) (symbol : Symbol) → IsRead (nested s (kind.Sign symbol)).1
 sign_nested_read s symbol = by (opens symbol) (is_full s) (closes symbol)
   where
-    by : (o f c : Bool) → IsRead (cond {A = Answer (Unit {0})} o (cond {A = Answer (Unit {0})} f (s, Err (fault.TooDeep s.at.place)) (record s { brackets = s.brackets ++ s.at.place ∷ [] }, Ok tt)) (cond {A = Answer (Unit {0})} c (record s { brackets = take (length s.brackets - 1) s.brackets }, Ok tt) (s, Ok tt))).1
+    by : (o f c : Bool) → IsRead (cond {A = Answer (Unit {0})} o
+        (cond {A = Answer (Unit {0})} f (s, Err (fault.TooDeep s.at.place)) (record s { brackets = s.brackets ++ s.at.place ∷ [] }, Ok tt))
+        (cond {A = Answer (Unit {0})} c (record s { brackets = take (length s.brackets - 1) s.brackets }, Ok tt) (s, Ok tt))).1
     by true true c = tt
     by true false c = tt
     by false f true = tt

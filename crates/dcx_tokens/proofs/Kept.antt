@@ -22,7 +22,8 @@ use Rattle.dcx_tokens.specs.Lexeme.{token_at, kind_if, number_or, text_or}
 use Rattle.dcx_tokens.specs.Number.{number_at}
 use Rattle.dcx_tokens.specs.Position.{bytes_of, moved_over}
 use Rattle.dcx_tokens.specs.Reading.{Reads, ends, stops, goes_on, fault_of}
-use Rattle.dcx_tokens.specs.State.{State, Answer, and_then, moved, put, is_full, indented, dedented, begin_line, line_begun_at, nested, token_read, line_ended, front_read, step, line_supplied, all_ended, finished_at, finished, led}
+use Rattle.dcx_tokens.specs.State.{State, Answer, and_then, moved, put, is_full, indented, dedented, begin_line, line_begun_at, nested}
+use Rattle.dcx_tokens.specs.State.{token_read, line_ended, front_read, step, line_supplied, all_ended, finished_at, finished, led}
 use Rattle.std.proofs.lemmas.Option.{slice_get-get_or}
 use Rattle.dcx_tokens.proofs.Bytes.{bytes_split, offset_moved}
 use Rattle.dcx_tokens.proofs.Lengths.{number_some}
@@ -118,7 +119,7 @@ take_some : (n c : ℕ) (cs : List ℕ) → 0 < n → 0 < length (take n (c ∷ 
 take_some zero c cs h = absurd (omega arith)
 take_some (suc n) c cs h = omega arith
 
-line_end_some : (c : ℕ) → 0 < line_end_len c
+pub line_end_some : (c : ℕ) → 0 < line_end_len c
 line_end_some c = by (eqb c 13)
   where
     by : (b : Bool) → 0 < cond b 2 1
@@ -138,11 +139,13 @@ module _ (I : State → Type 0) (total : ℕ) (k : Kept I total) where
   begin_line_keeps : (s : State) (spaces : ℕ) (has_tab : Bool) → I s → I (begin_line s spaces has_tab).0
   begin_line_keeps s spaces has_tab i = by has_tab (is_deeper s.indents spaces) (is_standing s.indents spaces)
     where
-      deeper : (f : Bool) → is_full s ≡ f → I (cond {A = Answer (Unit {0})} f (s, Err (fault.TooDeep s.at.place)) (record (put s kind.Indent []) { indents = s.indents ++ spaces ∷ []; line = Begun }, Ok tt)).0
+      deeper : (f : Bool) → is_full s ≡ f
+          → I (cond {A = Answer (Unit {0})} f (s, Err (fault.TooDeep s.at.place)) (record (put s kind.Indent []) { indents = s.indents ++ spaces ∷ []; line = Begun }, Ok tt)).0
       deeper true e = i
       deeper false e = k.indents s spaces e i
 
-      by : (t d st : Bool) → I (cond {A = Answer (Unit {0})} t (s, Err (fault.Indent s.at.place)) (cond {A = Answer (Unit {0})} d (indented s spaces) (cond {A = Answer (Unit {0})} st (dedented s spaces, Ok tt) (s, Err (fault.Indent s.at.place))))).0
+      by : (t d st : Bool) → I (cond {A = Answer (Unit {0})} t (s, Err (fault.Indent s.at.place))
+          (cond {A = Answer (Unit {0})} d (indented s spaces) (cond {A = Answer (Unit {0})} st (dedented s spaces, Ok tt) (s, Err (fault.Indent s.at.place))))).0
       by true d st = i
       by false true st = deeper (is_full s) refl
       by false false true = k.dedents s spaces i
@@ -198,14 +201,17 @@ abbrev Moves : Position → List ℕ → Answer ℕ → Type 0
 Moves at all (t, Ok n) = t.at ≡ moved_over at (take n all)
 Moves at all (t, Err f) = t.at ≡ at
 
-then_moves : {A : Type 0} (at : Position) (all : List ℕ) (answer : Answer A) (next : State → A → Answer ℕ) → answer.0.at ≡ at → ((t : State) (a : A) → t.at ≡ at → Moves at all (next t a)) → Moves at all (and_then answer next)
+then_moves : {A : Type 0} (at : Position) (all : List ℕ) (answer : Answer A) (next : State → A → Answer ℕ) → answer.0.at ≡ at
+    → ((t : State) (a : A) → t.at ≡ at → Moves at all (next t a)) → Moves at all (and_then answer next)
 then_moves at all (t, Ok a) next e on = on t a e
 then_moves at all (t, Err f) next e on = e
 
 begin_line_stays : (s : State) (spaces : ℕ) (has_tab : Bool) → (begin_line s spaces has_tab).0.at ≡ s.at
 begin_line_stays s spaces has_tab = by has_tab (is_deeper s.indents spaces) (is_full s) (is_standing s.indents spaces)
   where
-    by : (t d f st : Bool) → (cond {A = Answer (Unit {0})} t (s, Err (fault.Indent s.at.place)) (cond {A = Answer (Unit {0})} d (cond {A = Answer (Unit {0})} f (s, Err (fault.TooDeep s.at.place)) (record (put s kind.Indent []) { indents = s.indents ++ spaces ∷ []; line = Begun }, Ok tt)) (cond {A = Answer (Unit {0})} st (dedented s spaces, Ok tt) (s, Err (fault.Indent s.at.place))))).0.at ≡ s.at
+    by : (t d f st : Bool) → (cond {A = Answer (Unit {0})} t (s, Err (fault.Indent s.at.place)) (cond {A = Answer (Unit {0})} d
+        (cond {A = Answer (Unit {0})} f (s, Err (fault.TooDeep s.at.place)) (record (put s kind.Indent []) { indents = s.indents ++ spaces ∷ []; line = Begun }, Ok tt))
+        (cond {A = Answer (Unit {0})} st (dedented s spaces, Ok tt) (s, Err (fault.Indent s.at.place))))).0.at ≡ s.at
     by true d f st = refl
     by false true true st = refl
     by false true false st = refl
@@ -219,7 +225,9 @@ line_begun_stays s (Lead spaces has_tab) = begin_line_stays s spaces has_tab
 nested_by_stays : (s : State) (symbol : Symbol) → (nested s (kind.Sign symbol)).0.at ≡ s.at
 nested_by_stays s symbol = by (opens symbol) (is_full s) (closes symbol)
   where
-    by : (o f c : Bool) → (cond {A = Answer (Unit {0})} o (cond {A = Answer (Unit {0})} f (s, Err (fault.TooDeep s.at.place)) (record s { brackets = s.brackets ++ s.at.place ∷ [] }, Ok tt)) (cond {A = Answer (Unit {0})} c (record s { brackets = take (length s.brackets - 1) s.brackets }, Ok tt) (s, Ok tt))).0.at ≡ s.at
+    by : (o f c : Bool)
+        → (cond {A = Answer (Unit {0})} o (cond {A = Answer (Unit {0})} f (s, Err (fault.TooDeep s.at.place)) (record s { brackets = s.brackets ++ s.at.place ∷ [] }, Ok tt))
+        (cond {A = Answer (Unit {0})} c (record s { brackets = take (length s.brackets - 1) s.brackets }, Ok tt) (s, Ok tt))).0.at ≡ s.at
     by true true c = refl
     by true false c = refl
     by false f true = refl
@@ -300,7 +308,8 @@ finished_closed s = by (slice_get s.brackets (length s.brackets - 1)) refl
     supplied_brackets Begun = refl
     supplied_brackets (Lead spaces has_tab) = refl
 
-    by : (o : Option Place) → slice_get s.brackets (length s.brackets - 1) ≡ o → fault_of (finished_at s o).1 ≡ None → (length (finished_at s o).0.indents ≡ 0) × (length (finished_at s o).0.brackets ≡ 0)
+    by : (o : Option Place) → slice_get s.brackets (length s.brackets - 1) ≡ o → fault_of (finished_at s o).1 ≡ None
+        → (length (finished_at s o).0.indents ≡ 0) × (length (finished_at s o).0.brackets ≡ 0)
     by (Some opener) e f = cc
     by None e f = (refl, ap length (supplied_brackets s.line) ∙ no_last s.brackets e)
 

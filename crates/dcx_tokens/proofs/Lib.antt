@@ -1,4 +1,4 @@
--- Lemmas.
+-- The lemmas on numbers, words and bytes, and by which a text has one reading, with its spans and nesting.
 pub mod Bytes
 pub mod Digits
 pub mod Faults

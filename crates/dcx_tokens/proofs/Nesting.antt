@@ -1,5 +1,6 @@
 -- Brackets and indentations along the tokens.
-use Rattle.std.proofs.Common.{◌≡◌, ℕ, zero, suc, ◌+◌, ◌-◌, ◌<◌, ◌≤◌, Bool, true, false, cond, List, [], ◌∷◌, ◌++◌, length, take, replicate, Option, None, refl, sym, ap, ◌∙◌, subst, append_assoc, arith, length-append}
+use Rattle.std.proofs.Common.{◌≡◌, ℕ, zero, suc, ◌+◌, ◌-◌, ◌<◌, ◌≤◌, Bool, true, false, cond, List, [], ◌∷◌, ◌++◌, length}
+use Rattle.std.proofs.Common.{take, replicate, Option, None, refl, sym, ap, ◌∙◌, subst, append_assoc, arith, length-append}
 use Rattle.std.specs.Prelude.{Ok, Err, nat_le}
 use Rattle.std.specs.List.{prefix_len}
 use Rattle.std.specs.Str.{IsUtf8}
@@ -25,7 +26,7 @@ pub record Nested (ts : List Token) (brackets blocks : ℕ) : Type 0 where
   pub brackets_are : brackets_left 0 ts ≡ brackets
   pub blocks_are : blocks_left 0 ts ≡ blocks
 
-brackets_left-push : (n : ℕ) (ts : List Token) (t : Token) → brackets_left n (ts ++ t ∷ []) ≡ brackets_behind (brackets_left n ts) t.kind
+pub brackets_left-push : (n : ℕ) (ts : List Token) (t : Token) → brackets_left n (ts ++ t ∷ []) ≡ brackets_behind (brackets_left n ts) t.kind
 brackets_left-push n [] t = refl
 brackets_left-push n (u ∷ ts) t = brackets_left-push (brackets_behind n u.kind) ts t
 
@@ -46,7 +47,8 @@ shallow_end b i (u ∷ ts) h = shallow_end (brackets_behind b u.kind) (blocks_be
 nested_push : (ts : List Token) (b i : ℕ) (t : Token) → Nested ts b i → EndsOne i t.kind → brackets_behind b t.kind + blocks_behind i t.kind ≤ 64 →
     Nested (ts ++ t ∷ []) (brackets_behind b t.kind) (blocks_behind i t.kind)
 nested_push ts b i t h one few = record {
-  shallow = shallow_push 0 0 ts t h.shallow (subst (λ n. EndsOne n t.kind) (sym h.blocks_are) one) (subst (λ n. n + blocks_behind (blocks_left 0 ts) t.kind ≤ 64) (sym (ap (λ n. brackets_behind n t.kind) h.brackets_are)) (subst (λ n. brackets_behind b t.kind + n ≤ 64) (sym (ap (λ n. blocks_behind n t.kind) h.blocks_are)) few));
+  shallow = shallow_push 0 0 ts t h.shallow (subst (λ n. EndsOne n t.kind) (sym h.blocks_are) one) (subst (λ n. n + blocks_behind (blocks_left 0 ts) t.kind ≤ 64)
+      (sym (ap (λ n. brackets_behind n t.kind) h.brackets_are)) (subst (λ n. brackets_behind b t.kind + n ≤ 64) (sym (ap (λ n. blocks_behind n t.kind) h.blocks_are)) few));
   brackets_are = brackets_left-push 0 ts t ∙ ap (λ n. brackets_behind n t.kind) h.brackets_are;
   blocks_are = blocks_left-push 0 ts t ∙ ap (λ n. blocks_behind n t.kind) h.blocks_are;
 }
@@ -76,7 +78,8 @@ abbrev Nests : State → Type 0
 Nests s = Nested s.tokens (length s.brackets) (length s.indents)
 
 -- a plain token that is no sign changes nothing
-plain_put : (s : State) (k : TokenKind) (cs : List ℕ) (b : ℕ) → IsPlain k → Nested s.tokens b (length s.indents) → brackets_behind b k + length s.indents ≤ 64 → Nested (put s k cs).tokens (brackets_behind b k) (length s.indents)
+plain_put : (s : State) (k : TokenKind) (cs : List ℕ) (b : ℕ) → IsPlain k → Nested s.tokens b (length s.indents) → brackets_behind b k + length s.indents ≤ 64
+    → Nested (put s k cs).tokens (brackets_behind b k) (length s.indents)
 plain_put s kind.Name cs b p h few = nested_push s.tokens b (length s.indents) (token_of s kind.Name cs) h tt few
 plain_put s (kind.Keyword w) cs b p h few = nested_push s.tokens b (length s.indents) (token_of s (kind.Keyword w) cs) h tt few
 plain_put s (kind.Number n) cs b p h few = nested_push s.tokens b (length s.indents) (token_of s (kind.Number n) cs) h tt few
@@ -95,14 +98,19 @@ sign_put s symbol cs n h = by (opens symbol) refl (is_full s) refl (closes symbo
     few : length s.brackets + length s.indents ≤ 64
     few = few_open s.tokens (length s.brackets) (length s.indents) h
 
-    behind : (o c : Bool) → opens symbol ≡ o → closes symbol ≡ c → brackets_behind (length s.brackets) (kind.Sign symbol) ≡ cond o (length s.brackets + 1) (cond c (length s.brackets - 1) (length s.brackets))
-    behind o c eo ec = ap (λ x. cond x (length s.brackets + 1) (cond (closes symbol) (length s.brackets - 1) (length s.brackets))) eo ∙ ap (λ x. cond o (length s.brackets + 1) (cond x (length s.brackets - 1) (length s.brackets))) ec
+    behind : (o c : Bool) → opens symbol ≡ o → closes symbol ≡ c
+        → brackets_behind (length s.brackets) (kind.Sign symbol) ≡ cond o (length s.brackets + 1) (cond c (length s.brackets - 1) (length s.brackets))
+    behind o c eo ec = ap (λ x. cond x (length s.brackets + 1) (cond (closes symbol) (length s.brackets - 1) (length s.brackets))) eo
+        ∙ ap (λ x. cond o (length s.brackets + 1) (cond x (length s.brackets - 1) (length s.brackets))) ec
 
     pushed : (m : ℕ) → brackets_behind (length s.brackets) (kind.Sign symbol) ≡ m → m + length s.indents ≤ 64 → Nested (put s (kind.Sign symbol) cs).tokens m (length s.indents)
-    pushed m e le = subst (λ x. Nested (put s (kind.Sign symbol) cs).tokens x (length s.indents)) e (plain_put s (kind.Sign symbol) cs (length s.brackets) tt h (subst (λ x. x + length s.indents ≤ 64) (sym e) le))
+    pushed m e le = subst (λ x. Nested (put s (kind.Sign symbol) cs).tokens x (length s.indents)) e
+        (plain_put s (kind.Sign symbol) cs (length s.brackets) tt h (subst (λ x. x + length s.indents ≤ 64) (sym e) le))
 
     by : (o : Bool) → opens symbol ≡ o → (f : Bool) → is_full s ≡ f → (c : Bool) → closes symbol ≡ c →
-        Nests (and_then (cond {A = Answer (Unit {0})} o (cond {A = Answer (Unit {0})} f (s, Err (fault.TooDeep s.at.place)) (record s { brackets = s.brackets ++ s.at.place ∷ [] }, Ok tt)) (cond {A = Answer (Unit {0})} c (record s { brackets = take (length s.brackets - 1) s.brackets }, Ok tt) (s, Ok tt))) (λ t _. (put t (kind.Sign symbol) cs, Ok n))).0
+        Nests (and_then (cond {A = Answer (Unit {0})} o
+        (cond {A = Answer (Unit {0})} f (s, Err (fault.TooDeep s.at.place)) (record s { brackets = s.brackets ++ s.at.place ∷ [] }, Ok tt)) (cond {A = Answer (Unit {0})} c
+        (record s { brackets = take (length s.brackets - 1) s.brackets }, Ok tt) (s, Ok tt))) (λ t _. (put t (kind.Sign symbol) cs, Ok n))).0
     by true eo true ef c ec = h
     by true eo false ef c ec =
         let room = room_left s ef in
@@ -132,17 +140,21 @@ nests total = record {
   line_ends = λ s cs some h. nested_push s.tokens (length s.brackets) (length s.indents) (token_of s kind.Newline cs) h tt (few_open s.tokens (length s.brackets) (length s.indents) h);
   indents = λ s spaces room h.
       let few = room_left s room in
-      subst (λ m. Nested (put s kind.Indent []).tokens (length s.brackets) m) (sym (length-append s.indents (spaces ∷ []))) (nested_push s.tokens (length s.brackets) (length s.indents) (token_of s kind.Indent []) h tt (omega arith));
+      subst (λ m. Nested (put s kind.Indent []).tokens (length s.brackets) m) (sym (length-append s.indents (spaces ∷ [])))
+      (nested_push s.tokens (length s.brackets) (length s.indents) (token_of s kind.Indent []) h tt (omega arith));
   dedents = λ s spaces h.
       let fewer = kept_fewer s.indents spaces in
-      subst (λ m. Nested (s.tokens ++ replicate (length s.indents - length (kept s.indents spaces)) (dedent_at s s.at.place)) (length s.brackets) m) (omega arith) (nested_dedents (length s.indents - length (kept s.indents spaces)) s.tokens (length s.brackets) (length s.indents) (dedent_at s s.at.place) refl (omega arith) h);
+      subst (λ m. Nested (s.tokens ++ replicate (length s.indents - length (kept s.indents spaces)) (dedent_at s s.at.place)) (length s.brackets) m) (omega arith)
+      (nested_dedents (length s.indents - length (kept s.indents spaces)) s.tokens (length s.brackets) (length s.indents) (dedent_at s s.at.place) refl (omega arith) h);
   token = λ s k cs n plain some h. token_nests s k cs n plain h;
   supplies = λ s end h. nested_push s.tokens (length s.brackets) (length s.indents) (token_of s kind.Newline []) h tt (few_open s.tokens (length s.brackets) (length s.indents) h);
-  all_end = λ s h. subst (λ m. Nested (s.tokens ++ replicate (length s.indents) (dedent_at s (line_behind s.at.place))) (length s.brackets) m) (omega arith) (nested_dedents (length s.indents) s.tokens (length s.brackets) (length s.indents) (dedent_at s (line_behind s.at.place)) refl (omega arith) h);
+  all_end = λ s h. subst (λ m. Nested (s.tokens ++ replicate (length s.indents) (dedent_at s (line_behind s.at.place))) (length s.brackets) m) (omega arith)
+      (nested_dedents (length s.indents) s.tokens (length s.brackets) (length s.indents) (dedent_at s (line_behind s.at.place)) refl (omega arith) h);
 }
 
 final : (text : List ℕ) (ts : List Token) (f : Option ReadFault) → IsUtf8 text → IsLexed text ts f → Final Nests (length text) ts f
-final text ts f utf8 lexed = reads_keep Nests (length text) (nests (length text)) (record { shallow = omega arith; brackets_are = refl; blocks_are = refl }) (omega (arith, bytes_of-chars text utf8)) lexed
+final text ts f utf8 lexed = reads_keep Nests (length text) (nests (length text)) (record { shallow = omega arith; brackets_are = refl; blocks_are = refl })
+    (omega (arith, bytes_of-chars text utf8)) lexed
 
 pub all_shallow : (text : List ℕ) (ts : List Token) (f : Option ReadFault) → IsUtf8 text → IsLexed text ts f → StaysShallow 0 0 ts
 all_shallow text ts f utf8 lexed = let l = final text ts f utf8 lexed in subst (λ us. StaysShallow 0 0 us) l.are l.keeps.shallow

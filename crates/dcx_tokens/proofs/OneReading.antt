@@ -7,7 +7,7 @@ use Rattle.dcx_tokens.specs.State.{State, Answer}
 use Rattle.dcx_tokens.specs.Reading.{Reads, ends, stops, goes_on, fault_of}
 
 -- how many characters an answer tells
-abbrev count_of : Result ℕ ReadFault → ℕ
+abbrev pub count_of : Result ℕ ReadFault → ℕ
 count_of (Ok n) = n
 count_of (Err f) = 0
 

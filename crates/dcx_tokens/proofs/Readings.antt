@@ -58,6 +58,7 @@ ends_by s new (fault.TooDeep p) other e = ends e refl refl
 ends_by s new (fault.TooLong p) other e = ends e refl refl
 
 -- the text ended with a fault
-pub ended_badly : (s : State) (rest : List ℕ) (new : Reader) (f : ReadFault) → length rest < 1 → f ≢ fault.Memory → Gives {A = Unit {0}} new (Err f) (finished s) → Reads s rest new.tokens.items (Some f)
+pub ended_badly : (s : State) (rest : List ℕ) (new : Reader) (f : ReadFault) → length rest < 1 → f ≢ fault.Memory → Gives {A = Unit {0}} new (Err f) (finished s)
+    → Reads s rest new.tokens.items (Some f)
 ended_badly s [] new f none other e = ends_by s new f other e
 ended_badly s (c ∷ cs) new f none other e = absurd (omega arith)

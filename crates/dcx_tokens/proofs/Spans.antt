@@ -72,7 +72,9 @@ module _ (total : ℕ) where
   sign_put s symbol cs n some h = by (opens symbol) (is_full s) (closes symbol)
     where
       by : (o f c : Bool) →
-          Spans (and_then (cond {A = Answer (Unit {0})} o (cond {A = Answer (Unit {0})} f (s, Err (fault.TooDeep s.at.place)) (record s { brackets = s.brackets ++ s.at.place ∷ [] }, Ok tt)) (cond {A = Answer (Unit {0})} c (record s { brackets = take (length s.brackets - 1) s.brackets }, Ok tt) (s, Ok tt))) (λ t _. (put t (kind.Sign symbol) cs, Ok n))).0
+          Spans (and_then (cond {A = Answer (Unit {0})} o
+          (cond {A = Answer (Unit {0})} f (s, Err (fault.TooDeep s.at.place)) (record s { brackets = s.brackets ++ s.at.place ∷ [] }, Ok tt)) (cond {A = Answer (Unit {0})}
+          c (record s { brackets = take (length s.brackets - 1) s.brackets }, Ok tt) (s, Ok tt))) (λ t _. (put t (kind.Sign symbol) cs, Ok n))).0
       by true true c = h
       by true false c = plain_put s (kind.Sign symbol) cs tt some h
       by false f true = plain_put s (kind.Sign symbol) cs tt some h
@@ -108,7 +110,8 @@ module _ (total : ℕ) where
   }
 
 final : (text : List ℕ) (ts : List Token) (f : Option ReadFault) → IsUtf8 text → IsLexed text ts f → Final (Spans (length text)) (length text) ts f
-final text ts f utf8 lexed = reads_keep (Spans (length text)) (length text) (spans (length text)) (record { order = omega arith; bytes = All-nil (HasBytes (length text)) }) (omega (arith, bytes_of-chars text utf8)) lexed
+final text ts f utf8 lexed = reads_keep (Spans (length text)) (length text) (spans (length text)) (record { order = omega arith; bytes = All-nil (HasBytes (length text)) })
+    (omega (arith, bytes_of-chars text utf8)) lexed
 
 pub all_in_order : (text : List ℕ) (ts : List Token) (f : Option ReadFault) → IsUtf8 text → IsLexed text ts f → AreInOrder 0 ts (length text)
 all_in_order text ts f utf8 lexed =

@@ -1,4 +1,4 @@
--- The words that contracts cite.
+-- What contracts cite: texts and places, each kind of token, lines and brackets, readings, and the laws.
 pub mod File
 pub mod Front
 pub mod Laws

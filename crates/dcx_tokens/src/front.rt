@@ -2,7 +2,26 @@
 ghost use Rattle.std.specs.Prelude.{◌≡◌, ◌≤◌, ◌<◌, ◌+◌, length, IfSome};
 ghost use Rattle.std.specs.Char.{is_ascii_digit};
 ghost use Rattle.unicode_ident.specs.Ident.{is_xid_continue};
-ghost use Rattle.dcx_tokens.specs.Front.{run_of, is_blank, is_quote, begins_name, ends_line, begins_number, short_sign, long_sign, sign_at, sign_len, line_end_len, front_at, up_to_line_end, is_not_line_feed, is_before_line_feed, tab_among, sign_front, HasEnough};
+ghost use Rattle.dcx_tokens.specs.Front.{
+  run_of,
+  is_blank,
+  is_quote,
+  begins_name,
+  ends_line,
+  begins_number,
+  short_sign,
+  long_sign,
+  sign_at,
+  sign_len,
+  line_end_len,
+  front_at,
+  up_to_line_end,
+  is_not_line_feed,
+  is_before_line_feed,
+  tab_among,
+  sign_front,
+  HasEnough,
+};
 
 use crate::token::Symbol;
 

@@ -15,7 +15,8 @@
 //! | lines and columns; where the end of a text stands | `specs/Position.antt`; `end_place` |
 //! | when a line ends, an indentation begins or ends, a bracket opens or closes, and which fault comes first | `specs/Layout.antt`, `specs/State.antt` |
 //! | the tokens of a whole text, up to its end or to the first fault | `specs/Reading.antt`; `lexed`, `tokens` |
-//! | bytes are a text, or none for one reason; a text has one list of tokens, and a first fault of tokens if any; the spans stand in order inside the text; never more than 64 brackets and indentations are open, and without a fault all are closed | `specs/Laws.antt`; `laws` |
+//! | bytes are a text, or none for one reason; a text has one list of tokens, and a first fault of tokens if any | `specs/Laws.antt`; `laws` |
+//! | the spans stand in order inside the text; never more than 64 brackets and indentations are open, and without a fault all are closed | `specs/Laws.antt`; `laws` |
 #![tactic(auto)]
 
 mod fault;

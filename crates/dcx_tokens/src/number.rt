@@ -4,7 +4,22 @@ ghost use Rattle.std.specs.Char.{digit_value};
 ghost use Rattle.std.specs.Str.Parse.{digits_value, digits_value_after, AllDigits};
 ghost use Rattle.dcx_math.specs.Rational.{whole, ◌/ℚ◌};
 ghost use Rattle.dcx_frac.specs.Frac.{value};
-ghost use Rattle.dcx_tokens.specs.Number.{digits, fraction_digits, fraction_len, exponent_sign_len, exponent_digits, exponent_len, is_negative, mantissa, power_of_ten, spelling_of, spelling_at, is_spoiled, frac_of_spelling, number_at};
+ghost use Rattle.dcx_tokens.specs.Number.{
+  digits,
+  fraction_digits,
+  fraction_len,
+  exponent_sign_len,
+  exponent_digits,
+  exponent_len,
+  is_negative,
+  mantissa,
+  power_of_ten,
+  spelling_of,
+  spelling_at,
+  is_spoiled,
+  frac_of_spelling,
+  number_at,
+};
 
 use crate::front::digit_run;
 use dcx_frac::Frac;

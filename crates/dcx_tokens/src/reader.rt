@@ -45,7 +45,23 @@ fn push_times(tokens: &mut Vec<Token>, token: Token, count: usize) -> Result<(),
 }
 
 impl Reader {
-    ghost use Rattle.dcx_tokens.specs.State.{put, dedent_at, begin_line, line_begun, nested, nested_by, token_read, blanks_read, comment_read, line_ended, line_end_read, line_supplied, step, finished, is_full};
+    ghost use Rattle.dcx_tokens.specs.State.{
+      put,
+      dedent_at,
+      begin_line,
+      line_begun,
+      nested,
+      nested_by,
+      token_read,
+      blanks_read,
+      comment_read,
+      line_ended,
+      line_end_read,
+      line_supplied,
+      step,
+      finished,
+      is_full,
+    };
     ghost use Rattle.dcx_tokens.specs.View.{state_of, Gives, HasRoom, IsBefore};
 
     /// Whether 64 brackets and indentations are open.

@@ -47,7 +47,10 @@ use Rattle.dcx_top.specs.Whole.{HasNoWhole, HasWhole, IsRefusedForWhole, Refuses
 use Rattle.dcx_top.specs.Ended.{IsToldOf}
 use Rattle.dcx_top.specs.declared.solving.Task.{Task}
 use Rattle.dcx_top.specs.declared.solving.Task.TheVariants as tasks
-use Rattle.dcx_top.specs.Runs.{GivesProblem, IsSolvedRun, IsBranchedRun, OrWhole, SolvesAt, BranchesAt, AnswersAt, TriesAt, CertifiesAt, DoesAt, DoesFrom, task_refuses, command_for, GivesSettings, GivesSections, EndsFiles, at_script, at_whole, at_settings, at_certificate, at_memory, HasCertificate, ReadsSections, HasPassed, misread, failed, long_script, bad_script, for_whole, for_range, bad_settings, long_certificate, no_script, no_settings, no_certificate, CountsAtMostBeginning, RangesFrom, lacking, ending, ranging, wanting, CountsAtMost, none, beginning, solving, Causes}
+use Rattle.dcx_top.specs.Runs.{GivesProblem, IsSolvedRun, IsBranchedRun, OrWhole, SolvesAt, BranchesAt, AnswersAt, TriesAt, CertifiesAt, DoesAt, DoesFrom, task_refuses}
+use Rattle.dcx_top.specs.Runs.{command_for, GivesSettings, GivesSections, EndsFiles, at_script, at_whole, at_settings, at_certificate, at_memory, HasCertificate, ReadsSections}
+use Rattle.dcx_top.specs.Runs.{HasPassed, misread, failed, long_script, bad_script, for_whole, for_range, bad_settings, long_certificate, no_script, no_settings, no_certificate}
+use Rattle.dcx_top.specs.Runs.{CountsAtMostBeginning, RangesFrom, lacking, ending, ranging, wanting, CountsAtMost, none, beginning, solving, Causes}
 
 pub judged_of : (bytes : List ℕ) (a : Accepted) → Gives bytes (Ok a) → IsJudged a.work.problem a.verdict
 judged_of bytes a g = (acceptance bytes a g).judged
@@ -83,8 +86,9 @@ at_most_beginning words told old new (inr h) =
 
 module _ (words : List (List ℕ)) (told : Option Files) (risen : Type 0) (command : Command) (form : command_of words ≡ Some command) where
   -- ---- the script ends the run
-  pub script_ends : (name : List ℕ) (n : ℕ) (r : Run) → script_name command ≡ Some name → ((bytes : List ℕ) → IsTold told name bytes → IsScriptOf told command bytes) → EndsAt told risen Script name RefusesScript r →
-      Causes words told risen n n r
+  pub script_ends : (name : List ℕ) (n : ℕ) (r : Run) → script_name command ≡ Some name → ((bytes : List ℕ) → IsTold told name bytes → IsScriptOf told command bytes)
+      → EndsAt told risen Script name RefusesScript r
+      → Causes words told risen n n r
   script_ends name n run.ReadFault is of h = (no_script command name form is h, inl refl)
   script_ends name n (run.Refused r) is of (inl long) = (long_script command name form is long, inl refl)
   script_ends name n (run.Refused r) is of (inr (bytes, there, h)) = (bad_script command bytes form (of bytes there) h, inl refl)
@@ -113,8 +117,9 @@ module _ (words : List (List ℕ)) (told : Option Files) (risen : Type 0) (comma
 
     -- ---- the settings file ends it
     -- behind the steps of a session's beginning, where one was begun
-    pub settings_end : (taken : Takes command a.work.problem) (allows : AllowsRange command a.work.problem) (name : List ℕ) (old new : ℕ) (r : Run) → CountsAtMostBeginning words told old new → settings_name command ≡ Some name →
-        EndsAt told risen Settings name RefusesSettings r → Causes words told risen old new r
+    pub settings_end : (taken : Takes command a.work.problem) (allows : AllowsRange command a.work.problem) (name : List ℕ) (old new : ℕ) (r : Run) → CountsAtMostBeginning words told old new
+        → settings_name command ≡ Some name
+        → EndsAt told risen Settings name RefusesSettings r → Causes words told risen old new r
     settings_end taken allows name old new run.ReadFault steps is h = (no_settings command a name form gives taken allows is h, steps)
     settings_end taken allows name old new (run.Refused r) steps is h = (bad_settings command a name form gives taken allows is h, steps)
     settings_end taken allows name old new run.Memory steps is h = at_most_beginning words told old new steps
@@ -132,8 +137,9 @@ module _ (words : List (List ℕ)) (told : Option Files) (risen : Type 0) (comma
     -- ---- the problem is solved
     module _ (settings : List Pairs) (asked : AreSettingsOf told command a.work settings) (tells : List Outcome → Option ℕ → Run)
         (continuous : HasNoWhole a.work.problem) (told_so : (outcomes : List Outcome) (count : Option ℕ) → TellsOutcomes command a.work.problem.sense outcomes count (tells outcomes count)) where
-      abbrev solved_run : (old new : ℕ) (outcomes : List Outcome) (count : Option ℕ) → AreFound (is_warm_command command) a.work.problem (limit_of command) settings outcomes count → Counts a.work.problem (length settings) old new →
-          IsSolvedRun words told old new (tells outcomes count)
+      abbrev solved_run : (old new : ℕ) (outcomes : List Outcome) (count : Option ℕ) → AreFound (is_warm_command command) a.work.problem (limit_of command) settings outcomes count
+          → Counts a.work.problem (length settings) old new
+          → IsSolvedRun words told old new (tells outcomes count)
       solved_run old new outcomes count are steps = record {
         command = command;
         form = form;
@@ -149,8 +155,9 @@ module _ (words : List (List ℕ)) (told : Option Files) (risen : Type 0) (comma
         steps = steps;
       }
 
-      pub solved_so : (old new : ℕ) (r : Run) → ((outcomes : List Outcome) (count : Option ℕ) → IsSolvedRun words told old new (tells outcomes count) → Causes words told risen old new (tells outcomes count)) →
-          SolvesAt (is_warm_command command) a.work.problem (limit_of command) settings tells old new r → Causes words told risen old new r
+      pub solved_so : (old new : ℕ) (r : Run) → ((outcomes : List Outcome) (count : Option ℕ) → IsSolvedRun words told old new (tells outcomes count)
+          → Causes words told risen old new (tells outcomes count))
+          → SolvesAt (is_warm_command command) a.work.problem (limit_of command) settings tells old new r → Causes words told risen old new r
       solved_so old new r caused (inl (e, few)) =
           subst (Causes words told risen old new) (sym e) (solving command a settings form gives (solves_uncertified command a.work.problem.sense [] None (tells [] None) (told_so [] None)) asked few)
       solved_so old new r caused (inr (outcomes, count, are, steps, e)) = subst (Causes words told risen old new) (sym e) (caused outcomes count (solved_run old new outcomes count are steps))
@@ -158,7 +165,8 @@ module _ (words : List (List ℕ)) (told : Option Files) (risen : Type 0) (comma
     -- ---- it is solved by branch and bound
     module _ (settings : List Pairs) (asked : AreSettingsOf told command a.work settings) (tells : List WholeOutcome → Run) (marked : HasWhole a.work.problem)
         (told_so : (outcomes : List WholeOutcome) → TellsWholes command a.work.problem.sense outcomes (tells outcomes)) where
-      abbrev branched_run : (old new : ℕ) (outcomes : List WholeOutcome) → AreWholeOutcomes a.work.problem (limit_of command) settings outcomes → Counts a.work.problem (length settings) old new → IsBranchedRun words told old new (tells outcomes)
+      abbrev branched_run : (old new : ℕ) (outcomes : List WholeOutcome) → AreWholeOutcomes a.work.problem (limit_of command) settings outcomes → Counts a.work.problem (length settings) old new
+          → IsBranchedRun words told old new (tells outcomes)
       branched_run old new outcomes are steps = record {
         command = command;
         form = form;
@@ -182,7 +190,8 @@ module _ (words : List (List ℕ)) (told : Option Files) (risen : Type 0) (comma
 -- ---- a certificate that is read
 module _ (words : List (List ℕ)) (told : Option Files) (risen : Type 0) (command : Command) (form : command_of words ≡ Some command) (script name file : List ℕ)
     (scripted : script_name command ≡ Some script) (set : settings_name command ≡ Some name) (named : certificate_name command ≡ Some file) (refuses : RefusesWhole command)
-    (of : (bytes : List ℕ) → IsTold told script bytes → IsScriptOf told command bytes) (asks : (work : Work) (settings : List Pairs) → AreOfFile told name work.last settings → AreSettingsOf told command work settings) where
+    (of : (bytes : List ℕ) → IsTold told script bytes → IsScriptOf told command bytes)
+    (asks : (work : Work) (settings : List Pairs) → AreOfFile told name work.last settings → AreSettingsOf told command work settings) where
   abbrev has_certificate : (a : Accepted) (settings : List Pairs) → GivesSettings told script name a settings → HasCertificate words told command
   has_certificate a settings h = record {
     form = form;
@@ -195,7 +204,8 @@ module _ (words : List (List ℕ)) (told : Option Files) (risen : Type 0) (comma
     asked = asks a.work settings h.asked;
   }
 
-  certificate_ends : (a : Accepted) (settings : List Pairs) (n : ℕ) (r : Run) → GivesSettings told script name a settings → ReadsCertificate told risen file a.work.problem (length settings) (Err r) → Causes words told risen n n r
+  certificate_ends : (a : Accepted) (settings : List Pairs) (n : ℕ) (r : Run) → GivesSettings told script name a settings → ReadsCertificate told risen file a.work.problem (length settings) (Err r)
+      → Causes words told risen n n r
   certificate_ends a settings n run.ReadFault g h = (no_certificate command (has_certificate a settings g) h, inl refl)
   certificate_ends a settings n (run.Refused r) g (inl long) = (long_certificate command (has_certificate a settings g) long, inl refl)
   certificate_ends a settings n (run.Refused r) g (inr (bytes, there, h)) = absurd h
@@ -215,7 +225,9 @@ module _ (words : List (List ℕ)) (told : Option Files) (risen : Type 0) (comma
   pub files_end : (n : ℕ) (r : Run) → EndsFiles told risen script name file r → Causes words told risen n n r
   files_end n r (at_script h) = script_ends words told risen command form script n r scripted of h
   files_end n r (at_whole a bytes t there gives h e) = whole_ends words told risen command form a (record { bytes = bytes; are_of = of bytes there; gives = gives }) n n r refuses (t, h, e, refl)
-  files_end n r (at_settings a bytes there gives free h) = settings_end words told risen command form a (record { bytes = bytes; are_of = of bytes there; gives = gives }) (λ refusing. free) (allowed_reading command a.work.problem file named) name n n r (inl refl) set h
+  files_end n r (at_settings a bytes there gives free h) =
+      settings_end words told risen command form a (record { bytes = bytes; are_of = of bytes there; gives = gives }) (λ refusing. free)
+      (allowed_reading command a.work.problem file named) name n n r (inl refl) set h
   files_end n r (at_certificate a settings g h) = certificate_ends a settings n r g h
   files_end n r (at_memory e) = subst (Causes words told risen n n) (sym e) (none refl)
 
@@ -227,25 +239,30 @@ module _ (words : List (List ℕ)) (told : Option Files) (risen : Type 0) (comma
   }
 
   -- and a first one fails
-  pub section_fails : (p : Problem) (settings : List Pairs) (sections : Sections) (number n : ℕ) (fault : CertFault) → GivesSections told script name file p settings sections → IsFirstRefused p settings sections.list number fault →
-      Causes words told risen n n (run.CertRefused number fault)
+  pub section_fails : (p : Problem) (settings : List Pairs) (sections : Sections) (number n : ℕ) (fault : CertFault) → GivesSections told script name file p settings sections
+      → IsFirstRefused p settings sections.list number fault
+      → Causes words told risen n n (run.CertRefused number fault)
   section_fails p settings sections number n fault g h =
       (failed command sections (reads_sections p settings sections g) (subst (λ (q : Problem). IsFirstRefused q settings sections.list number fault) (sym g.is_of) h), refl)
 
-  section_tells : (p : Problem) (settings : List Pairs) (sections : Sections) (list : List Section) (number n : ℕ) (fault : CertFault) (r : Run) → GivesSections told script name file p settings sections → list ≡ sections.list →
-      IsFirstRefused p settings list number fault → r ≡ refused_at number fault → (refused_at number fault ≡ run.Memory) ⊎ (refused_at number fault ≡ run.CertRefused number fault) → Causes words told risen n n r
+  section_tells : (p : Problem) (settings : List Pairs) (sections : Sections) (list : List Section) (number n : ℕ) (fault : CertFault) (r : Run)
+      → GivesSections told script name file p settings sections → list ≡ sections.list
+      → IsFirstRefused p settings list number fault → r ≡ refused_at number fault → (refused_at number fault ≡ run.Memory) ⊎ (refused_at number fault ≡ run.CertRefused number fault)
+      → Causes words told risen n n r
   section_tells p settings sections list number n fault r g same h is (inl e) = subst (Causes words told risen n n) (sym (is ∙ e)) (none refl)
   section_tells p settings sections list number n fault r g same h is (inr e) =
       subst (Causes words told risen n n) (sym (is ∙ e)) (section_fails p settings sections number n fault g (subst (λ xs. IsFirstRefused p settings xs number fault) same h))
 
   -- it is told with its fault, or memory is wanting
-  pub section_told : (p : Problem) (settings : List Pairs) (sections : Sections) (list : List Section) (number n : ℕ) (fault : CertFault) (r : Run) → GivesSections told script name file p settings sections → list ≡ sections.list →
-      (fault ≡ faults.Memory) ⊎ IsFirstRefused p settings list number fault → r ≡ refused_at number fault → Causes words told risen n n r
+  pub section_told : (p : Problem) (settings : List Pairs) (sections : Sections) (list : List Section) (number n : ℕ) (fault : CertFault) (r : Run)
+      → GivesSections told script name file p settings sections → list ≡ sections.list
+      → (fault ≡ faults.Memory) ⊎ IsFirstRefused p settings list number fault → r ≡ refused_at number fault → Causes words told risen n n r
   section_told p settings sections list number n fault r g same (inl e) is = subst (Causes words told risen n n) (sym (is ∙ ap (refused_at number) e)) (none refl)
   section_told p settings sections list number n fault r g same (inr h) is = section_tells p settings sections list number n fault r g same h is (told_fault number fault)
 
   -- or all pass
-  abbrev pub sections_pass : (p : Problem) (settings : List Pairs) (sections : Sections) → GivesSections told script name file p settings sections → ArePassed p settings sections.list → HasPassed words told command sections
+  abbrev pub sections_pass : (p : Problem) (settings : List Pairs) (sections : Sections) → GivesSections told script name file p settings sections → ArePassed p settings sections.list
+      → HasPassed words told command sections
   sections_pass p settings sections g h = record {
     reads = reads_sections p settings sections g;
     passed = subst (λ (q : Problem). ArePassed q settings sections.list) (sym g.is_of) h;
@@ -253,17 +270,21 @@ module _ (words : List (List ℕ)) (told : Option Files) (risen : Type 0) (comma
 
 -- ---- a certificate that is written
 -- it is told, or memory is wanting
-told_at : (p : Problem) (limit : ℕ) (settings : List Pairs) (c : Sections) (stopped : Bool) (old new : ℕ) (r : Run) → IsCertificateAt p limit settings c → (IsTrue stopped ↔ StopsSomewhere p limit settings) → Counts p (length settings) old new →
-    (r ≡ run.Memory) ⊎ (r ≡ run.Certificates (cert_text c) stopped) → CertifiesAt p limit settings old new r
+told_at : (p : Problem) (limit : ℕ) (settings : List Pairs) (c : Sections) (stopped : Bool) (old new : ℕ) (r : Run) → IsCertificateAt p limit settings c
+    → (IsTrue stopped ↔ StopsSomewhere p limit settings) → Counts p (length settings) old new
+    → (r ≡ run.Memory) ⊎ (r ≡ run.Certificates (cert_text c) stopped) → CertifiesAt p limit settings old new r
 told_at p limit settings c stopped old new r is flag steps (inl e) = inl (e, no_more_of p (length settings) old new steps)
 told_at p limit settings c stopped old new r is flag steps (inr e) = inr (c, stopped, is, flag, steps, e)
 
-pub certificate_at : (p : Problem) (limit : ℕ) (settings : List Pairs) (c : Sections) (stopped : Bool) (old new : ℕ) (r : Run) → IsCertificateAt p limit settings c → (IsTrue stopped ↔ StopsSomewhere p limit settings) →
-    (HasMap p → new ≡ old + length p.tree) → new ≤ old + length p.tree + length settings * length p.tree → (r ≡ run.Memory) ⊎ (r ≡ run.Certificates (cert_text c) stopped) → CertifiesAt p limit settings old new r
+pub certificate_at : (p : Problem) (limit : ℕ) (settings : List Pairs) (c : Sections) (stopped : Bool) (old new : ℕ) (r : Run) → IsCertificateAt p limit settings c
+    → (IsTrue stopped ↔ StopsSomewhere p limit settings)
+    → (HasMap p → new ≡ old + length p.tree) → new ≤ old + length p.tree + length settings * length p.tree → (r ≡ run.Memory) ⊎ (r ≡ run.Certificates (cert_text c) stopped)
+    → CertifiesAt p limit settings old new r
 certificate_at p limit settings c stopped old new r is flag mapped anew h = told_at p limit settings c stopped old new r is flag (record { mapped = mapped; anew = anew }) h
 
 -- ---- what is asked is done
-pub task_done : (work : Work) (limit : ℕ) (settings : List Pairs) (asked task : Task) (old new : ℕ) (r : Run) → asked ≡ task → DoesAt task work limit settings old new r → DoesAt asked work limit settings old new r
+pub task_done : (work : Work) (limit : ℕ) (settings : List Pairs) (asked task : Task) (old new : ℕ) (r : Run) → asked ≡ task → DoesAt task work limit settings old new r
+    → DoesAt asked work limit settings old new r
 task_done work limit settings asked task old new r is h = subst (λ (t : Task). DoesAt t work limit settings old new r) (sym is) h
 
 -- ---- command by command
@@ -302,14 +323,17 @@ task_takes tasks.Certificate script name limit p h t = h refl
 task_takes tasks.Filter script name limit p h t = h refl
 
 module _ (words : List (List ℕ)) (told : Option Files) (risen : Type 0) where
-  pub checked : (script bytes : List ℕ) (a : Accepted) (c : Checked) (n : ℕ) → command_of words ≡ Some (check script) → IsTold told script bytes → Gives bytes (Ok a) → IsFoundOf a.work.problem c → Causes words told risen n n (run.Checked c)
+  pub checked : (script bytes : List ℕ) (a : Accepted) (c : Checked) (n : ℕ) → command_of words ≡ Some (check script) → IsTold told script bytes → Gives bytes (Ok a) → IsFoundOf a.work.problem c
+      → Causes words told risen n n (run.Checked c)
   checked script bytes a c n form there gives found =
       (record { script = script; form = form; accepted = a; problem = record { bytes = bytes; are_of = there; gives = gives }; found = found }, refl)
 
   -- a problem is solved, by branch and bound where a variable is to be whole
-  answered : (command : Command) (said : Word) (a : Accepted) (gives : GivesProblem told command a) (settings : List Pairs) (old new : ℕ) (r : Run) → command_of words ≡ Some command → is_warm_command command ≡ false →
-      AreSettingsOf told command a.work settings → ((os : List Outcome) (count : Option ℕ) → TellsOutcomes command a.work.problem.sense os count (run.Solved said a.work.problem.sense os count)) →
-      ((os : List WholeOutcome) → TellsWholes command a.work.problem.sense os (run.Branched said a.work.problem.sense os)) → AnswersAt said a.work.problem (limit_of command) settings old new r → Causes words told risen old new r
+  answered : (command : Command) (said : Word) (a : Accepted) (gives : GivesProblem told command a) (settings : List Pairs) (old new : ℕ) (r : Run) → command_of words ≡ Some command
+      → is_warm_command command ≡ false
+      → AreSettingsOf told command a.work settings → ((os : List Outcome) (count : Option ℕ) → TellsOutcomes command a.work.problem.sense os count (run.Solved said a.work.problem.sense os count)) →
+      ((os : List WholeOutcome) → TellsWholes command a.work.problem.sense os (run.Branched said a.work.problem.sense os)) → AnswersAt said a.work.problem (limit_of command) settings old new r
+      → Causes words told risen old new r
   answered command said a gives settings old new r form cold asked solves branches (inl (continuous, h)) =
       solved_so words told risen command form a gives settings asked (λ os count. run.Solved said a.work.problem.sense os count) continuous solves old new r (λ os count k. k)
       (subst (λ warm. SolvesAt warm a.work.problem (limit_of command) settings (λ os count. run.Solved said a.work.problem.sense os count) old new r) (sym cold) h)
@@ -322,12 +346,14 @@ module _ (words : List (List ℕ)) (told : Option Files) (risen : Type 0) where
       answered (solve script limit) word.Solve a (record { bytes = bytes; are_of = there; gives = gives }) a.work.events old new r form refl refl (λ os count. refl) (λ os. refl) h
 
   -- ---- what is asked at the settings of a file
-  does_at : (task : Task) (script name bytes : List ℕ) (limit : ℕ) (a : Accepted) (settings : List Pairs) (old new : ℕ) (r : Run) → command_of words ≡ Some (command_for task script name limit) → IsTold told script bytes → Gives bytes (Ok a) →
-      (IsTrue (task_refuses task) → HasNoWhole a.work.problem) → AreOfFile told name a.work.last settings → DoesAt task a.work limit settings old new r → Causes words told risen old new r
+  does_at : (task : Task) (script name bytes : List ℕ) (limit : ℕ) (a : Accepted) (settings : List Pairs) (old new : ℕ) (r : Run) → command_of words ≡ Some (command_for task script name limit)
+      → IsTold told script bytes → Gives bytes (Ok a)
+      → (IsTrue (task_refuses task) → HasNoWhole a.work.problem) → AreOfFile told name a.work.last settings → DoesAt task a.work limit settings old new r → Causes words told risen old new r
   does_at (tasks.Resolve false) script name bytes limit a settings old new r form there gives free are h =
       answered (resolve script name limit false) word.Setting a (record { bytes = bytes; are_of = there; gives = gives }) settings old new r form refl are (λ os count. refl) (λ os. refl) h
   does_at (tasks.Resolve true) script name bytes limit a settings old new r form there gives free are h =
-      solved_so words told risen (resolve script name limit true) form a (record { bytes = bytes; are_of = there; gives = gives }) settings are (λ os count. run.Solved word.Setting a.work.problem.sense os count) (free refl)
+      solved_so words told risen (resolve script name limit true) form a (record { bytes = bytes; are_of = there; gives = gives }) settings are
+      (λ os count. run.Solved word.Setting a.work.problem.sense os count) (free refl)
       (λ os count. refl) old new r (λ os count k. k) h
   does_at tasks.Certificate script name bytes limit a settings old new r form there gives free are (inl (e, few)) =
       subst (Causes words told risen old new) (sym e) (solving (certificate script name limit) a settings form (record { bytes = bytes; are_of = there; gives = gives }) refl are few)
@@ -365,8 +391,9 @@ module _ (words : List (List ℕ)) (told : Option Files) (risen : Type 0) where
         steps = steps;
       })
 
-  pub done : (task : Task) (script name bytes : List ℕ) (limit : ℕ) (a : Accepted) (old new : ℕ) (r : Run) → command_of words ≡ Some (command_for task script name limit) → IsTold told script bytes → Gives bytes (Ok a) →
-      OrWhole (IsTrue (task_refuses task)) a.work.problem (DoesFrom told risen task a.work name limit old new) old new r → Causes words told risen old new r
+  pub done : (task : Task) (script name bytes : List ℕ) (limit : ℕ) (a : Accepted) (old new : ℕ) (r : Run) → command_of words ≡ Some (command_for task script name limit) → IsTold told script bytes
+      → Gives bytes (Ok a)
+      → OrWhole (IsTrue (task_refuses task)) a.work.problem (DoesFrom told risen task a.work name limit old new) old new r → Causes words told risen old new r
   done task script name bytes limit a old new r form there gives h = by h
     where
       problem : GivesProblem told (command_for task script name limit) a
@@ -380,8 +407,9 @@ module _ (words : List (List ℕ)) (told : Option Files) (risen : Type 0) where
       by (inr (refuses, k)) = whole_ends words told risen (command_for task script name limit) form a problem old new r (task_refused task script name limit refuses) k
 
   -- ---- the range of a parameter
-  begun : (script name parameter bytes : List ℕ) (limit : ℕ) (a : Accepted) (old new : ℕ) → command_of words ≡ Some (range script name parameter limit) → IsTold told script bytes → Gives bytes (Ok a) → HasNoWhole a.work.problem →
-      Counts a.work.problem 0 old new → CountsAtMostBeginning words told old new
+  begun : (script name parameter bytes : List ℕ) (limit : ℕ) (a : Accepted) (old new : ℕ) → command_of words ≡ Some (range script name parameter limit) → IsTold told script bytes
+      → Gives bytes (Ok a) → HasNoWhole a.work.problem
+      → Counts a.work.problem 0 old new → CountsAtMostBeginning words told old new
   begun script name parameter bytes limit a old new form there gives continuous steps = inr (record {
     script = script;
     name = name;
@@ -394,13 +422,16 @@ module _ (words : List (List ℕ)) (told : Option Files) (risen : Type 0) where
     steps = steps;
   })
 
-  pub ranged : (script name parameter bytes : List ℕ) (limit : ℕ) (a : Accepted) (old new : ℕ) (r : Run) → command_of words ≡ Some (range script name parameter limit) → IsTold told script bytes → Gives bytes (Ok a) →
-      OrWhole ⊤ a.work.problem (RangesFrom told risen a.work name parameter limit old new) old new r → Causes words told risen old new r
+  pub ranged : (script name parameter bytes : List ℕ) (limit : ℕ) (a : Accepted) (old new : ℕ) (r : Run) → command_of words ≡ Some (range script name parameter limit) → IsTold told script bytes
+      → Gives bytes (Ok a)
+      → OrWhole ⊤ a.work.problem (RangesFrom told risen a.work name parameter limit old new) old new r → Causes words told risen old new r
   ranged script name parameter bytes limit a old new r form there gives (inr (refuses, h)) =
       whole_ends words told risen (range script name parameter limit) form a (record { bytes = bytes; are_of = there; gives = gives }) old new r tt h
   ranged script name parameter bytes limit a old new r form there gives (inl (free, lacking t h e steps)) =
-      subst (Causes words told risen old new) (sym e)
-      (for_range (range script name parameter limit) a parameter form (record { bytes = bytes; are_of = there; gives = gives }) (free tt) refl h, begun script name parameter bytes limit a old new form there gives (free tt) steps)
+      subst (Causes words told risen old new) (sym e) (
+        for_range (range script name parameter limit) a parameter form (record { bytes = bytes; are_of = there; gives = gives }) (free tt) refl h,
+        begun script name parameter bytes limit a old new form there gives (free tt) steps,
+      )
   ranged script name parameter bytes limit a old new r form there gives (inl (free, ending has h steps)) =
       let command = range script name parameter limit in
       settings_end words told risen command form a (record { bytes = bytes; are_of = there; gives = gives }) free (allowed command a.work.problem parameter refl has) name old new r
@@ -432,14 +463,16 @@ module _ (words : List (List ℕ)) (told : Option Files) (risen : Type 0) where
       settings = name;
       name = file;
       sections = sections;
-      passed = sections_pass words told risen (certify script name file) form script name file refl refl refl tt (λ b h. h) (λ w s h. h) p settings sections g (subst (ArePassed p settings) same passed);
+      passed = sections_pass words told risen (certify script name file) form script name file refl refl refl tt (λ b h. h) (λ w s h. h) p settings sections g
+          (subst (ArePassed p settings) same passed);
       count = counted ∙ ap (count_by is_cert) same;
     },
     refl,
   )
 
-  pub migrated_told : (script name file : List ℕ) (p : Problem) (settings : List Pairs) (sections : Sections) (list : List Section) (n : ℕ) (r : Run) → command_of words ≡ Some (migrate script name file) →
-      GivesSections told script name file p settings sections → list ≡ sections.list → ArePassed p settings list →
+  pub migrated_told : (script name file : List ℕ) (p : Problem) (settings : List Pairs) (sections : Sections) (list : List Section) (n : ℕ) (r : Run)
+      → command_of words ≡ Some (migrate script name file)
+      → GivesSections told script name file p settings sections → list ≡ sections.list → ArePassed p settings list →
       (r ≡ run.Memory) ⊎ ((after : Sections) × IsMigrated p settings sections after × (r ≡ run.Certificates (cert_text after) false)) → Causes words told risen n n r
   migrated_told script name file p settings sections list n r form g same passed (inl e) = subst (Causes words told risen n n) (sym e) (none refl)
   migrated_told script name file p settings sections list n r form g same passed (inr (after, are, e)) =
@@ -449,7 +482,8 @@ module _ (words : List (List ℕ)) (told : Option Files) (risen : Type 0) where
           settings = name;
           name = file;
           sections = sections;
-          passed = sections_pass words told risen (migrate script name file) form script name file refl refl refl tt (λ b h. h) (λ w s h. h) p settings sections g (subst (ArePassed p settings) same passed);
+          passed = sections_pass words told risen (migrate script name file) form script name file refl refl refl tt (λ b h. h) (λ w s h. h) p settings sections g
+              (subst (ArePassed p settings) same passed);
           migrated = after;
           are = subst (λ (q : Problem). IsMigrated q settings sections after) (sym g.is_of) are;
           text = refl;
@@ -468,7 +502,8 @@ module _ (words : List (List ℕ)) (told : Option Files) (risen : Type 0) where
 
 -- ---- words
 -- a run with a cause tells the usage line exactly where the words are no plain form
-pub usage_of : (words : List (List ℕ)) (told : Option Files) (risen : Type 0) (old new : ℕ) (command : Command) (r : Run) → command_of words ≡ Some command → Causes words told risen old new r → (r ≡ run.Usage) ↔ (command_of words ≡ None)
+pub usage_of : (words : List (List ℕ)) (told : Option Files) (risen : Type 0) (old new : ℕ) (command : Command) (r : Run) → command_of words ≡ Some command → Causes words told risen old new r
+    → (r ≡ run.Usage) ↔ (command_of words ≡ None)
 usage_of words told risen old new command r form h = (λ e. (subst (Causes words told risen old new) e h).0, λ e. absurd (none-some command (sym e ∙ form)))
 
 -- ---- what is told of a run

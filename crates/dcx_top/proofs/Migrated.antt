@@ -16,7 +16,8 @@ use Rattle.dcx_words.specs.Commands.{Command, certify, migrate, command_of}
 use Rattle.dcx_top.specs.Commands.{IsScriptOf, script_name, settings_name, certificate_name, parameter_name, AreSettingsOf}
 use Rattle.dcx_top.specs.Whole.{RefusesWhole, Takes}
 use Rattle.dcx_top.specs.NoRange.{AllowsRange}
-use Rattle.dcx_top.specs.Runs.{GivesProblem, HasCertificate, ReadsSections, IsCertRefusedRun, misread, failed, IsRefusedRun, long_script, bad_script, for_whole, for_range, bad_settings, long_certificate, Causes}
+use Rattle.dcx_top.specs.Runs.{GivesProblem, HasCertificate, ReadsSections, IsCertRefusedRun, misread, failed, IsRefusedRun}
+use Rattle.dcx_top.specs.Runs.{long_script, bad_script, for_whole, for_range, bad_settings, long_certificate, Causes}
 use Rattle.dcx_top.specs.OneRun.{IsAnswered}
 use Rattle.dcx_top.specs.Migrated.{Refuses, MigrateRefusesAsCertify}
 use Rattle.dcx_top.proofs.OneRun.{only_run}
@@ -96,12 +97,14 @@ module _ (words other : List (List ℕ)) (told : Option Files) (a b : Command) (
   cert_moved section fault (failed command sections reads h) = failed b sections (reads_moved command sections reads) h
 
 -- a run that refuses is the one run of the other words too
-refused_alike : (words other : List (List ℕ)) (files : Files) (a b : Command) (before now old new past later from to : ℕ) (r s : Run) → command_of words ≡ Some a → command_of other ≡ Some b → Twins a b → Causes words (Some files) (Rose before now) old new r →
-    Causes other (Some files) (Rose past later) from to s → IsAnswered r → IsAnswered s → Refuses r → r ≡ s
+refused_alike : (words other : List (List ℕ)) (files : Files) (a b : Command) (before now old new past later from to : ℕ) (r s : Run) → command_of words ≡ Some a → command_of other ≡ Some b
+    → Twins a b → Causes words (Some files) (Rose before now) old new r
+    → Causes other (Some files) (Rose past later) from to s → IsAnswered r → IsAnswered s → Refuses r → r ≡ s
 refused_alike words other files a b before now old new past later from to (run.Refused t) s form meant twins h k i j is =
     only_run other (Some files) (Rose before now) from from (run.Refused t) (refused_moved words other (Some files) a b form meant twins t h.0, inl refl) tt s past later from to k j
 refused_alike words other files a b before now old new past later from to (run.CertRefused section fault) s form meant twins h k i j is =
-    only_run other (Some files) (Rose before now) from from (run.CertRefused section fault) (cert_moved words other (Some files) a b form meant twins section fault h.0, refl) tt s past later from to k j
+    only_run other (Some files) (Rose before now) from from (run.CertRefused section fault)
+    (cert_moved words other (Some files) a b form meant twins section fault h.0, refl) tt s past later from to k j
 refused_alike words other files a b before now old new past later from to run.Usage s form meant twins h k i j is = absurd is
 refused_alike words other files a b before now old new past later from to (run.Checked c) s form meant twins h k i j is = absurd is
 refused_alike words other files a b before now old new past later from to (run.Solved word sense outcomes warm) s form meant twins h k i j is = absurd is
@@ -118,10 +121,14 @@ pub migrate_refuses_as_certify : MigrateRefusesAsCertify
 migrate_refuses_as_certify = λ certifying migrating script settings name files before now old new past later from to c m form meant h k i j which.
     by certifying migrating script settings name files before now old new past later from to c m form meant h k i j which
   where
-    by : (certifying migrating : List (List ℕ)) (script settings name : List ℕ) (files : Files) (before now old new past later from to : ℕ) (c m : Run) → command_of certifying ≡ Some (certify script settings name) →
-        command_of migrating ≡ Some (migrate script settings name) → Causes certifying (Some files) (Rose before now) old new c → Causes migrating (Some files) (Rose past later) from to m → IsAnswered c → IsAnswered m →
-        Refuses c ⊎ Refuses m → c ≡ m
+    by : (certifying migrating : List (List ℕ)) (script settings name : List ℕ) (files : Files) (before now old new past later from to : ℕ) (c m : Run)
+        → command_of certifying ≡ Some (certify script settings name)
+        → command_of migrating ≡ Some (migrate script settings name) → Causes certifying (Some files) (Rose before now) old new c → Causes migrating (Some files) (Rose past later) from to m
+        → IsAnswered c → IsAnswered m
+        → Refuses c ⊎ Refuses m → c ≡ m
     by certifying migrating script settings name files before now old new past later from to c m form meant h k i j (inl is) =
-        refused_alike certifying migrating files (certify script settings name) (migrate script settings name) before now old new past later from to c m form meant (certify_migrate script settings name) h k i j is
+        refused_alike certifying migrating files (certify script settings name) (migrate script settings name) before now old new past later from to c m form meant
+        (certify_migrate script settings name) h k i j is
     by certifying migrating script settings name files before now old new past later from to c m form meant h k i j (inr is) =
-        sym (refused_alike migrating certifying files (migrate script settings name) (certify script settings name) past later from to before now old new m c meant form (migrate_certify script settings name) k h j i is)
+        sym (refused_alike migrating certifying files (migrate script settings name) (certify script settings name) past later from to before now old new m c meant form
+        (migrate_certify script settings name) k h j i is)

@@ -16,8 +16,6 @@ use Rattle.dcx_cert_text.proofs.Fronts.{one_line}
 use Rattle.dcx_cert_runs.specs.Sections.{StopsSomewhere, IsCertificateAt}
 use Rattle.dcx_cert_runs.specs.Checking.{is_cert, ArePassed, IsFirstRefused}
 use Rattle.dcx_cert_runs.specs.Migrating.{IsMigrated}
-use Rattle.dcx_cert_runs.specs.Laws.{AreAlike}
-use Rattle.dcx_cert_runs.proofs.OneCertificate.{certificates_are_one}
 use Rattle.dcx_cert_runs.proofs.OneRefusal.{refusals_are_one}
 use Rattle.dcx_cert_runs.proofs.Migrated.{migrations_are_one}
 use Rattle.dcx_words.specs.Commands.{Command, certificate, certify, migrate, command_of}
@@ -25,9 +23,10 @@ use Rattle.dcx_report.specs.declared.run.Run.TheVariants as run
 use Rattle.dcx_top.specs.Commands.{AreSettingsOf, limit_of}
 use Rattle.dcx_top.specs.Files.{HasTextOf, IsMisread}
 use Rattle.dcx_top.specs.Runs.{GivesProblem, IsCertificateRun, HasCertificate, ReadsSections, HasPassed, IsMigrateRun, IsCertifiedRun, IsCertRefusedRun, misread, failed}
-use Rattle.dcx_top.specs.OneRun.{AreAlikeTexts, AreOneRun}
+use Rattle.dcx_top.specs.OneRun.{AreOneRun, told_same}
 use Rattle.dcx_top.proofs.Refusals.{one_problem, same_command}
 use Rattle.dcx_top.proofs.OneSettings.{one_settings}
+use Rattle.dcx_top.proofs.OneText.{one_certificate}
 
 same_flag : (s t : Bool) → (IsTrue s → IsTrue t) → (IsTrue t → IsTrue s) → s ≡ t
 same_flag true true f g = refl
@@ -51,12 +50,9 @@ module _ (files : Files) (c : Command) (a b : Accepted) (ss ts : List Pairs) (g 
   carry_back : (P : Accepted → List Pairs → Type 0) → P b ts → P a ss
   carry_back P h = subst (λ (x : Accepted). P x ss) (sym same_accepted) (subst (λ (x : List Pairs). P b x) (sym same_settings) h)
 
-  alike : (x y : Sections) → IsCertificateAt a.work.problem (limit_of c) ss x → IsCertificateAt b.work.problem (limit_of c) ts y → AreAlike a.work.problem x.list y.list
-  alike x y h k =
-      certificates_are_one a.work.problem (limit_of c) ss x y (acceptance g.bytes a g.gives).judged.accepted h (carry_back (λ z us. IsCertificateAt z.work.problem (limit_of c) us y) k)
-
-  alike_over : (x y : Sections) → AreAlike a.work.problem x.list y.list → (z : Accepted) → GivesProblem (Some files) c z → AreAlike z.work.problem x.list y.list
-  alike_over x y h z j = subst (λ (w : Accepted). AreAlike w.work.problem x.list y.list) (one_problem files c a z g j) h
+  one_written : (x y : Sections) → IsCertificateAt a.work.problem (limit_of c) ss x → IsCertificateAt b.work.problem (limit_of c) ts y → x ≡ y
+  one_written x y h k =
+      one_certificate a.work.problem (limit_of c) ss x y (acceptance g.bytes a g.gives).judged.accepted h (carry_back (λ z us. IsCertificateAt z.work.problem (limit_of c) us y) k)
 
   same_stops : (s t : Bool) → IsTrue s ↔ StopsSomewhere a.work.problem (limit_of c) ss → IsTrue t ↔ StopsSomewhere b.work.problem (limit_of c) ts → s ≡ t
   same_stops s t h k =
@@ -66,27 +62,21 @@ module _ (files : Files) (c : Command) (a b : Accepted) (ss ts : List Pairs) (g 
 module _ (words : List (List ℕ)) (files : Files) where
   written_by : (c d : Command) (same : d ≡ c) (a b : Accepted) (ss ts : List Pairs) (x y : Sections) (s t : Bool) (bytes others : List ℕ) → GivesProblem (Some files) c a → GivesProblem (Some files) d b
       → AreSettingsOf (Some files) c a.work ss → AreSettingsOf (Some files) d b.work ts → IsCertificateAt a.work.problem (limit_of c) ss x → IsCertificateAt b.work.problem (limit_of d) ts y
-      → IsTrue s ↔ StopsSomewhere a.work.problem (limit_of c) ss → IsTrue t ↔ StopsSomewhere b.work.problem (limit_of d) ts → bytes ≡ cert_text x → others ≡ cert_text y → (s ≡ t) × AreAlikeTexts files c bytes others
+      → IsTrue s ↔ StopsSomewhere a.work.problem (limit_of c) ss → IsTrue t ↔ StopsSomewhere b.work.problem (limit_of d) ts → bytes ≡ cert_text x → others ≡ cert_text y → (s ≡ t) × (bytes ≡ others)
   written_by c d same a b ss ts x y s t bytes others g i asked also h k p q text other =
       let j = subst (λ e. GivesProblem (Some files) e b) same i in
       let here = subst (λ e. AreSettingsOf (Some files) e b.work ts) same also in (
         same_stops files c a b ss ts g j asked here s t p (subst (λ e. IsTrue t ↔ StopsSomewhere b.work.problem (limit_of e) ts) same q),
-        (
-          x,
-          y,
-          text,
-          other,
-          alike_over files c a b ss ts g j asked here x y (alike files c a b ss ts g j asked here x y h (subst (λ e. IsCertificateAt b.work.problem (limit_of e) ts y) same k)),
-        ),
+        text ∙ ap cert_text (one_written files c a b ss ts g j asked here x y h (subst (λ e. IsCertificateAt b.work.problem (limit_of e) ts y) same k)) ∙ sym other,
       )
 
   pub written_once : (old new was now : ℕ) (bytes others : List ℕ) (s t : Bool) → IsCertificateRun words (Some files) old new bytes s → IsCertificateRun words (Some files) was now others t
-      → AreOneRun words files (run.Certificates bytes s) (run.Certificates others t)
+      → AreOneRun (run.Certificates bytes s) (run.Certificates others t)
   written_once old new was now bytes others s t h k =
       let c = certificate h.script h.name h.limit in
       let d = certificate k.script k.name k.limit in
       let both = written_by c d (same_command words files c h.form d k.form) h.accepted k.accepted h.settings k.settings h.sections k.sections s t bytes others h.problem k.problem h.asked k.asked h.are k.are h.flag k.flag h.text k.text in
-      (both.0, (c, h.form, both.1))
+      told_same (λ i. run.Certificates (both.1 i) (both.0 i))
 
   -- ---- a certificate that is read
   module _ (command : Command) (f g : HasCertificate words (Some files) command) where
@@ -181,7 +171,7 @@ module _ (words : List (List ℕ)) (files : Files) where
       subst (λ e. (g : ReadsSections words (Some files) e y) (n : ℕ) (q : CertFault) → ArePassed f.files.accepted.work.problem f.files.settings x.list
       → IsFirstRefused g.files.accepted.work.problem g.files.settings y.list n q → ⊥) same (λ g. passed_or_failed c x y f g)
 
-  read_or_misread_by : (c d : Command) → c ≡ d → (x : Sections) (f : ReadsSections words (Some files) c x) (g : HasCertificate words (Some files) d) (n : ℕ) (q : CertFault)
+  pub read_or_misread_by : (c d : Command) → c ≡ d → (x : Sections) (f : ReadsSections words (Some files) c x) (g : HasCertificate words (Some files) d) (n : ℕ) (q : CertFault)
       → IsMisread (Some files) g.name g.accepted.work.problem (length g.settings) n q → ⊥
   read_or_misread_by c d same x f =
       subst (λ e. (g : HasCertificate words (Some files) e) (n : ℕ) (q : CertFault) → IsMisread (Some files) g.name g.accepted.work.problem (length g.settings) n q → ⊥) same

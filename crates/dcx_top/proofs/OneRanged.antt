@@ -17,14 +17,16 @@ use Rattle.dcx_top.proofs.OneSettings.{one_settings}
 
 module _ (words : List (List ℕ)) (files : Files) where
   -- the outcomes of one problem at the same settings
-  alike_at : (command : Command) (a : Accepted) (name : List ℕ) (ss ts : List Pairs) (os qs : List RangeOutcome) → AreSettingsOf (Some files) command a.work ss → AreSettingsOf (Some files) command a.work ts →
-      AreRangeOutcomes a.work.problem name (limit_of command) ss os → AreRangeOutcomes a.work.problem name (limit_of command) ts qs → AreAlikeRanges os qs
+  alike_at : (command : Command) (a : Accepted) (name : List ℕ) (ss ts : List Pairs) (os qs : List RangeOutcome) → AreSettingsOf (Some files) command a.work ss
+      → AreSettingsOf (Some files) command a.work ts
+      → AreRangeOutcomes a.work.problem name (limit_of command) ss os → AreRangeOutcomes a.work.problem name (limit_of command) ts qs → AreAlikeRanges os qs
   alike_at command a name ss ts os qs asked also h k =
       ranges_are_one a.work.problem name (limit_of command) ss os qs h
       (subst (λ (x : List Pairs). AreRangeOutcomes a.work.problem name (limit_of command) x qs) (sym (one_settings files command a.work ss ts asked also)) k)
 
-  pub ranged_once : (old new was now : ℕ) (name other : List ℕ) (sense way : Sense) (os qs : List RangeOutcome) → IsRangedRun words (Some files) old new name sense os → IsRangedRun words (Some files) was now other way qs →
-      (name ≡ other) × (sense ≡ way) × AreAlikeRanges os qs
+  pub ranged_once : (old new was now : ℕ) (name other : List ℕ) (sense way : Sense) (os qs : List RangeOutcome) → IsRangedRun words (Some files) old new name sense os
+      → IsRangedRun words (Some files) was now other way qs
+      → (name ≡ other) × (sense ≡ way) × AreAlikeRanges os qs
   ranged_once old new was now name other sense way os qs h k = (
     sym called,
     h.sense_is ∙ ap (λ (x : Accepted). x.work.problem.sense) one ∙ sym k.sense_is,

@@ -16,7 +16,8 @@ use Rattle.dcx_report.specs.declared.run.Run.{Run}
 use Rattle.dcx_words.specs.Commands.{Command, check, solve, resolve, certificate, certify, migrate, trial, iis, range, command_of}
 use Rattle.dcx_top.specs.Commands.{certificate_name, TellsOutcomes, TellsWholes}
 use Rattle.dcx_top.specs.Files.{most_bytes}
-use Rattle.dcx_top.specs.Runs.{IsChecked, IsSolvedRun, IsBranchedRun, IsFilteredRun, IsRangedRun, IsCertificateRun, HasCertificate, ReadsSections, IsMigrateRun, IsCertifiedRun, IsCertRefusedRun, misread, failed, IsRefusedRun, long_script, bad_script, for_whole, for_range, bad_settings, long_certificate}
+use Rattle.dcx_top.specs.Runs.{IsChecked, IsSolvedRun, IsBranchedRun, IsFilteredRun, IsRangedRun, IsCertificateRun, HasCertificate, ReadsSections, IsMigrateRun, IsCertifiedRun}
+use Rattle.dcx_top.specs.Runs.{IsCertRefusedRun, misread, failed, IsRefusedRun, long_script, bad_script, for_whole, for_range, bad_settings, long_certificate}
 use Rattle.dcx_top.specs.Whole.{RefusesWhole}
 use Rattle.dcx_top.proofs.Named.{unasked, allowed, allowed_reading, tells_no_parameter, wholes_no_parameter}
 use Rattle.dcx_top.proofs.Refusals.{refuses, one_refused, IsShort, never_refused, never_refused_check}
@@ -85,7 +86,9 @@ module _ (words : List (List ℕ)) (files : Files) where
 
   pub refused_or_solved : (r : Refusal) (old new : ℕ) (s : Run) → IsRefusedRun words (Some files) r → IsSolvedRun words (Some files) old new s → ⊥
   refused_or_solved r old new s h k =
-      never_refused files k.command k.accepted k.settings r k.problem (λ refusing. k.continuous) (unasked k.command k.accepted.work.problem (tells_no_parameter k.command k.accepted.work.problem.sense k.outcomes k.warm s k.tells)) k.asked (short_of_none k.command (tells_none k.command k.accepted.work.problem.sense k.outcomes k.warm s k.tells)) (refuses words files k.command k.form r h)
+      never_refused files k.command k.accepted k.settings r k.problem (λ refusing. k.continuous)
+      (unasked k.command k.accepted.work.problem (tells_no_parameter k.command k.accepted.work.problem.sense k.outcomes k.warm s k.tells)) k.asked
+      (short_of_none k.command (tells_none k.command k.accepted.work.problem.sense k.outcomes k.warm s k.tells)) (refuses words files k.command k.form r h)
 
   pub refused_or_branched : (r : Refusal) (old new : ℕ) (s : Run) → IsRefusedRun words (Some files) r → IsBranchedRun words (Some files) old new s → ⊥
   refused_or_branched r old new s h k =
@@ -97,24 +100,30 @@ module _ (words : List (List ℕ)) (files : Files) where
   pub refused_or_written : (r : Refusal) (old new : ℕ) (bytes : List ℕ) (stopped : Bool) → IsRefusedRun words (Some files) r → IsCertificateRun words (Some files) old new bytes stopped → ⊥
   refused_or_written r old new bytes stopped h k =
       let command = certificate k.script k.name k.limit in
-      never_refused files command k.accepted k.settings r k.problem (λ refusing. k.continuous) (unasked command k.accepted.work.problem refl) k.asked (short_of_none command refl) (refuses words files command k.form r h)
+      never_refused files command k.accepted k.settings r k.problem (λ refusing. k.continuous) (unasked command k.accepted.work.problem refl) k.asked (short_of_none command refl)
+      (refuses words files command k.form r h)
 
   pub refused_or_filtered : (r : Refusal) (old new : ℕ) (os : List FilterOutcome) → IsRefusedRun words (Some files) r → IsFilteredRun words (Some files) old new os → ⊥
   refused_or_filtered r old new os h k =
       let command = iis k.script k.name k.limit in
-      never_refused files command k.accepted k.settings r k.problem (λ refusing. k.continuous) (unasked command k.accepted.work.problem refl) k.asked (short_of_none command refl) (refuses words files command k.form r h)
+      never_refused files command k.accepted k.settings r k.problem (λ refusing. k.continuous) (unasked command k.accepted.work.problem refl) k.asked (short_of_none command refl)
+      (refuses words files command k.form r h)
 
-  pub refused_or_ranged : (r : Refusal) (old new : ℕ) (name : List ℕ) (sense : Sense) (os : List RangeOutcome) → IsRefusedRun words (Some files) r → IsRangedRun words (Some files) old new name sense os → ⊥
+  pub refused_or_ranged : (r : Refusal) (old new : ℕ) (name : List ℕ) (sense : Sense) (os : List RangeOutcome) → IsRefusedRun words (Some files) r
+      → IsRangedRun words (Some files) old new name sense os → ⊥
   refused_or_ranged r old new name sense os h k =
       let command = range k.script k.name name k.limit in
-      never_refused files command k.accepted k.settings r k.problem (λ refusing. k.continuous) (allowed command k.accepted.work.problem name refl k.ranged) k.asked (short_of_none command refl) (refuses words files command k.form r h)
+      never_refused files command k.accepted k.settings r k.problem (λ refusing. k.continuous) (allowed command k.accepted.work.problem name refl k.ranged) k.asked (short_of_none command refl)
+      (refuses words files command k.form r h)
 
   -- ---- runs that read a certificate
-  refused_or_files : (r : Refusal) (command : Command) (f : HasCertificate words (Some files) command) (bytes : List ℕ) → files f.name ≡ Some bytes → length bytes ≤ most_bytes Certificate → IsRefusedRun words (Some files) r → ⊥
+  refused_or_files : (r : Refusal) (command : Command) (f : HasCertificate words (Some files) command) (bytes : List ℕ) → files f.name ≡ Some bytes → length bytes ≤ most_bytes Certificate
+      → IsRefusedRun words (Some files) r → ⊥
   refused_or_files r command f bytes there few h =
-      never_refused files command f.accepted f.settings r f.problem (λ refusing. f.continuous) (allowed_reading command f.accepted.work.problem f.name f.named) f.asked (short_of command f.name bytes f.named there few) (refuses words files command f.form r h)
+      never_refused files command f.accepted f.settings r f.problem (λ refusing. f.continuous) (allowed_reading command f.accepted.work.problem f.name f.named) f.asked
+      (short_of command f.name bytes f.named there few) (refuses words files command f.form r h)
 
-  refused_or_read : (r : Refusal) (command : Command) (sections : Sections) → IsRefusedRun words (Some files) r → ReadsSections words (Some files) command sections → ⊥
+  pub refused_or_read : (r : Refusal) (command : Command) (sections : Sections) → IsRefusedRun words (Some files) r → ReadsSections words (Some files) command sections → ⊥
   refused_or_read r command sections h k = refused_or_files r command k.files k.has.bytes k.has.are_told k.has.few h
 
   pub refused_or_migrated : (r : Refusal) (bytes : List ℕ) → IsRefusedRun words (Some files) r → IsMigrateRun words (Some files) bytes → ⊥

@@ -14,9 +14,9 @@ use Rattle.dcx_answer.specs.declared.range_outcome.RangeOutcome.{RangeOutcome}
 use Rattle.dcx_tree.specs.declared.constraint.Sense.{Sense}
 use Rattle.dcx_report.specs.declared.run.Run.{Run}
 use Rattle.dcx_report.specs.declared.run.Run.TheVariants as run
-use Rattle.dcx_words.specs.Commands.{check, migrate, command_of}
+use Rattle.dcx_words.specs.Commands.{check, command_of}
 use Rattle.dcx_top.specs.Runs.{GivesProblem, IsChecked, IsSolvedRun, IsBranchedRun, IsFilteredRun, IsRangedRun, AreBytesOf, IsCertifiedRun, IsCertRefusedRun, IsRefusedRun, Causes}
-use Rattle.dcx_top.specs.OneRun.{IsAnswered, AreOneRun, no_files, IsOnlyRun}
+use Rattle.dcx_top.specs.OneRun.{IsAnswered, AreOneRun, told_same, told_filtered, told_ranged, no_files, IsOnlyRun}
 use Rattle.dcx_top.proofs.Trials.{trial_caused}
 use Rattle.dcx_top.proofs.OneFiltered.{filtered_once}
 use Rattle.dcx_top.proofs.OneRanged.{ranged_once}
@@ -92,14 +92,16 @@ module _ (words : List (List ℕ)) (files : Files) where
       one_found k.accepted.work.problem c d (subst (λ (x : Accepted). IsFoundOf x.work.problem c) one h.found) k.found
 
   bytes_once : (old new was now : ℕ) (bytes others : List ℕ) (s t : Bool) → AreBytesOf words (Some files) old new bytes s → AreBytesOf words (Some files) was now others t
-      → AreOneRun words files (run.Certificates bytes s) (run.Certificates others t)
+      → AreOneRun (run.Certificates bytes s) (run.Certificates others t)
   bytes_once old new was now bytes others s t (inl h) (inl k) = written_once words files old new was now bytes others s t h k
   bytes_once old new was now bytes others s t (inl h) (inr (k, off, still)) =
       absurd (writes_migrates (same_kind words files writes migrates (ask_writes words files old new bytes s h) (ask_migrates words files others k)))
   bytes_once old new was now bytes others s t (inr (h, off, still)) (inl k) =
       absurd (writes_migrates (same_kind words files writes migrates (ask_writes words files was now others t k) (ask_migrates words files bytes h)))
   bytes_once old new was now bytes others s t (inr (h, off, still)) (inr (k, down, same)) =
-      (off ∙ sym down, (migrate h.script h.settings h.name, h.passed.reads.files.form, migrated_once words files bytes others h k))
+      let text = migrated_once words files bytes others h k in
+      let flag : s ≡ t = off ∙ sym down in
+      told_same (λ i. run.Certificates (text i) (flag i))
 
   -- ---- certificates that are written, beside runs of other kinds
   bytes_or_other : (old new : ℕ) (bytes : List ℕ) (stopped : Bool) (k : Kind) → (k ≡ writes → ⊥) → (k ≡ migrates → ⊥) → AreBytesOf words (Some files) old new bytes stopped → Asks words k → ⊥
@@ -187,8 +189,8 @@ module _ (words : List (List ℕ)) (files : Files) where
 
   -- ---- all runs
   module _ (rose : Type 0) (was now : ℕ) where
-    of_usage : (s : Run) → command_of words ≡ None → Causes words (Some files) rose was now s → IsAnswered s → AreOneRun words files run.Usage s
-    of_usage run.Usage h k j = refl
+    of_usage : (s : Run) → command_of words ≡ None → Causes words (Some files) rose was now s → IsAnswered s → AreOneRun run.Usage s
+    of_usage run.Usage h k j = told_same refl
     of_usage (run.Refused t) h k j = absurd (none_refused t h k.0)
     of_usage (run.Checked d) h k j = absurd (not_asked checks h (ask_checks words files d k.0))
     of_usage (run.Solved w s os u) h k j = absurd (not_asked solves h (ask_solves words files was now (run.Solved w s os u) k))
@@ -202,9 +204,9 @@ module _ (words : List (List ℕ)) (files : Files) where
     of_usage run.ReadFault h k j = absurd j
     of_usage run.Memory h k j = absurd j
 
-    of_refused : (r : Refusal) (s : Run) → IsRefusedRun words (Some files) r → Causes words (Some files) rose was now s → IsAnswered s → AreOneRun words files (run.Refused r) s
+    of_refused : (r : Refusal) (s : Run) → IsRefusedRun words (Some files) r → Causes words (Some files) rose was now s → IsAnswered s → AreOneRun (run.Refused r) s
     of_refused r run.Usage h k j = absurd (none_refused r k.0 h)
-    of_refused r (run.Refused t) h k j = ap run.Refused (refused_once words files r t h k.0)
+    of_refused r (run.Refused t) h k j = told_same (ap run.Refused (refused_once words files r t h k.0))
     of_refused r (run.Checked d) h k j = absurd (refused_or_checked words files r d h k.0)
     of_refused r (run.Solved w s os u) h k j = absurd (refused_or_solved words files r was now (run.Solved w s os u) h k)
     of_refused r (run.Branched w s os) h k j = absurd (refused_or_branched words files r was now (run.Branched w s os) h k)
@@ -217,10 +219,10 @@ module _ (words : List (List ℕ)) (files : Files) where
     of_refused r run.ReadFault h k j = absurd j
     of_refused r run.Memory h k j = absurd j
 
-    of_checked : (c : Checked) (s : Run) → IsChecked words (Some files) c → Causes words (Some files) rose was now s → IsAnswered s → AreOneRun words files (run.Checked c) s
+    of_checked : (c : Checked) (s : Run) → IsChecked words (Some files) c → Causes words (Some files) rose was now s → IsAnswered s → AreOneRun (run.Checked c) s
     of_checked c run.Usage h k j = absurd (not_asked checks k.0 (ask_checks words files c h))
     of_checked c (run.Refused t) h k j = absurd (refused_or_checked words files t c k.0 h)
-    of_checked c (run.Checked d) h k j = ap run.Checked (checked_once c d h k.0)
+    of_checked c (run.Checked d) h k j = told_same (ap run.Checked (checked_once c d h k.0))
     of_checked c (run.Solved w s os u) h k j = absurd (checked_or_solved c h (ask_solves words files was now (run.Solved w s os u) k))
     of_checked c (run.Branched w s os) h k j = absurd (checked_or_solved c h (ask_branches words files was now (run.Branched w s os) k))
     of_checked c (run.Certificates b s) h k j = absurd (checked_or_bytes c was now b s h k)
@@ -232,7 +234,7 @@ module _ (words : List (List ℕ)) (files : Files) where
     of_checked c run.ReadFault h k j = absurd j
     of_checked c run.Memory h k j = absurd j
 
-    of_solved : (old new : ℕ) (r s : Run) → IsSolvedRun words (Some files) old new r → Causes words (Some files) rose was now s → IsAnswered s → AreOneRun words files r s
+    of_solved : (old new : ℕ) (r s : Run) → IsSolvedRun words (Some files) old new r → Causes words (Some files) rose was now s → IsAnswered s → AreOneRun r s
     of_solved old new r run.Usage h k j = absurd (not_asked solves k.0 (ask_solves words files old new r h))
     of_solved old new r (run.Refused t) h k j = absurd (refused_or_solved words files t old new r k.0 h)
     of_solved old new r (run.Checked d) h k j = absurd (checked_or_solved d k.0 (ask_solves words files old new r h))
@@ -247,7 +249,7 @@ module _ (words : List (List ℕ)) (files : Files) where
     of_solved old new r run.ReadFault h k j = absurd j
     of_solved old new r run.Memory h k j = absurd j
 
-    of_branched : (old new : ℕ) (r s : Run) → IsBranchedRun words (Some files) old new r → Causes words (Some files) rose was now s → IsAnswered s → AreOneRun words files r s
+    of_branched : (old new : ℕ) (r s : Run) → IsBranchedRun words (Some files) old new r → Causes words (Some files) rose was now s → IsAnswered s → AreOneRun r s
     of_branched old new r run.Usage h k j = absurd (not_asked solves k.0 (ask_branches words files old new r h))
     of_branched old new r (run.Refused t) h k j = absurd (refused_or_branched words files t old new r k.0 h)
     of_branched old new r (run.Checked d) h k j = absurd (checked_or_solved d k.0 (ask_branches words files old new r h))
@@ -262,7 +264,7 @@ module _ (words : List (List ℕ)) (files : Files) where
     of_branched old new r run.ReadFault h k j = absurd j
     of_branched old new r run.Memory h k j = absurd j
 
-    of_bytes : (old new : ℕ) (b : List ℕ) (s : Bool) (other : Run) → AreBytesOf words (Some files) old new b s → Causes words (Some files) rose was now other → IsAnswered other → AreOneRun words files (run.Certificates b s) other
+    of_bytes : (old new : ℕ) (b : List ℕ) (s : Bool) (other : Run) → AreBytesOf words (Some files) old new b s → Causes words (Some files) rose was now other → IsAnswered other → AreOneRun (run.Certificates b s) other
     of_bytes old new b s run.Usage h k j = absurd (none_written old new b s k.0 h)
     of_bytes old new b s (run.Refused t) h k j = absurd (bytes_or_refused old new b s t h k.0)
     of_bytes old new b s (run.Checked d) h k j = absurd (checked_or_bytes d old new b s k.0 h)
@@ -277,14 +279,14 @@ module _ (words : List (List ℕ)) (files : Files) where
     of_bytes old new b s run.ReadFault h k j = absurd j
     of_bytes old new b s run.Memory h k j = absurd j
 
-    of_certified : (n : ℕ) (s : Run) → IsCertifiedRun words (Some files) n → Causes words (Some files) rose was now s → IsAnswered s → AreOneRun words files (run.Certified n) s
+    of_certified : (n : ℕ) (s : Run) → IsCertifiedRun words (Some files) n → Causes words (Some files) rose was now s → IsAnswered s → AreOneRun (run.Certified n) s
     of_certified n run.Usage h k j = absurd (not_asked certifies k.0 (ask_certifies words files n h))
     of_certified n (run.Refused t) h k j = absurd (refused_or_certified words files t n k.0 h)
     of_certified n (run.Checked d) h k j = absurd (checked_or_certified d n k.0 h)
     of_certified n (run.Solved w s os u) h k j = absurd (solved_or_certified (ask_solves words files was now (run.Solved w s os u) k) n h)
     of_certified n (run.Branched w s os) h k j = absurd (solved_or_certified (ask_branches words files was now (run.Branched w s os) k) n h)
     of_certified n (run.Certificates b s) h k j = absurd (bytes_or_certified was now b s n k h)
-    of_certified n (run.Certified m) h k j = ap run.Certified (certified_once words files n m h k.0)
+    of_certified n (run.Certified m) h k j = told_same (ap run.Certified (certified_once words files n m h k.0))
     of_certified n (run.CertRefused m f) h k j = absurd (certified_or_refused words files n m f h k.0)
     of_certified n (run.Trial m os) h k j = absurd (solved_or_certified (ask_solves words files was now (run.Trial m os) k) n h)
     of_certified n (run.Filtered os) h k j = absurd (filtered_or_certified was now os k n h)
@@ -292,7 +294,7 @@ module _ (words : List (List ℕ)) (files : Files) where
     of_certified n run.ReadFault h k j = absurd j
     of_certified n run.Memory h k j = absurd j
 
-    of_cert_refused : (m : ℕ) (f : CertFault) (s : Run) → IsCertRefusedRun words (Some files) m f → Causes words (Some files) rose was now s → IsAnswered s → AreOneRun words files (run.CertRefused m f) s
+    of_cert_refused : (m : ℕ) (f : CertFault) (s : Run) → IsCertRefusedRun words (Some files) m f → Causes words (Some files) rose was now s → IsAnswered s → AreOneRun (run.CertRefused m f) s
     of_cert_refused m f run.Usage h k j = absurd (none_cert_refused m f k.0 h)
     of_cert_refused m f (run.Refused t) h k j = absurd (refused_or_cert_refused words files t m f k.0 h)
     of_cert_refused m f (run.Checked d) h k j = absurd (checked_or_cert_refused d m f k.0 h)
@@ -300,14 +302,14 @@ module _ (words : List (List ℕ)) (files : Files) where
     of_cert_refused m f (run.Branched w s os) h k j = absurd (solved_or_cert_refused (ask_branches words files was now (run.Branched w s os) k) m f h)
     of_cert_refused m f (run.Certificates b s) h k j = absurd (bytes_or_cert_refused was now b s m f k h)
     of_cert_refused m f (run.Certified n) h k j = absurd (certified_or_refused words files n m f k.0 h)
-    of_cert_refused m f (run.CertRefused n g) h k j = cert_refused_once words files m n f g h k.0
+    of_cert_refused m f (run.CertRefused n g) h k j = told_same (cert_refused_once words files m n f g h k.0)
     of_cert_refused m f (run.Trial n os) h k j = absurd (solved_or_cert_refused (ask_solves words files was now (run.Trial n os) k) m f h)
     of_cert_refused m f (run.Filtered os) h k j = absurd (filtered_or_cert_refused was now os k m f h)
     of_cert_refused m f (run.Ranged name sense os) h k j = absurd (ranged_or_cert_refused was now name sense os k m f h)
     of_cert_refused m f run.ReadFault h k j = absurd j
     of_cert_refused m f run.Memory h k j = absurd j
 
-    of_filtered : (old new : ℕ) (os : List FilterOutcome) (s : Run) → IsFilteredRun words (Some files) old new os → Causes words (Some files) rose was now s → IsAnswered s → AreOneRun words files (run.Filtered os) s
+    of_filtered : (old new : ℕ) (os : List FilterOutcome) (s : Run) → IsFilteredRun words (Some files) old new os → Causes words (Some files) rose was now s → IsAnswered s → AreOneRun (run.Filtered os) s
     of_filtered old new os run.Usage h k j = absurd (not_asked filters k.0 (ask_filters words files old new os h))
     of_filtered old new os (run.Refused t) h k j = absurd (refused_or_filtered words files t old new os k.0 h)
     of_filtered old new os (run.Checked d) h k j = absurd (filtered_or_checked old new os h d k.0)
@@ -317,13 +319,13 @@ module _ (words : List (List ℕ)) (files : Files) where
     of_filtered old new os (run.Certified n) h k j = absurd (filtered_or_certified old new os h n k.0)
     of_filtered old new os (run.CertRefused m f) h k j = absurd (filtered_or_cert_refused old new os h m f k.0)
     of_filtered old new os (run.Trial n qs) h k j = absurd (filtered_or_solved old new os h (ask_solves words files was now (run.Trial n qs) k))
-    of_filtered old new os (run.Filtered qs) h k j = filtered_once words files old new was now os qs h k
+    of_filtered old new os (run.Filtered qs) h k j = told_filtered os qs refl refl (filtered_once words files old new was now os qs h k)
     of_filtered old new os (run.Ranged name sense qs) h k j = absurd (ranged_or_filtered was now name sense qs k old new os h)
     of_filtered old new os run.ReadFault h k j = absurd j
     of_filtered old new os run.Memory h k j = absurd j
 
     of_ranged : (old new : ℕ) (name : List ℕ) (sense : Sense) (os : List RangeOutcome) (s : Run) → IsRangedRun words (Some files) old new name sense os → Causes words (Some files) rose was now s → IsAnswered s →
-        AreOneRun words files (run.Ranged name sense os) s
+        AreOneRun (run.Ranged name sense os) s
     of_ranged old new name sense os run.Usage h k j = absurd (not_asked ranges k.0 (ask_ranges words files old new name sense os h))
     of_ranged old new name sense os (run.Refused t) h k j = absurd (refused_or_ranged words files t old new name sense os k.0 h)
     of_ranged old new name sense os (run.Checked d) h k j = absurd (ranged_or_checked old new name sense os h d k.0)
@@ -334,11 +336,13 @@ module _ (words : List (List ℕ)) (files : Files) where
     of_ranged old new name sense os (run.CertRefused m f) h k j = absurd (ranged_or_cert_refused old new name sense os h m f k.0)
     of_ranged old new name sense os (run.Trial n qs) h k j = absurd (ranged_or_solved old new name sense os h (ask_solves words files was now (run.Trial n qs) k))
     of_ranged old new name sense os (run.Filtered qs) h k j = absurd (ranged_or_filtered old new name sense os h was now qs k)
-    of_ranged old new name sense os (run.Ranged other way qs) h k j = ranged_once words files old new was now name other sense way os qs h k
+    of_ranged old new name sense os (run.Ranged other way qs) h k j =
+        let (called, way_is, alike) = ranged_once words files old new was now name other sense way os qs h k in
+        told_ranged name sense os qs refl (λ i. run.Ranged (sym called i) (sym way_is i) qs) alike
     of_ranged old new name sense os run.ReadFault h k j = absurd j
     of_ranged old new name sense os run.Memory h k j = absurd j
 
-    one : (risen : Type 0) (old new : ℕ) (r s : Run) → Causes words (Some files) risen old new r → Causes words (Some files) rose was now s → IsAnswered r → IsAnswered s → AreOneRun words files r s
+    one : (risen : Type 0) (old new : ℕ) (r s : Run) → Causes words (Some files) risen old new r → Causes words (Some files) rose was now s → IsAnswered r → IsAnswered s → AreOneRun r s
     one risen old new run.Usage s h k i j = of_usage s h.0 k j
     one risen old new (run.Refused r) s h k i j = of_refused r s h.0 k j
     one risen old new (run.Checked c) s h k i j = of_checked c s h.0 k j

@@ -26,7 +26,8 @@ passed_shown p settings list ok are h = record {
   count = h.count;
   each = λ k s x at here.
       section_shown p s x ok
-      (subst (IsSectionOf (problem_outline p)) (get_or_from_slice_get list k x x here) (All-get_or (IsSectionOf (problem_outline p)) list k x (slice_get_within list k x here) are)) (h.each k s x at here);
+      (subst (IsSectionOf (problem_outline p)) (get_or_from_slice_get list k x x here) (All-get_or (IsSectionOf (problem_outline p)) list k x (slice_get_within list k x here) are))
+      (h.each k s x at here);
 }
 
 still_shown : (p : Problem) (s : Pairs) (x : Section) → IsSectionShown p s x → IsSectionShown p s (with_values p s x)

@@ -46,8 +46,9 @@ told_fault section faults.Memory = inl refl
 
 -- ---- the file
 -- its bytes are the text of no certificate
-misread_so : (told : Option Files) (risen : Type 0) (name bytes : List ℕ) (p : Problem) (count : ℕ) (fault : CertFault) → IsTold told name bytes → length bytes ≤ most_bytes Certificate → IsReadFault (problem_outline p) count bytes fault →
-    ReadsCertificate told risen name p count (Err (refused_at 0 fault))
+misread_so : (told : Option Files) (risen : Type 0) (name bytes : List ℕ) (p : Problem) (count : ℕ) (fault : CertFault) → IsTold told name bytes → length bytes ≤ most_bytes Certificate
+    → IsReadFault (problem_outline p) count bytes fault
+    → ReadsCertificate told risen name p count (Err (refused_at 0 fault))
 misread_so told risen name bytes p count (faults.Form line) there few h = record { bytes = bytes; are_told = there; few = few; line = line; fault = refl; misfit = h; none = refl }
 misread_so told risen name bytes p count (faults.Fit stop) there few h = absurd h
 misread_so told risen name bytes p count (faults.Setting parameter entry stated found) there few h = absurd h
@@ -66,14 +67,16 @@ misread_so told risen name bytes p count (faults.RayValue stated found) there fe
 misread_so told risen name bytes p count (faults.Wide passes) there few h = absurd h
 misread_so told risen name bytes p count faults.Memory there few h = tt
 
-pub misread_ends : (told : Option Files) (risen : Type 0) (name bytes slice : List ℕ) (p : Problem) (count : ℕ) (fault : CertFault) (r : Run) → slice ≡ bytes → IsTold told name bytes → length bytes ≤ most_bytes Certificate →
-    IsReadFault (problem_outline p) count slice fault → r ≡ refused_at 0 fault → ReadsCertificate told risen name p count (Err r)
+pub misread_ends : (told : Option Files) (risen : Type 0) (name bytes slice : List ℕ) (p : Problem) (count : ℕ) (fault : CertFault) (r : Run) → slice ≡ bytes → IsTold told name bytes
+    → length bytes ≤ most_bytes Certificate
+    → IsReadFault (problem_outline p) count slice fault → r ≡ refused_at 0 fault → ReadsCertificate told risen name p count (Err r)
 misread_ends told risen name bytes slice p count fault r same there few h is =
     subst (λ (q : Run). ReadsCertificate told risen name p count (Err q)) (sym is)
     (misread_so told risen name bytes p count fault there few (subst (λ b. IsReadFault (problem_outline p) count b fault) same h))
 
 -- a count that rose in a part of a run rose in the run
-pub certificate_rising : (told : Option Files) (risen rose : Type 0) (name : List ℕ) (p : Problem) (count : ℕ) (r : Run) → (risen → rose) → ReadsCertificate told risen name p count (Err r) → ReadsCertificate told rose name p count (Err r)
+pub certificate_rising : (told : Option Files) (risen rose : Type 0) (name : List ℕ) (p : Problem) (count : ℕ) (r : Run) → (risen → rose) → ReadsCertificate told risen name p count (Err r)
+    → ReadsCertificate told rose name p count (Err r)
 certificate_rising told risen rose name p count run.ReadFault more (inl lacks) = inl lacks
 certificate_rising told risen rose name p count run.ReadFault more (inr h) = inr (more h)
 certificate_rising told risen rose name p count (run.Refused r) more h = h
@@ -97,7 +100,8 @@ laid_length s [] (t ∷ ts) h = absurd h
 laid_length s (line ∷ lines) [] h = absurd h
 laid_length s (line ∷ lines) (t ∷ ts) h = omega (arith, laid_length s lines ts h.1)
 
-module _ (told : Option Files) (script name file bytes set : List ℕ) (a : Accepted) (lines : List (List SettingItem)) (there : IsTold told script bytes) (gives : Gives bytes (Ok a)) (continuous : HasNoWhole a.work.problem)
+module _ (told : Option Files) (script name file bytes set : List ℕ) (a : Accepted) (lines : List (List SettingItem)) (there : IsTold told script bytes) (gives : Gives bytes (Ok a))
+    (continuous : HasNoWhole a.work.problem)
     (told_set : IsTold told name set) (spelled : SpellSettings set lines) where
   gives_settings : (settings : List Pairs) → AreLaidOver a.work.last lines settings → GivesSettings told script name a settings
   gives_settings settings laid = record {
@@ -109,8 +113,9 @@ module _ (told : Option Files) (script name file bytes set : List ℕ) (a : Acce
   }
 
   -- the third file has the text of sections
-  pub sections_read : (was : Option Files) (p : Problem) (settings : List Pairs) (sections : Sections) → was ≡ told → (p ≡ a.work.problem) × AreLaidOver a.work.last lines settings × HasTextOf was file p settings sections →
-      GivesSections told script name file p settings sections
+  pub sections_read : (was : Option Files) (p : Problem) (settings : List Pairs) (sections : Sections) → was ≡ told
+      → (p ≡ a.work.problem) × AreLaidOver a.work.last lines settings × HasTextOf was file p settings sections
+      → GivesSections told script name file p settings sections
   sections_read was p settings sections same (is, laid, has) = record {
     accepted = a;
     is_of = sym is;
@@ -119,8 +124,9 @@ module _ (told : Option Files) (script name file bytes set : List ℕ) (a : Acce
   }
 
   -- or it ends the run
-  pub sections_end : (was : Option Files) (risen rose : Type 0) (r : Run) → was ≡ told → (risen → rose) → (r ≡ run.Memory) ⊎ ((laid : List Pairs) × AreLaidOver a.work.last lines laid × ReadsCertificate was risen file a.work.problem (length laid) (Err r)) →
-      EndsFiles told rose script name file r
+  pub sections_end : (was : Option Files) (risen rose : Type 0) (r : Run) → was ≡ told → (risen → rose)
+      → (r ≡ run.Memory) ⊎ ((laid : List Pairs) × AreLaidOver a.work.last lines laid × ReadsCertificate was risen file a.work.problem (length laid) (Err r))
+      → EndsFiles told rose script name file r
   sections_end was risen rose r same more (inl e) = at_memory e
   sections_end was risen rose r same more (inr (settings, laid, h)) =
       at_certificate a settings (gives_settings settings laid)

@@ -88,14 +88,16 @@ module _ (files : Files) where
       one_accepted h.bytes a b (subst (λ x. Gives x (Ok a)) same g.gives) h.gives
 
   -- the settings of a file are spelled by its bytes
-  spelled_in : (file : List ℕ) (work : Work) (settings : List Pairs) (name bytes : List ℕ) → AreOfFile (Some files) file work.last settings → Some file ≡ Some name → files name ≡ Some bytes → (lines : List (List SettingItem)) × SpellSettings bytes lines
+  spelled_in : (file : List ℕ) (work : Work) (settings : List Pairs) (name bytes : List ℕ) → AreOfFile (Some files) file work.last settings → Some file ≡ Some name → files name ≡ Some bytes
+      → (lines : List (List SettingItem)) × SpellSettings bytes lines
   spelled_in file work settings name bytes are e h =
       let same = told_once name are.bytes bytes (subst (λ n. files n ≡ Some are.bytes) (same_Some file name e) are.are_told) h in
       (are.lines, subst (λ b. SpellSettings b are.lines) same are.spelled)
 
   -- settings at which the problem is solved are spelled by the settings file, where there is one
-  pub spelled_by : (command : Command) (work : Work) (settings : List Pairs) (name bytes : List ℕ) → AreSettingsOf (Some files) command work settings → settings_name command ≡ Some name → files name ≡ Some bytes →
-      (lines : List (List SettingItem)) × SpellSettings bytes lines
+  pub spelled_by : (command : Command) (work : Work) (settings : List Pairs) (name bytes : List ℕ) → AreSettingsOf (Some files) command work settings → settings_name command ≡ Some name
+      → files name ≡ Some bytes
+      → (lines : List (List SettingItem)) × SpellSettings bytes lines
   spelled_by (check script) work settings name bytes are e h = absurd (none-some name e)
   spelled_by (solve script limit) work settings name bytes are e h = absurd (none-some name e)
   spelled_by (resolve script file limit warm) work settings name bytes are e h = spelled_in file work settings name bytes are e h
@@ -112,10 +114,13 @@ module _ (files : Files) where
 pub data Refuses (files : Files) (command : Command) (r : Refusal) : Type 0 where
   in_script : (bytes : List ℕ) → IsScriptOf (Some files) command bytes → RefusesScript bytes r → Refuses files command r
   in_problem : (a : Accepted) → GivesProblem (Some files) command a → RefusesWhole command → IsRefusedForWhole a.work.problem r → Refuses files command r
-  in_range : (a : Accepted) (name : List ℕ) → GivesProblem (Some files) command a → HasNoWhole a.work.problem → parameter_name command ≡ Some name → IsRefusedForRange a.work.problem name r → Refuses files command r
-  in_settings : (a : Accepted) (name bytes : List ℕ) → GivesProblem (Some files) command a → Takes command a.work.problem → AllowsRange command a.work.problem → settings_name command ≡ Some name → files name ≡ Some bytes → RefusesSettings bytes r → Refuses files command r
-  in_length : (a : Accepted) (settings : List Pairs) (name bytes : List ℕ) → GivesProblem (Some files) command a → HasNoWhole a.work.problem → AreSettingsOf (Some files) command a.work settings → certificate_name command ≡ Some name →
-      files name ≡ Some bytes → most_bytes Certificate < length bytes → IsTooLong Certificate r → Refuses files command r
+  in_range : (a : Accepted) (name : List ℕ) → GivesProblem (Some files) command a → HasNoWhole a.work.problem → parameter_name command ≡ Some name → IsRefusedForRange a.work.problem name r
+      → Refuses files command r
+  in_settings : (a : Accepted) (name bytes : List ℕ) → GivesProblem (Some files) command a → Takes command a.work.problem → AllowsRange command a.work.problem → settings_name command ≡ Some name
+      → files name ≡ Some bytes → RefusesSettings bytes r → Refuses files command r
+  in_length : (a : Accepted) (settings : List Pairs) (name bytes : List ℕ) → GivesProblem (Some files) command a → HasNoWhole a.work.problem → AreSettingsOf (Some files) command a.work settings
+      → certificate_name command ≡ Some name
+      → files name ≡ Some bytes → most_bytes Certificate < length bytes → IsTooLong Certificate r → Refuses files command r
 
 module _ (words : List (List ℕ)) (files : Files) (command : Command) (form : command_of words ≡ Some command) where
   pub same_command : (c : Command) → command_of words ≡ Some c → c ≡ command
@@ -178,7 +183,8 @@ module _ (files : Files) (command : Command) where
   in_script_once : (a : Accepted) (r : Refusal) (b : List ℕ) → GivesProblem (Some files) command a → IsScriptOf (Some files) command b → RefusesScript b r → ⊥
   in_script_once a r b g of h = accepted_or_refused g.bytes a r g.gives (subst (λ x. RefusesScript x r) (one_script files command b g.bytes of g.are_of) h)
 
-  in_problem_once : (a b : Accepted) (r t : Refusal) → GivesProblem (Some files) command a → GivesProblem (Some files) command b → IsRefusedForWhole a.work.problem r → IsRefusedForWhole b.work.problem t → r ≡ t
+  in_problem_once : (a b : Accepted) (r t : Refusal) → GivesProblem (Some files) command a → GivesProblem (Some files) command b → IsRefusedForWhole a.work.problem r
+      → IsRefusedForWhole b.work.problem t → r ≡ t
   in_problem_once a b r t g i h k =
       one_whole b.work.problem r t (subst (λ (x : Accepted). IsRefusedForWhole x.work.problem r) (one_problem files command a b g i) h) k
 
@@ -188,19 +194,22 @@ module _ (files : Files) (command : Command) where
       free k.number k.first.is
 
   -- a settings file that gives settings isn't refused
-  settings_or_not : (work : Work) (settings : List Pairs) (name bytes : List ℕ) (fault : ReadFault) → AreSettingsOf (Some files) command work settings → settings_name command ≡ Some name → files name ≡ Some bytes → IsRefused bytes fault → ⊥
+  settings_or_not : (work : Work) (settings : List Pairs) (name bytes : List ℕ) (fault : ReadFault) → AreSettingsOf (Some files) command work settings → settings_name command ≡ Some name
+      → files name ≡ Some bytes → IsRefused bytes fault → ⊥
   settings_or_not work settings name bytes fault are is there h =
       let (lines, spelled) = spelled_by files command work settings name bytes are is there in
       settings_apart bytes lines fault spelled h
 
   -- a range that a parameter lacks
-  in_range_once : (a b : Accepted) (name other : List ℕ) (r t : Refusal) → GivesProblem (Some files) command a → GivesProblem (Some files) command b → parameter_name command ≡ Some name → parameter_name command ≡ Some other →
-      IsRefusedForRange a.work.problem name r → IsRefusedForRange b.work.problem other t → r ≡ t
+  in_range_once : (a b : Accepted) (name other : List ℕ) (r t : Refusal) → GivesProblem (Some files) command a → GivesProblem (Some files) command b → parameter_name command ≡ Some name
+      → parameter_name command ≡ Some other
+      → IsRefusedForRange a.work.problem name r → IsRefusedForRange b.work.problem other t → r ≡ t
   in_range_once a b name other r t g i is also h k =
       let here = subst (λ (x : Accepted). IsRefusedForRange x.work.problem name r) (one_problem files command a b g i) h in
       one_lack b.work.problem other r t (subst (λ n. IsRefusedForRange b.work.problem n r) (same_Some name other (sym is ∙ also)) here) k
 
-  range_or_lack : (a b : Accepted) (name : List ℕ) (r : Refusal) → GivesProblem (Some files) command a → GivesProblem (Some files) command b → parameter_name command ≡ Some name → IsRefusedForRange a.work.problem name r → AllowsRange command b.work.problem → ⊥
+  range_or_lack : (a b : Accepted) (name : List ℕ) (r : Refusal) → GivesProblem (Some files) command a → GivesProblem (Some files) command b → parameter_name command ≡ Some name
+      → IsRefusedForRange a.work.problem name r → AllowsRange command b.work.problem → ⊥
   range_or_lack a b name r g i is h allows =
       let here = subst (λ (x : Accepted). IsRefusedForRange x.work.problem name r) (one_problem files command a b g i) h in
       range_is_told.never_both b.work.problem name here.fault (allows name is) here.lacks
@@ -226,9 +235,11 @@ module _ (files : Files) (command : Command) where
   one_refused r t (in_problem a g refusing h) (in_length b settings name c i free asked named there more long) = absurd (whole_or_free a b r g i h free)
   one_refused r t (in_length b settings name c i free asked named there more long) (in_script d of h) = absurd (in_script_once b t d i of h)
   one_refused r t (in_length b settings name c i free asked named there more long) (in_problem a g refusing h) = absurd (whole_or_free a b t g i h free)
-  one_refused r t (in_length b settings name c i free asked named there more long) (in_settings a other d g unmarked allows is here k) = absurd (settings_or_not b.work settings other d k.fault asked is here k.refused)
+  one_refused r t (in_length b settings name c i free asked named there more long) (in_settings a other d g unmarked allows is here k) =
+      absurd (settings_or_not b.work settings other d k.fault asked is here k.refused)
   one_refused r t (in_length b settings name c i free asked named there more long) (in_length a others other d g unmarked also known here most such) = one_refusal Certificate 8 _ _ r t long such
-  one_refused r t (in_settings a other d g unmarked allows is here k) (in_length b settings name c i free asked named there more long) = absurd (settings_or_not b.work settings other d k.fault asked is here k.refused)
+  one_refused r t (in_settings a other d g unmarked allows is here k) (in_length b settings name c i free asked named there more long) =
+      absurd (settings_or_not b.work settings other d k.fault asked is here k.refused)
   one_refused r t (in_settings a name c g free allows is there k) (in_script b of h) = absurd (in_script_once a t b g of h)
   one_refused r t (in_settings b name c i taken allows is there k) (in_problem a g refusing h) = absurd (whole_or_free a b t g i h (taken refusing))
   one_refused r t (in_settings a name b g free allows is there h) (in_settings d other c i unmarked permits also here k) =
@@ -241,7 +252,8 @@ module _ (files : Files) (command : Command) where
   IsShort = (name bytes : List ℕ) → certificate_name command ≡ Some name → files name ≡ Some bytes → length bytes ≤ most_bytes Certificate
 
   -- nothing is refused where the problem is solved
-  pub never_refused : (a : Accepted) (settings : List Pairs) (r : Refusal) → GivesProblem (Some files) command a → Takes command a.work.problem → AllowsRange command a.work.problem → AreSettingsOf (Some files) command a.work settings → IsShort → Refuses files command r → ⊥
+  pub never_refused : (a : Accepted) (settings : List Pairs) (r : Refusal) → GivesProblem (Some files) command a → Takes command a.work.problem → AllowsRange command a.work.problem
+      → AreSettingsOf (Some files) command a.work settings → IsShort → Refuses files command r → ⊥
   never_refused a settings r g taken allowed are short (in_script b of h) = in_script_once a r b g of h
   never_refused a settings r g taken allowed are short (in_problem b i refusing h) = whole_or_free b a r i g h (taken refusing)
   never_refused a settings r g taken allowed are short (in_range b name i unmarked is h) = range_or_lack b a name r i g is h allowed

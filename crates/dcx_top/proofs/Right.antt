@@ -11,6 +11,7 @@ use Rattle.dcx_report.specs.declared.run.Run.TheVariants as run
 use Rattle.dcx_words.specs.Commands.{Command, check, certificate, certify, migrate, iis, range, command_of}
 use Rattle.dcx_words.specs.Laws.{is_warm_command}
 use Rattle.dcx_outcomes.proofs.Warm.{found_are_right}
+use Rattle.dcx_outcomes.proofs.Complete.{outcomes_are_complete}
 use Rattle.dcx_outcomes.proofs.FilterEnds.{filters_are_right}
 use Rattle.dcx_outcomes.proofs.WholeEnds.{wholes_are_right}
 use Rattle.dcx_outcomes.proofs.RangeEnds.{ranges_are_right}
@@ -23,7 +24,8 @@ use Rattle.dcx_top.specs.Runs.{GivesProblem, IsSolvedRun, IsBranchedRun, IsFilte
 use Rattle.dcx_top.specs.Headline.{IsAcceptedWork, IsRightlySolved, IsRightlyBranched, IsRightlyFiltered, IsRightlyRanged, IsRightlyShown, IsRightRun}
 use Rattle.dcx_top.proofs.Passed.{passed_shown, migrated_shown}
 
-accepted_work : (words : List (List ℕ)) (told : Option Files) (command : Command) (a : Accepted) → command_of words ≡ Some command → GivesProblem told command a → IsAcceptedWork words told command a.work
+accepted_work : (words : List (List ℕ)) (told : Option Files) (command : Command) (a : Accepted) → command_of words ≡ Some command → GivesProblem told command a
+    → IsAcceptedWork words told command a.work
 accepted_work words told command a form g = let h = acceptance g.bytes a g.gives in record {
   form = form;
   bytes = g.bytes;
@@ -47,6 +49,7 @@ solved_right words told old new r h = let w = accepted_work words told h.command
   warm = h.warm;
   tells = h.tells;
   right = found_are_right (is_warm_command h.command) h.accepted.work.problem (limit_of h.command) h.settings h.outcomes h.warm w.accepted h.are;
+  complete = outcomes_are_complete (is_warm_command h.command) h.accepted.work.problem (limit_of h.command) h.settings h.outcomes h.warm h.are;
 }
 
 branched_right : (words : List (List ℕ)) (told : Option Files) (old new : ℕ) (r : Run) → IsBranchedRun words told old new r → IsRightlyBranched words told r
@@ -72,7 +75,8 @@ filtered_right words told old new os h = record {
   right = filters_are_right h.accepted.work.problem h.limit h.settings os h.are;
 }
 
-ranged_right : (words : List (List ℕ)) (told : Option Files) (old new : ℕ) (name : List ℕ) (sense : Sense) (os : List RangeOutcome) → IsRangedRun words told old new name sense os → IsRightlyRanged words told name sense os
+ranged_right : (words : List (List ℕ)) (told : Option Files) (old new : ℕ) (name : List ℕ) (sense : Sense) (os : List RangeOutcome) → IsRangedRun words told old new name sense os
+    → IsRightlyRanged words told name sense os
 ranged_right words told old new name sense os h = record {
   command = range h.script h.name name h.limit;
   work = h.accepted.work;
@@ -86,7 +90,8 @@ ranged_right words told old new name sense os h = record {
 }
 
 -- ---- certificates
-certificate_right : (words : List (List ℕ)) (told : Option Files) (old new : ℕ) (text : List ℕ) (stopped : Bool) (h : IsCertificateRun words told old new text stopped) → IsRightlyShown words told h.sections.list
+certificate_right : (words : List (List ℕ)) (told : Option Files) (old new : ℕ) (text : List ℕ) (stopped : Bool) (h : IsCertificateRun words told old new text stopped)
+    → IsRightlyShown words told h.sections.list
 certificate_right words told old new text stopped h = let w = accepted_work words told (certificate h.script h.name h.limit) h.accepted h.form h.problem in record {
   command = certificate h.script h.name h.limit;
   work = h.accepted.work;
@@ -97,7 +102,8 @@ certificate_right words told old new text stopped h = let w = accepted_work word
   shown = sections_are_shown h.accepted.work.problem h.limit h.settings h.sections.list w.accepted h.are.sections;
 }
 
-shown_of : (words : List (List ℕ)) (told : Option Files) (command : Command) (list : List Section) (f : HasCertificate words told command) → AreShown f.accepted.work.problem f.settings list → IsRightlyShown words told list
+shown_of : (words : List (List ℕ)) (told : Option Files) (command : Command) (list : List Section) (f : HasCertificate words told command) → AreShown f.accepted.work.problem f.settings list
+    → IsRightlyShown words told list
 shown_of words told command list f h = record {
   command = command;
   work = f.accepted.work;
@@ -108,7 +114,8 @@ shown_of words told command list f h = record {
   shown = h;
 }
 
-passed_show : (words : List (List ℕ)) (told : Option Files) (command : Command) (sections : Sections) (h : HasPassed words told command sections) → AreShown h.reads.files.accepted.work.problem h.reads.files.settings sections.list
+passed_show : (words : List (List ℕ)) (told : Option Files) (command : Command) (sections : Sections) (h : HasPassed words told command sections)
+    → AreShown h.reads.files.accepted.work.problem h.reads.files.settings sections.list
 passed_show words told command sections h =
     let f = h.reads.files in
     passed_shown f.accepted.work.problem f.settings sections.list (acceptance f.problem.bytes f.accepted f.problem.gives).judged.accepted h.reads.has.text.certificate.shown h.passed

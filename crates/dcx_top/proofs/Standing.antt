@@ -66,10 +66,12 @@ call_reached p name call named (i, there) none = none i (record { call = call; t
 
 pub reached : (p : Problem) (name : List ℕ) → HasName p name → LacksName p.tree name → ⊥
 reached p name (inl (k, v, at, is)) none =
-    ∥∥₁_elim p.declared (λ x. absurd x) (λ d. call_reached p name (calls.Variable v) (ap Some is) (all_at (λ (x : Variable). HasCall p.tree (calls.Variable x)) p.variables k v d.variables_stand at) none)
+    ∥∥₁_elim p.declared (λ x. absurd x) (λ d. call_reached p name (calls.Variable v) (ap Some is)
+    (all_at (λ (x : Variable). HasCall p.tree (calls.Variable x)) p.variables k v d.variables_stand at) none)
 reached p name (inr (k, q, h)) none =
     ∥∥₁_elim p.declared (λ x. absurd x)
-    (λ d. call_reached p name (calls.Parameter q) (ap Some (name_is p.parameters name k q h.place h.there)) (all_at (λ (x : Parameter). HasCall p.tree (calls.Parameter x)) p.parameters k q d.parameters_stand h.there) none)
+    (λ d. call_reached p name (calls.Parameter q) (ap Some (name_is p.parameters name k q h.place h.there))
+    (all_at (λ (x : Parameter). HasCall p.tree (calls.Parameter x)) p.parameters k q d.parameters_stand h.there) none)
 
 -- what stands against a range, but for its name, is that of a parameter that the problem reaches
 pub lacking_shape : (p : Problem) (name : List ℕ) → LacksRange p name faults.Shape → Reaches p name

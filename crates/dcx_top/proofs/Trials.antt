@@ -11,7 +11,8 @@ use Rattle.dcx_report.specs.declared.run.Run.TheVariants as run
 use Rattle.dcx_words.specs.Commands.{Command, check, certificate, certify, migrate, trial, iis, range, command_of}
 use Rattle.dcx_trial.specs.Trial.{trial_text}
 use Rattle.dcx_top.specs.Commands.{IsScriptOf, script_name, settings_name, certificate_name, parameter_name, AreSettingsOf}
-use Rattle.dcx_top.specs.Runs.{GivesProblem, IsSolvedRun, IsBranchedRun, IsRefusedRun, long_script, bad_script, for_whole, for_range, bad_settings, long_certificate, misread, failed, no_script, no_settings, no_certificate, CountsAtMostBeginning, CountsAtMost, none, beginning, solving, Causes}
+use Rattle.dcx_top.specs.Runs.{GivesProblem, IsSolvedRun, IsBranchedRun, IsRefusedRun, long_script, bad_script, for_whole, for_range, bad_settings, long_certificate}
+use Rattle.dcx_top.specs.Runs.{misread, failed, no_script, no_settings, no_certificate, CountsAtMostBeginning, CountsAtMost, none, beginning, solving, Causes}
 use Rattle.dcx_top.specs.OneRun.{no_files}
 use Rattle.dcx_top.specs.Verdicts.{Has}
 
@@ -69,7 +70,8 @@ module _ (words : List (List ℕ)) (size limit : ℕ) (form : command_of words �
   counts_told : (old new : ℕ) → CountsAtMost words None old new → CountsAtMost words (Some no_files) old new
   counts_told old new (none same) = none same
   counts_told old new (beginning command a name is gives named few) = no_parameter_asked command name is named
-  counts_told old new (solving command a settings is gives reads asked few) = solving command a settings is (problem_told command a is gives) reads ((reads_none command is).asks a.work settings asked) few
+  counts_told old new (solving command a settings is gives reads asked few) =
+      solving command a settings is (problem_told command a is gives) reads ((reads_none command is).asks a.work settings asked) few
 
   solved_told : (old new : ℕ) (r : Run) → IsSolvedRun words None old new r → IsSolvedRun words (Some no_files) old new r
   solved_told old new r h = record {

@@ -38,7 +38,8 @@ use Rattle.dcx_top.proofs.Named.{unasked, allowed, allowed_reading, tells_no_par
 use Rattle.dcx_top.specs.OneRun.{IsAnswered, no_files}
 use Rattle.dcx_trial.specs.Trial.{trial_text}
 use Rattle.dcx_top.proofs.Trials.{trial_caused, trial_has}
-use Rattle.dcx_top.specs.Verdicts.{IsRefusal, IsAcceptance, Has, AreFaultless, AreAtFault, bad_script, has_whole, lacks_range, bad_settings, long_certificate, AreWithoutFault, IsVerdictOn, IsRightVerdict}
+use Rattle.dcx_top.specs.Verdicts.{IsRefusal, IsAcceptance, Has, AreFaultless, AreAtFault, bad_script, has_whole, lacks_range}
+use Rattle.dcx_top.specs.Verdicts.{bad_settings, long_certificate, AreWithoutFault, IsVerdictOn, IsRightVerdict}
 use Rattle.dcx_top.proofs.Refusals.{one_script, spelled_by, same_command, Refuses, in_script, in_problem, in_range, in_settings, in_length, IsShort, refuses}
 use Rattle.dcx_top.proofs.OneRefusal.{tells_none, wholes_none, wholes_taken}
 
@@ -50,7 +51,7 @@ one_view bytes script other h k =
     h.1.1.kept ∙ ap trimmed_all (k.1.1.spelled.only h.1.1.tree spelled) ∙ sym k.1.1.kept
 
 -- bytes that are accepted stand for the work that is accepted
-abbrev without_fault : (bytes : List ℕ) (a : Accepted) → Gives bytes (Ok a) → IsWithoutFault bytes
+abbrev pub without_fault : (bytes : List ℕ) (a : Accepted) → Gives bytes (Ok a) → IsWithoutFault bytes
 without_fault bytes a g = let h = acceptance bytes a g in
     record { script = h.script; spelled = h.spelled; work = a.work; stands_for = h.stands_for; accepted = h.judged.accepted }
 
@@ -58,10 +59,12 @@ module _ (files : Files) (command : Command) (script settings certificate : List
   no_faults : AreWithoutFault command script settings certificate → AreAtFault command script settings certificate → ⊥
   no_faults w (bad_script f) = apart script w.no_script_fault f
   no_faults w (has_whole h refusing i is) =
-      let same = one_work w.no_script_fault.script h.script (one_view script w.no_script_fault.script h.script w.no_script_fault.spelled h.spelled) w.no_script_fault.work h.work w.no_script_fault.stands_for h.stands_for in
+      let same = one_work w.no_script_fault.script h.script (one_view script w.no_script_fault.script h.script w.no_script_fault.spelled h.spelled) w.no_script_fault.work h.work
+      w.no_script_fault.stands_for h.stands_for in
       w.no_whole refusing i (subst (λ (x : Work). IsWholeAt x.problem i) (sym same) is)
   no_faults w (lacks_range h name is fault lacks) =
-      let same = one_work w.no_script_fault.script h.script (one_view script w.no_script_fault.script h.script w.no_script_fault.spelled h.spelled) w.no_script_fault.work h.work w.no_script_fault.stands_for h.stands_for in
+      let same = one_work w.no_script_fault.script h.script (one_view script w.no_script_fault.script h.script w.no_script_fault.spelled h.spelled) w.no_script_fault.work h.work
+      w.no_script_fault.stands_for h.stands_for in
       range_is_told.never_both w.no_script_fault.work.problem name fault (w.no_lack name is) (subst (λ (x : Work). LacksRange x.problem name fault) (sym same) lacks)
   no_faults w (long_certificate o f long) = w.not_long long
   no_faults w (bad_settings o f) = let (lines, spelled) = w.no_settings_fault f.name f.asked in settings_apart settings lines f.fault spelled f.refused
@@ -80,8 +83,16 @@ module _ (files : Files) (command : Command) (script settings certificate : List
       long_certificate (without_fault script a (accepted a g)) (λ name is. spelled_by files command a.work others name settings asked is (has.are_settings name is))
       (record { name = name; asked = named; long = subst (λ b. most_bytes Certificate < length b) (same_Some bytes certificate (sym there ∙ has.is_certificate name named)) more })
 
-  without : (a : Accepted) → GivesProblem (Some files) command a → Takes command a.work.problem → AllowsRange command a.work.problem → AreFaultless command settings → IsShort files command → AreWithoutFault command script settings certificate
-  without a g taken allows f short = record { no_script_fault = without_fault script a (accepted a g); no_whole = taken; no_lack = allows; no_settings_fault = f; not_long = λ l. let few = short l.name certificate l.asked (has.is_certificate l.name l.asked) in omega (arith, few, l.long) }
+  without : (a : Accepted) → GivesProblem (Some files) command a → Takes command a.work.problem → AllowsRange command a.work.problem → AreFaultless command settings → IsShort files command
+      → AreWithoutFault command script settings certificate
+  without a g taken allows f short =
+      record {
+        no_script_fault = without_fault script a (accepted a g);
+        no_whole = taken;
+        no_lack = allows;
+        no_settings_fault = f;
+        not_long = λ l. let few = short l.name certificate l.asked (has.is_certificate l.name l.asked) in omega (arith, few, l.long);
+      }
 
   refuses_so : (r : Refusal) → AreAtFault command script settings certificate → IsVerdictOn command script settings certificate (run.Refused r)
   refuses_so r f = record { refused = (λ t. f, λ q. tt); accepted = (λ t. absurd t, λ w. absurd (no_faults w f)) }
@@ -95,8 +106,9 @@ module _ (files : Files) (command : Command) (script settings certificate : List
 
   module _ (words : List (List ℕ)) (form : command_of words ≡ Some command) (risen : Type 0) (old new : ℕ) where
     -- the problem is solved, or its certificate is checked
-    goes_on : (r : Run) → IsAcceptance r → (IsRefusal r → ⊥) → (c : Command) → c ≡ command → (a : Accepted) (list : List Pairs) → GivesProblem (Some files) c a → Takes c a.work.problem → AllowsRange c a.work.problem → AreSettingsOf (Some files) c a.work list →
-        IsShort files command → IsVerdictOn command script settings certificate r
+    goes_on : (r : Run) → IsAcceptance r → (IsRefusal r → ⊥) → (c : Command) → c ≡ command → (a : Accepted) (list : List Pairs) → GivesProblem (Some files) c a → Takes c a.work.problem
+        → AllowsRange c a.work.problem → AreSettingsOf (Some files) c a.work list
+        → IsShort files command → IsVerdictOn command script settings certificate r
     goes_on r i n c same a list gives taken permits asked short =
         let g = subst (λ d. GivesProblem (Some files) d a) same gives in
         let are = subst (λ d. AreSettingsOf (Some files) d a.work list) same asked in
@@ -106,7 +118,9 @@ module _ (files : Files) (command : Command) (script settings certificate : List
     solved : (r : Run) → IsAcceptance r → (IsRefusal r → ⊥) → IsSolvedRun words (Some files) old new r → IsVerdictOn command script settings certificate r
     solved r i n h =
         let same = same_command words files command form h.command h.form in
-        goes_on r i n h.command same h.accepted h.settings h.problem (λ refusing. h.continuous) (unasked h.command h.accepted.work.problem (tells_no_parameter h.command h.accepted.work.problem.sense h.outcomes h.warm r h.tells)) h.asked (short_without h.command same (tells_none h.command h.accepted.work.problem.sense h.outcomes h.warm r h.tells))
+        goes_on r i n h.command same h.accepted h.settings h.problem (λ refusing. h.continuous)
+        (unasked h.command h.accepted.work.problem (tells_no_parameter h.command h.accepted.work.problem.sense h.outcomes h.warm r h.tells)) h.asked
+        (short_without h.command same (tells_none h.command h.accepted.work.problem.sense h.outcomes h.warm r h.tells))
 
     branched : (r : Run) → IsAcceptance r → (IsRefusal r → ⊥) → IsBranchedRun words (Some files) old new r → IsVerdictOn command script settings certificate r
     branched r i n h =
@@ -121,13 +135,16 @@ module _ (files : Files) (command : Command) (script settings certificate : List
         let g = subst (λ c. GivesProblem (Some files) c h.accepted) same h.problem in
         let none : settings_name command ≡ None = subst (λ c. settings_name c ≡ None) same refl in
         let only : RefusesWhole command → ⊥ = subst (λ c. RefusesWhole c → ⊥) same (λ t. t) in
-        accepts_so (run.Checked c) tt (λ t. t) (without h.accepted g (λ refusing. absurd (only refusing)) (subst (λ c. AllowsRange c h.accepted.work.problem) same (unasked (check h.script) h.accepted.work.problem refl)) (λ name is. absurd (none-some name (sym none ∙ is))) (short_without (check h.script) same refl))
+        accepts_so (run.Checked c) tt (λ t. t) (without h.accepted g (λ refusing. absurd (only refusing))
+        (subst (λ c. AllowsRange c h.accepted.work.problem) same (unasked (check h.script) h.accepted.work.problem refl)) (λ name is. absurd (none-some name (sym none ∙ is)))
+        (short_without (check h.script) same refl))
 
     certificate_written : (text : List ℕ) (stopped : Bool) → IsCertificateRun words (Some files) old new text stopped → IsVerdictOn command script settings certificate (run.Certificates text stopped)
     certificate_written text stopped h =
         let c = certificate_command h.script h.name h.limit in
         let same = same_command words files command form c h.form in
-        goes_on (run.Certificates text stopped) tt (λ t. t) c same h.accepted h.settings h.problem (λ refusing. h.continuous) (unasked c h.accepted.work.problem refl) h.asked (short_without c same refl)
+        goes_on (run.Certificates text stopped) tt (λ t. t) c same h.accepted h.settings h.problem (λ refusing. h.continuous) (unasked c h.accepted.work.problem refl) h.asked
+        (short_without c same refl)
 
     filtered : (os : List FilterOutcome) → IsFilteredRun words (Some files) old new os → IsVerdictOn command script settings certificate (run.Filtered os)
     filtered os h =
@@ -135,15 +152,18 @@ module _ (files : Files) (command : Command) (script settings certificate : List
         let same = same_command words files command form c h.form in
         goes_on (run.Filtered os) tt (λ t. t) c same h.accepted h.settings h.problem (λ refusing. h.continuous) (unasked c h.accepted.work.problem refl) h.asked (short_without c same refl)
 
-    ranged : (name : List ℕ) (sense : Sense) (os : List RangeOutcome) → IsRangedRun words (Some files) old new name sense os → IsVerdictOn command script settings certificate (run.Ranged name sense os)
+    ranged : (name : List ℕ) (sense : Sense) (os : List RangeOutcome) → IsRangedRun words (Some files) old new name sense os
+        → IsVerdictOn command script settings certificate (run.Ranged name sense os)
     ranged name sense os h =
         let c = range h.script h.name name h.limit in
         let same = same_command words files command form c h.form in
-        goes_on (run.Ranged name sense os) tt (λ t. t) c same h.accepted h.settings h.problem (λ refusing. h.continuous) (allowed c h.accepted.work.problem name refl h.ranged) h.asked (short_without c same refl)
+        goes_on (run.Ranged name sense os) tt (λ t. t) c same h.accepted h.settings h.problem (λ refusing. h.continuous) (allowed c h.accepted.work.problem name refl h.ranged) h.asked
+        (short_without c same refl)
 
     -- a certificate that is read isn't too long
-    certificate_read : (r : Run) → IsAcceptance r → (IsRefusal r → ⊥) → (c : Command) (f : HasCertificate words (Some files) c) (bytes : List ℕ) → files f.name ≡ Some bytes → length bytes ≤ most_bytes Certificate →
-        IsVerdictOn command script settings certificate r
+    certificate_read : (r : Run) → IsAcceptance r → (IsRefusal r → ⊥) → (c : Command) (f : HasCertificate words (Some files) c) (bytes : List ℕ) → files f.name ≡ Some bytes
+        → length bytes ≤ most_bytes Certificate
+        → IsVerdictOn command script settings certificate r
     certificate_read r i n c f bytes there few =
         let same = same_command words files command form c f.form in
         let named : certificate_name command ≡ Some f.name = subst (λ d. certificate_name d ≡ Some f.name) same f.named in
@@ -152,7 +172,8 @@ module _ (files : Files) (command : Command) (script settings certificate : List
         subst (λ b. length b ≤ most_bytes Certificate) one few) in
         goes_on r i n c same f.accepted f.settings f.problem (λ refusing. f.continuous) (allowed_reading c f.accepted.work.problem f.name f.named) f.asked short
 
-    sections_read : (r : Run) → IsAcceptance r → (IsRefusal r → ⊥) → (c : Command) (sections : Sections) → ReadsSections words (Some files) c sections → IsVerdictOn command script settings certificate r
+    sections_read : (r : Run) → IsAcceptance r → (IsRefusal r → ⊥) → (c : Command) (sections : Sections) → ReadsSections words (Some files) c sections
+        → IsVerdictOn command script settings certificate r
     sections_read r i n c sections h = certificate_read r i n c h.files h.has.bytes h.has.are_told h.has.few
 
     verdict_on : (r : Run) → Causes words (Some files) risen old new r → IsAnswered r → IsVerdictOn command script settings certificate r
@@ -174,5 +195,6 @@ module _ (files : Files) (command : Command) (script settings certificate : List
 
 pub right_verdict : (words : List (List ℕ)) (told : Option Files) (risen : Type 0) (old new : ℕ) (r : Run) → Causes words told risen old new r → IsRightVerdict words told r
 right_verdict words None risen old new r h = λ i size limit settings certificate form.
-    verdict_on no_files (trial size limit) (trial_text size) settings certificate (trial_has size limit settings certificate) words form risen old new r (trial_caused words size limit form risen old new r h) i
+    verdict_on no_files (trial size limit) (trial_text size) settings certificate (trial_has size limit settings certificate) words form risen old new r
+    (trial_caused words size limit form risen old new r h) i
 right_verdict words (Some files) risen old new r h = λ i command script settings certificate form has. verdict_on files command script settings certificate has words form risen old new r h i

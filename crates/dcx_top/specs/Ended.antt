@@ -3,6 +3,7 @@ use Rattle.std.specs.Prelude.{◌≡◌, ◌≢◌, ◌<◌, ℕ, Bool, true, fa
 use Rattle.std.specs.List.{list_any}
 use Rattle.std.specs.declared.option.Option.{Option}
 use Rattle.std.specs.Io.KnownBytes.{Appends}
+use Rattle.dcx_host.specs.Pieces.{HandsRests}
 use Rattle.dcx_report.specs.ReportText.{text_of}
 use Rattle.dcx_answer.specs.declared.stop.Stop.TheVariants.{Memory as StopMemory}
 use Rattle.dcx_report.specs.declared.run.Run.{Run}
@@ -99,6 +100,10 @@ EndsEarly old new risen ended = IsCutStatus risen ended × ((front rest : List �
 -- `risen` says that the sink's count of faults rose in this run
 abbrev pub Reports : Option (List ℕ) → Option (List ℕ) → Type 0 → Ended → Type 0
 Reports old new risen ended = EndsWhole old new ended ⊎ EndsEarly old new risen ended
+
+-- each write that took something was handed all that was left of the report, from its start on
+abbrev pub IsHandedWhole : Option (List (List ℕ)) → Option (List (List ℕ)) → Ended → Type 0
+IsHandedWhole old new ended = (n : ℕ) × HandsRests old new (text_of ended.run) n
 
 -- the run that is told of a run: itself, or, where there is no memory for its report, that memory is wanting; the usage line wants none
 abbrev pub IsToldOf : Run → Run → Type 0

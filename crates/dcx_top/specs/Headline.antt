@@ -19,6 +19,7 @@ use Rattle.dcx_report.specs.declared.run.Run.{Run}
 use Rattle.dcx_report.specs.declared.run.Run.TheVariants as run
 use Rattle.dcx_words.specs.Commands.{Command, command_of}
 use Rattle.dcx_outcomes.specs.Right.{AreRight}
+use Rattle.dcx_outcomes.specs.Complete.{AreComplete}
 use Rattle.dcx_outcomes.specs.FilterLaws.{AreRightFilters}
 use Rattle.dcx_outcomes.specs.WholeLaws.{AreRightWholes}
 use Rattle.dcx_outcomes.specs.RangeLaws.{AreRightRanges}
@@ -26,7 +27,7 @@ use Rattle.dcx_cert_sections.specs.declared.section.Section.{Section}
 use Rattle.dcx_cert_sections.specs.declared.section.Sections.{Sections}
 use Rattle.dcx_cert_lines.specs.CertText.{cert_text}
 use Rattle.dcx_cert_runs.specs.Checking.{is_cert, AreShown}
-use Rattle.dcx_top.specs.Commands.{IsScriptOf, parameter_name, AreSettingsOf, TellsOutcomes, TellsWholes}
+use Rattle.dcx_top.specs.Commands.{IsScriptOf, parameter_name, AreSettingsOf, limit_of, TellsOutcomes, TellsWholes}
 use Rattle.dcx_top.specs.Whole.{HasNoWhole}
 
 -- The script of the command spells what stands for this work: a problem with its settings. The rules accept the problem, and it is
@@ -50,7 +51,7 @@ pub record IsRightlyFound (words : List (List ℕ)) (told : Option Files) (c : C
 
 -- No variable is to be whole, and each answer of the run is right for the accepted problem, at its setting: a feasible point
 -- with multipliers whose Lagrangian bound is its value, or multipliers that show that no point is feasible, or a feasible point and a ray
--- of unbounded descent.
+-- of unbounded descent. And each setting that nothing stops has its answer, or memory ran out there.
 pub record IsRightlySolved (words : List (List ℕ)) (told : Option Files) (r : Run) : Type 0 where
   pub command : Command
   pub work : Work
@@ -62,6 +63,7 @@ pub record IsRightlySolved (words : List (List ℕ)) (told : Option Files) (r : 
   pub warm : Option ℕ
   pub tells : TellsOutcomes command work.problem.sense outcomes warm r
   pub right : AreRight work.problem settings outcomes
+  pub complete : AreComplete work.problem (limit_of command) settings outcomes
 
 -- Each answer of the run is right for the accepted problem with its marks, at its setting: a feasible point whose marked entries are
 -- whole, such that no other one has a smaller minimized objective, or that there is no such point; and a tree shows it, by multipliers at

@@ -1,4 +1,4 @@
--- What contracts cite.
+-- What contracts cite: commands, files, runs with their causes, how they end, and which are right.
 pub mod Commands
 pub mod Files
 pub mod Stands
@@ -10,3 +10,5 @@ pub mod OneRun
 pub mod Migrated
 pub mod Verdicts
 pub mod Ended
+pub mod SameReport
+pub mod ReadBack

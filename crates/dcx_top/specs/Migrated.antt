@@ -26,5 +26,7 @@ Refuses run.Memory = ⊥
 
 -- of the same told files, where neither a file nor memory is wanting, `migrate` refuses exactly where `certify` does, with the same contents
 abbrev pub MigrateRefusesAsCertify : Type 0
-MigrateRefusesAsCertify = (certifying migrating : List (List ℕ)) (script settings name : List ℕ) (files : Files) (before now old new past later from to : ℕ) (c m : Run) → command_of certifying ≡ Some (certify script settings name) →
-    command_of migrating ≡ Some (migrate script settings name) → Causes certifying (Some files) (Rose before now) old new c → Causes migrating (Some files) (Rose past later) from to m → IsAnswered c → IsAnswered m → Refuses c ⊎ Refuses m → c ≡ m
+MigrateRefusesAsCertify = (certifying migrating : List (List ℕ)) (script settings name : List ℕ) (files : Files) (before now old new past later from to : ℕ) (c m : Run)
+    → command_of certifying ≡ Some (certify script settings name)
+    → command_of migrating ≡ Some (migrate script settings name) → Causes certifying (Some files) (Rose before now) old new c → Causes migrating (Some files) (Rose past later) from to m
+    → IsAnswered c → IsAnswered m → Refuses c ⊎ Refuses m → c ≡ m

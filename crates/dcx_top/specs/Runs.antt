@@ -203,8 +203,10 @@ pub record IsCertifiedRun (words : List (List ℕ)) (told : Option Files) (n : �
 
 -- a certificate is refused: its bytes are the text of none for the problem, or this section is the first that fails
 pub data IsCertRefusedRun (words : List (List ℕ)) (told : Option Files) (section : ℕ) (f : CertFault) : Type 0 where
-  misread : (command : Command) (files : HasCertificate words told command) → IsMisread told files.name files.accepted.work.problem (length files.settings) section f → IsCertRefusedRun words told section f
-  failed : (command : Command) (sections : Sections) (reads : ReadsSections words told command sections) → IsFirstRefused reads.files.accepted.work.problem reads.files.settings sections.list section f → IsCertRefusedRun words told section f
+  misread : (command : Command) (files : HasCertificate words told command) → IsMisread told files.name files.accepted.work.problem (length files.settings) section f
+      → IsCertRefusedRun words told section f
+  failed : (command : Command) (sections : Sections) (reads : ReadsSections words told command sections)
+      → IsFirstRefused reads.files.accepted.work.problem reads.files.settings sections.list section f → IsCertRefusedRun words told section f
 
 -- the run refuses the script for the first variable that is to be whole, and no step is counted
 abbrev pub RefusedForWhole : Problem → ℕ → ℕ → Run → Type 0
@@ -217,12 +219,14 @@ OrWhole Refuses p Next old new r = ((Refuses → HasNoWhole p) × Next r) ⊎ (R
 -- a problem is solved at settings, warm or not, and its outcomes are told so; want of memory is free
 abbrev pub SolvesAt : Bool → Problem → ℕ → List Pairs → (List Outcome → Option ℕ → Run) → ℕ → ℕ → Run → Type 0
 SolvesAt warm p limit settings tells old new r =
-    ((r ≡ run.Memory) × CountsNoMore p (length settings) old new) ⊎ ((outcomes : List Outcome) × (count : Option ℕ) × AreFound warm p limit settings outcomes count × Counts p (length settings) old new × (r ≡ tells outcomes count))
+    ((r ≡ run.Memory) × CountsNoMore p (length settings) old new) ⊎ ((outcomes : List Outcome) × (count : Option ℕ) × AreFound warm p limit settings outcomes count
+    × Counts p (length settings) old new × (r ≡ tells outcomes count))
 
 -- a problem is solved by branch and bound at settings, and its outcomes are told so; want of memory is free
 abbrev pub BranchesAt : Problem → ℕ → List Pairs → (List WholeOutcome → Run) → ℕ → ℕ → Run → Type 0
 BranchesAt p limit settings tells old new r =
-    ((r ≡ run.Memory) × CountsNoMore p (length settings) old new) ⊎ ((outcomes : List WholeOutcome) × AreWholeOutcomes p limit settings outcomes × Counts p (length settings) old new × (r ≡ tells outcomes))
+    ((r ≡ run.Memory) × CountsNoMore p (length settings) old new) ⊎ ((outcomes : List WholeOutcome) × AreWholeOutcomes p limit settings outcomes × Counts p (length settings) old new
+    × (r ≡ tells outcomes))
 
 -- it is solved so where a variable is to be whole, and else as ever
 abbrev pub AnswersAt : Word → Problem → ℕ → List Pairs → ℕ → ℕ → Run → Type 0
@@ -237,26 +241,30 @@ ResolvesAt true p limit settings old new r = SolvesAt true p limit settings (λ 
 
 -- the trial problem is solved at its two settings; want of memory is free
 abbrev pub TriesAt : Work → ℕ → ℕ → ℕ → ℕ → Run → Type 0
-TriesAt work size limit old new r = ((r ≡ run.Memory) × (new ≡ old)) ⊎ ((settings : List Pairs) × AreTrialSettings work.last settings × SolvesAt false work.problem limit settings (λ os count. run.Trial size os) old new r)
+TriesAt work size limit old new r =
+    ((r ≡ run.Memory) × (new ≡ old)) ⊎ ((settings : List Pairs) × AreTrialSettings work.last settings × SolvesAt false work.problem limit settings (λ os count. run.Trial size os) old new r)
 
 -- the certificate of a problem at settings is told; want of memory is free
 abbrev pub CertifiesAt : Problem → ℕ → List Pairs → ℕ → ℕ → Run → Type 0
 CertifiesAt p limit settings old new r =
     ((r ≡ run.Memory) × CountsNoMore p (length settings) old new)
-    ⊎ ((c : Sections) × (stopped : Bool) × IsCertificateAt p limit settings c × (IsTrue stopped ↔ StopsSomewhere p limit settings) × Counts p (length settings) old new × (r ≡ run.Certificates (cert_text c) stopped))
+    ⊎ ((c : Sections) × (stopped : Bool) × IsCertificateAt p limit settings c × (IsTrue stopped ↔ StopsSomewhere p limit settings) × Counts p (length settings) old new
+    × (r ≡ run.Certificates (cert_text c) stopped))
 
 -- the constraints of a problem are filtered at settings; want of memory is free
 abbrev pub FiltersAt : Problem → ℕ → List Pairs → ℕ → ℕ → Run → Type 0
 FiltersAt p limit settings old new r =
-    ((r ≡ run.Memory) × CountsNoMore p (length settings) old new) ⊎ ((outcomes : List FilterOutcome) × AreFilterOutcomes p limit settings outcomes × Counts p (length settings) old new × (r ≡ run.Filtered outcomes))
+    ((r ≡ run.Memory) × CountsNoMore p (length settings) old new) ⊎ ((outcomes : List FilterOutcome) × AreFilterOutcomes p limit settings outcomes × Counts p (length settings) old new
+    × (r ≡ run.Filtered outcomes))
 
 -- what a problem with a session gives, whose beginning is counted: the parameter has no range, and the script is refused; or it has one, and
 -- the settings file ends the run, or the range is told at its settings; want of memory is free
 pub data RangesFrom (told : Option Files) (risen : Type 0) (work : Work) (name parameter : List ℕ) (limit old new : ℕ) (r : Run) : Type 0 where
   lacking : (t : Refusal) → IsRefusedForRange work.problem parameter t → r ≡ run.Refused t → Counts work.problem 0 old new → RangesFrom told risen work name parameter limit old new r
   ending : HasRange work.problem parameter → EndsAt told risen Settings name RefusesSettings r → Counts work.problem 0 old new → RangesFrom told risen work name parameter limit old new r
-  ranging : HasRange work.problem parameter → (settings : List Pairs) (outcomes : List RangeOutcome) → AreOfFile told name work.last settings → AreRangeOutcomes work.problem parameter limit settings outcomes →
-      r ≡ run.Ranged parameter work.problem.sense outcomes → Counts work.problem 0 old new → RangesFrom told risen work name parameter limit old new r
+  ranging : HasRange work.problem parameter → (settings : List Pairs) (outcomes : List RangeOutcome) → AreOfFile told name work.last settings
+      → AreRangeOutcomes work.problem parameter limit settings outcomes
+      → r ≡ run.Ranged parameter work.problem.sense outcomes → Counts work.problem 0 old new → RangesFrom told risen work name parameter limit old new r
   wanting : r ≡ run.Memory → CountsNoMore work.problem 0 old new → RangesFrom told risen work name parameter limit old new r
 
 -- the settings of a file give this run, or the file ends it, and no step is counted
@@ -304,9 +312,12 @@ pub record GivesSections (told : Option Files) (script name file : List ℕ) (p 
 -- one of the files ends the run: the script, a variable that is to be whole, the settings file, or the certificate; want of memory is free
 pub data EndsFiles (told : Option Files) (risen : Type 0) (script name file : List ℕ) (r : Run) : Type 0 where
   at_script : EndsAt told risen Script script RefusesScript r → EndsFiles told risen script name file r
-  at_whole : (a : Accepted) (bytes : List ℕ) (t : Refusal) → IsTold told script bytes → Gives bytes (Ok a) → IsRefusedForWhole a.work.problem t → r ≡ run.Refused t → EndsFiles told risen script name file r
-  at_settings : (a : Accepted) (bytes : List ℕ) → IsTold told script bytes → Gives bytes (Ok a) → HasNoWhole a.work.problem → EndsAt told risen Settings name RefusesSettings r → EndsFiles told risen script name file r
-  at_certificate : (a : Accepted) (settings : List Pairs) → GivesSettings told script name a settings → ReadsCertificate told risen file a.work.problem (length settings) (Err r) → EndsFiles told risen script name file r
+  at_whole : (a : Accepted) (bytes : List ℕ) (t : Refusal) → IsTold told script bytes → Gives bytes (Ok a) → IsRefusedForWhole a.work.problem t → r ≡ run.Refused t
+      → EndsFiles told risen script name file r
+  at_settings : (a : Accepted) (bytes : List ℕ) → IsTold told script bytes → Gives bytes (Ok a) → HasNoWhole a.work.problem → EndsAt told risen Settings name RefusesSettings r
+      → EndsFiles told risen script name file r
+  at_certificate : (a : Accepted) (settings : List Pairs) → GivesSettings told script name a settings → ReadsCertificate told risen file a.work.problem (length settings) (Err r)
+      → EndsFiles told risen script name file r
   at_memory : r ≡ run.Memory → EndsFiles told risen script name file r
 
 -- a file of a command is refused: its script, for its length, for what stands in it, or for a variable that is to be whole where the
@@ -316,18 +327,21 @@ pub data IsRefusedRun (words : List (List ℕ)) (told : Option Files) (r : Refus
   long_script : (command : Command) (name : List ℕ) → command_of words ≡ Some command → script_name command ≡ Some name → IsLong told Script name r → IsRefusedRun words told r
   bad_script : (command : Command) (bytes : List ℕ) → command_of words ≡ Some command → IsScriptOf told command bytes → RefusesScript bytes r → IsRefusedRun words told r
   for_whole : (command : Command) (a : Accepted) → command_of words ≡ Some command → GivesProblem told command a → RefusesWhole command → IsRefusedForWhole a.work.problem r → IsRefusedRun words told r
-  for_range : (command : Command) (a : Accepted) (name : List ℕ) → command_of words ≡ Some command → GivesProblem told command a → HasNoWhole a.work.problem → parameter_name command ≡ Some name → IsRefusedForRange a.work.problem name r →
-      IsRefusedRun words told r
-  bad_settings : (command : Command) (a : Accepted) (name : List ℕ) → command_of words ≡ Some command → GivesProblem told command a → Takes command a.work.problem → AllowsRange command a.work.problem → settings_name command ≡ Some name →
-      IsLong told Settings name r ⊎ IsRefusedIn told name RefusesSettings r → IsRefusedRun words told r
+  for_range : (command : Command) (a : Accepted) (name : List ℕ) → command_of words ≡ Some command → GivesProblem told command a → HasNoWhole a.work.problem → parameter_name command ≡ Some name
+      → IsRefusedForRange a.work.problem name r
+      → IsRefusedRun words told r
+  bad_settings : (command : Command) (a : Accepted) (name : List ℕ) → command_of words ≡ Some command → GivesProblem told command a → Takes command a.work.problem
+      → AllowsRange command a.work.problem → settings_name command ≡ Some name
+      → IsLong told Settings name r ⊎ IsRefusedIn told name RefusesSettings r → IsRefusedRun words told r
   long_certificate : (command : Command) (files : HasCertificate words told command) → IsLong told Certificate files.name r → IsRefusedRun words told r
 
 -- a file of a command could not be had: its script, or, where that gives an accepted problem, its settings file, or, where that gives
 -- settings, its certificate
 pub data IsReadFault (words : List (List ℕ)) (told : Option Files) (risen : Type 0) : Type 0 where
   no_script : (command : Command) (name : List ℕ) → command_of words ≡ Some command → script_name command ≡ Some name → IsNotHad told risen name → IsReadFault words told risen
-  no_settings : (command : Command) (a : Accepted) (name : List ℕ) → command_of words ≡ Some command → GivesProblem told command a → Takes command a.work.problem → AllowsRange command a.work.problem → settings_name command ≡ Some name → IsNotHad told risen name →
-      IsReadFault words told risen
+  no_settings : (command : Command) (a : Accepted) (name : List ℕ) → command_of words ≡ Some command → GivesProblem told command a → Takes command a.work.problem
+      → AllowsRange command a.work.problem → settings_name command ≡ Some name → IsNotHad told risen name
+      → IsReadFault words told risen
   no_certificate : (command : Command) (files : HasCertificate words told command) → IsNotHad told risen files.name → IsReadFault words told risen
 
 -- ---- steps where memory is wanting
@@ -335,9 +349,11 @@ pub data IsReadFault (words : List (List ℕ)) (told : Option Files) (risen : Ty
 -- solves at settings, no more than are counted there. A check counts none, and where a certificate is read none is counted either.
 pub data CountsAtMost (words : List (List ℕ)) (told : Option Files) (old new : ℕ) : Type 0 where
   none : new ≡ old → CountsAtMost words told old new
-  beginning : (command : Command) (a : Accepted) (name : List ℕ) → command_of words ≡ Some command → GivesProblem told command a → parameter_name command ≡ Some name → CountsNoMore a.work.problem 0 old new → CountsAtMost words told old new
-  solving : (command : Command) (a : Accepted) (settings : List Pairs) → command_of words ≡ Some command → GivesProblem told command a → certificate_name command ≡ None → AreSettingsOf told command a.work settings →
-      CountsNoMore a.work.problem (length settings) old new → CountsAtMost words told old new
+  beginning : (command : Command) (a : Accepted) (name : List ℕ) → command_of words ≡ Some command → GivesProblem told command a → parameter_name command ≡ Some name
+      → CountsNoMore a.work.problem 0 old new → CountsAtMost words told old new
+  solving : (command : Command) (a : Accepted) (settings : List Pairs) → command_of words ≡ Some command → GivesProblem told command a → certificate_name command ≡ None
+      → AreSettingsOf told command a.work settings
+      → CountsNoMore a.work.problem (length settings) old new → CountsAtMost words told old new
 
 -- Each run with its cause. `risen` says that the library's count of faults rose in this run; the counter of steps goes from `old` to
 -- `new`. Want of memory alone is free, and counts no more steps than the command does.

@@ -77,7 +77,8 @@ pub record IsLongCertificate (command : Command) (certificate : List ℕ) : Type
 pub data AreAtFault (command : Command) (script settings certificate : List ℕ) : Type 0 where
   bad_script : IsAtFault script → AreAtFault command script settings certificate
   has_whole : (h : IsWithoutFault script) → RefusesWhole command → (i : ℕ) → IsWholeAt h.work.problem i → AreAtFault command script settings certificate
-  lacks_range : (h : IsWithoutFault script) (name : List ℕ) → parameter_name command ≡ Some name → (fault : NotRanged) → LacksRange h.work.problem name fault → AreAtFault command script settings certificate
+  lacks_range : (h : IsWithoutFault script) (name : List ℕ) → parameter_name command ≡ Some name → (fault : NotRanged) → LacksRange h.work.problem name fault
+      → AreAtFault command script settings certificate
   bad_settings : IsWithoutFault script → AreFaulty command settings → AreAtFault command script settings certificate
   long_certificate : IsWithoutFault script → AreFaultless command settings → IsLongCertificate command certificate → AreAtFault command script settings certificate
 
@@ -96,5 +97,7 @@ pub record IsVerdictOn (command : Command) (script settings certificate : List �
 
 -- where the run is answered and files are told; of a trial, which has its text, whatever is told
 abbrev pub IsRightVerdict : List (List ℕ) → Option Files → Run → Type 0
-IsRightVerdict words None r = IsAnswered r → (size limit : ℕ) (settings certificate : List ℕ) → command_of words ≡ Some (trial size limit) → IsVerdictOn (trial size limit) (trial_text size) settings certificate r
-IsRightVerdict words (Some files) r = IsAnswered r → (command : Command) (script settings certificate : List ℕ) → command_of words ≡ Some command → Has files command script settings certificate → IsVerdictOn command script settings certificate r
+IsRightVerdict words None r = IsAnswered r → (size limit : ℕ) (settings certificate : List ℕ) → command_of words ≡ Some (trial size limit)
+    → IsVerdictOn (trial size limit) (trial_text size) settings certificate r
+IsRightVerdict words (Some files) r = IsAnswered r → (command : Command) (script settings certificate : List ℕ) → command_of words ≡ Some command → Has files command script settings certificate
+    → IsVerdictOn command script settings certificate r

@@ -57,7 +57,8 @@ fn read_at<L: Library>(
     library: &mut L,
 ) -> Result<Certified, Run>
     ensures reads { IfOk result (λ f. (f.problem ≡ problem) × (f.settings.items ≡ settings.items) × HasTextOf (L.told library.old) certificate.now f.problem f.settings.items f.sections) }
-    ensures ends { IfErr result (λ r. (r ≡ Run.Memory) ⊎ ReadsCertificate (L.told library.old) (Rose (L.faults library.old) (L.faults library.new)) certificate.now problem (length settings.items) (Err r)) }
+    ensures ends { IfErr result (λ r. (r ≡ Run.Memory) ⊎ ReadsCertificate (L.told library.old) (Rose (L.faults library.old) (L.faults library.new)) certificate.now problem
+        (length settings.items) (Err r)) }
     ensures same { L.told library.new ≡ L.told library.old }
     ensures never_falls { L.faults library.old ≤ L.faults library.new }
 {
@@ -87,8 +88,10 @@ fn read_sections<L: Library>(
     library: &mut L,
 ) -> Result<Certified, Run>
     requires { Every (Every IsFull) lines.now }
-    ensures reads { IfOk result (λ f. (f.problem ≡ accepted.work.problem) × AreLaidOver accepted.work.last lines.now f.settings.items × HasTextOf (L.told library.old) certificate.now f.problem f.settings.items f.sections) }
-    ensures ends { IfErr result (λ r. (r ≡ Run.Memory) ⊎ ((laid : List Pairs) × AreLaidOver accepted.work.last lines.now laid × ReadsCertificate (L.told library.old) (Rose (L.faults library.old) (L.faults library.new)) certificate.now accepted.work.problem (length laid) (Err r))) }
+    ensures reads { IfOk result (λ f. (f.problem ≡ accepted.work.problem) × AreLaidOver accepted.work.last lines.now f.settings.items
+        × HasTextOf (L.told library.old) certificate.now f.problem f.settings.items f.sections) }
+    ensures ends { IfErr result (λ r. (r ≡ Run.Memory) ⊎ ((laid : List Pairs) × AreLaidOver accepted.work.last lines.now laid
+        × ReadsCertificate (L.told library.old) (Rose (L.faults library.old) (L.faults library.new)) certificate.now accepted.work.problem (length laid) (Err r))) }
     ensures same { L.told library.new ≡ L.told library.old }
     ensures never_falls { L.faults library.old ≤ L.faults library.new }
 {
@@ -142,7 +145,8 @@ pub(crate) fn certify<L: Library>(
     certificate: &str,
     library: &mut L,
 ) -> Run
-    ensures causes { (words : List (List ℕ)) (steps : ℕ) → command_of words ≡ Some (certifies script.now settings.now certificate.now) → Causes words (L.told library.old) (Rose (L.faults library.old) (L.faults library.new)) steps steps result }
+    ensures causes { (words : List (List ℕ)) (steps : ℕ) → command_of words ≡ Some (certifies script.now settings.now certificate.now)
+        → Causes words (L.told library.old) (Rose (L.faults library.old) (L.faults library.new)) steps steps result }
     ensures same { L.told library.new ≡ L.told library.old }
 {
     let files = match read_all(alloc, script, settings, certificate, library) {
@@ -196,7 +200,8 @@ pub(crate) fn migrate<L: Library>(
     certificate: &str,
     library: &mut L,
 ) -> Run
-    ensures causes { (words : List (List ℕ)) (steps : ℕ) → command_of words ≡ Some (migrates script.now settings.now certificate.now) → Causes words (L.told library.old) (Rose (L.faults library.old) (L.faults library.new)) steps steps result }
+    ensures causes { (words : List (List ℕ)) (steps : ℕ) → command_of words ≡ Some (migrates script.now settings.now certificate.now)
+        → Causes words (L.told library.old) (Rose (L.faults library.old) (L.faults library.new)) steps steps result }
     ensures same { L.told library.new ≡ L.told library.old }
 {
     let files = match read_all(alloc, script, settings, certificate, library) {

@@ -11,7 +11,8 @@ use std::alloc::Global;
 
 /// What a script gives that is checked.
 pub(crate) fn check<L: Library>(alloc: Global, script: &str, library: &mut L) -> Run
-    ensures causes { (words : List (List ℕ)) (steps : ℕ) → command_of words ≡ Some (checks script.now) → Causes words (L.told library.old) (Rose (L.faults library.old) (L.faults library.new)) steps steps result }
+    ensures causes { (words : List (List ℕ)) (steps : ℕ) → command_of words ≡ Some (checks script.now)
+        → Causes words (L.told library.old) (Rose (L.faults library.old) (L.faults library.new)) steps steps result }
     ensures same { L.told library.new ≡ L.told library.old }
 {
     match read_script(alloc, script, library) {

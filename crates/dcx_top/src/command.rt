@@ -8,6 +8,7 @@
 //! | files are refused exactly where they are at fault, and the problem checked or solved exactly where they are not | `verdict` |
 //! | the usage line comes exactly where the words are no plain form | `usage` |
 //! | the report's text or a front of it is written, with its status | `reports` |
+//! | each write is handed all that is left of the report | `rests` |
 //! | a `resolve` with `--warm` answers each setting from the columns that the settings before it left, where that can be, and counts those | `causes` |
 //! | a `range` tells of each setting how far the parameter may move, and the line that the value of the problem goes along meanwhile | `headline`, `causes` |
 //! | a problem with variables that are to be whole is solved by branch and bound: a whole optimum, or that there is no whole point, with the number of nodes of the run | `headline`, `causes` |
@@ -21,7 +22,7 @@ ghost use Rattle.dcx_top.specs.Headline.{IsRightRun};
 ghost use Rattle.dcx_top.specs.OneRun.{IsOnlyRun};
 ghost use Rattle.dcx_top.specs.Verdicts.{IsRightVerdict};
 ghost use Rattle.dcx_report.specs.ReportText.{text_of};
-ghost use Rattle.dcx_top.specs.Ended.{Reports, IsToldOf};
+ghost use Rattle.dcx_top.specs.Ended.{Reports, IsHandedWhole, IsToldOf};
 
 use crate::certifying::{certify, migrate};
 use crate::checking::check;
@@ -29,8 +30,7 @@ use crate::ended::Ended;
 use crate::ranging::range;
 use crate::solving::{Task, resolve, solve, trial};
 use crate::status::{failed_status, status};
-use crate::write::write_all;
-use dcx_host::{Library, Sink, SinkFault};
+use dcx_host::{Library, Sink, SinkFault, write_all};
 use dcx_report::{Run, memory_report, report_text, usage_report};
 use dcx_steps::Steps;
 use dcx_words::{Form, plain_form};
@@ -111,6 +111,7 @@ fn written<K: Sink>(run: Run, report: &[u8], sink: &mut K) -> Ended
     requires { report.now ≡ text_of run }
     ensures run { result.run ≡ run }
     ensures reports { Reports (K.written sink.old) (K.written sink.new) (Rose (K.faults sink.old) (K.faults sink.new)) result }
+    ensures rests { IsHandedWhole (K.handed sink.old) (K.handed sink.new) result }
 {
     match write_all(report, sink) {
         Ok(()) => Ended {
@@ -136,6 +137,7 @@ fn is_usage(run: &Run) -> bool
 fn written_in_short<K: Sink>(run: Run, sink: &mut K) -> Ended
     ensures told { IsToldOf run result.run }
     ensures reports { Reports (K.written sink.old) (K.written sink.new) (Rose (K.faults sink.old) (K.faults sink.new)) result }
+    ensures rests { IsHandedWhole (K.handed sink.old) (K.handed sink.new) result }
 {
     if is_usage(&run) {
         return written(run, usage_report(), sink);
@@ -148,11 +150,23 @@ fn written_in_short<K: Sink>(run: Run, sink: &mut K) -> Ended
 fn reported<K: Sink>(alloc: Global, run: Run, sink: &mut K) -> Ended
     ensures told { IsToldOf run result.run }
     ensures reports { Reports (K.written sink.old) (K.written sink.new) (Rose (K.faults sink.old) (K.faults sink.new)) result }
+    ensures rests { IsHandedWhole (K.handed sink.old) (K.handed sink.new) result }
 {
     match report_text(alloc, &run) {
         Ok(report) => written(run, report.as_slice(), sink),
         Err(_) => written_in_short(run, sink),
     }
+}
+
+/// Where there is no memory for the words of the command line: tells that memory is wanting, which takes none, with the status 5.
+pub fn without_words<K: Sink>(sink: &mut K) -> Ended
+    ensures run { result.run ≡ Run.Memory }
+    ensures status { result.status ≡ 5 }
+    ensures reports { Reports (K.written sink.old) (K.written sink.new) (Rose (K.faults sink.old) (K.faults sink.new)) result }
+    ensures rests { IsHandedWhole (K.handed sink.old) (K.handed sink.new) result }
+{
+    let run = Run::Memory;
+    written(run, memory_report(), sink)
 }
 
 /// All that the program does: it carries out the words and writes the report of the run to the sink.
@@ -174,6 +188,7 @@ pub fn run<L: Library, K: Sink, S: Ledger>(
     ensures verdict { IsRightVerdict (map string_bytes words.now) (L.told library.old) result.run }
     ensures usage { (result.run ≡ Run.Usage) ↔ (command_of (map string_bytes words.now) ≡ None) }
     ensures reports { Reports (K.written sink.old) (K.written sink.new) (Rose (K.faults sink.old) (K.faults sink.new)) result }
+    ensures rests { IsHandedWhole (K.handed sink.old) (K.handed sink.new) result }
     ensures same { L.told library.new ≡ L.told library.old }
 {
     let run = answer(alloc, words, library, steps);

@@ -9,6 +9,8 @@ ghost use Rattle.dcx_top.specs.Runs.{Causes};
 ghost use Rattle.dcx_top.specs.Headline.{IsRightRun};
 ghost use Rattle.dcx_top.specs.OneRun.{IsOnlyRun};
 ghost use Rattle.dcx_top.specs.Migrated.{MigrateRefusesAsCertify};
+ghost use Rattle.dcx_top.specs.ReadBack.{CertificatesAreReadBack};
+ghost use Rattle.dcx_top.specs.SameReport.{SameContentsSameReport};
 ghost use Rattle.dcx_top.specs.Verdicts.{IsRightVerdict};
 
 /// Whatever run has its cause is right: so is its answer at each setting.
@@ -29,4 +31,16 @@ pub fn right_verdict()
 /// Of the same files `migrate` refuses exactly where `certify` does, with the same contents.
 pub fn migrate_refuses_as_certify()
     ensures { MigrateRefusesAsCertify }
+{}
+
+/// Two runs of one command over the same contents have the same report, byte by byte, and the same status; or one of them lacked a file or
+/// memory, for itself or at a setting.
+pub fn same_contents_same_report()
+    ensures { SameContentsSameReport }
+{}
+
+/// Of the same script and settings file `certify` reads what `certificate` wrote, and tries its sections, where that has at most 67,108,864
+/// bytes; and refuses it for its length where it has more.
+pub fn certificates_are_read_back()
+    ensures { CertificatesAreReadBack }
 {}

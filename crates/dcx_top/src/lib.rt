@@ -16,7 +16,6 @@ mod solving;
 mod stands;
 mod status;
 mod whole;
-mod write;
 
-pub use command::run;
+pub use command::{run, without_words};
 pub use ended::Ended;

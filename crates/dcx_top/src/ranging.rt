@@ -52,7 +52,8 @@ fn range_lines<S: Ledger>(
 ) -> Run
     requires ranged { HasRange session.old.problem name }
     requires full { Every (Every IsFull) lines.now }
-    ensures { ((result ≡ Run.Memory) × (steps.new ≡ steps.old)) ⊎ ((settings : List Pairs) × (outcomes : List RangeOutcome) × AreLaidOver last.now lines.now settings × AreRangeOutcomes session.old.problem name limit settings outcomes × (result ≡ Run.Ranged name session.old.problem.sense outcomes) × (steps.new ≡ steps.old)) }
+    ensures { ((result ≡ Run.Memory) × (steps.new ≡ steps.old)) ⊎ ((settings : List Pairs) × (outcomes : List RangeOutcome) × AreLaidOver last.now lines.now settings
+        × AreRangeOutcomes session.old.problem name limit settings outcomes × (result ≡ Run.Ranged name session.old.problem.sense outcomes) × (steps.new ≡ steps.old)) }
 {
     let Ok(settings) = all_laid_over(alloc, last, lines.as_slice()) else {
         return Run::Memory;
@@ -80,7 +81,8 @@ fn range_session<L: Library, S: Ledger>(
     library: &mut L,
     steps: &mut Steps<S>,
 ) -> Run
-    ensures run { (work : Work) (begun : ℕ) → work.problem ≡ session.old.problem → work.last ≡ last.now → Counts work.problem 0 begun steps.old → RangesFrom (L.told library.old) (Rose (L.faults library.old) (L.faults library.new)) work settings.now name limit begun steps.new result }
+    ensures run { (work : Work) (begun : ℕ) → work.problem ≡ session.old.problem → work.last ≡ last.now → Counts work.problem 0 begun steps.old
+        → RangesFrom (L.told library.old) (Rose (L.faults library.old) (L.faults library.new)) work settings.now name limit begun steps.new result }
     ensures same { L.told library.new ≡ L.told library.old }
     ensures never_falls { L.faults library.old ≤ L.faults library.new }
 {
@@ -149,7 +151,8 @@ fn range_file<L: Library, S: Ledger>(
     steps: &mut Steps<S>,
 ) -> Run
     requires { IsJudged accepted.work.problem accepted.verdict }
-    ensures run { OrWhole ⊤ accepted.work.problem (RangesFrom (L.told library.old) (Rose (L.faults library.old) (L.faults library.new)) accepted.work settings.now parameter.now limit steps.old steps.new) steps.old steps.new result }
+    ensures run { OrWhole ⊤ accepted.work.problem (RangesFrom (L.told library.old)
+        (Rose (L.faults library.old) (L.faults library.new)) accepted.work settings.now parameter.now limit steps.old steps.new) steps.old steps.new result }
     ensures same { L.told library.new ≡ L.told library.old }
     ensures never_falls { L.faults library.old ≤ L.faults library.new }
 {
@@ -185,7 +188,8 @@ pub(crate) fn range<L: Library, S: Ledger>(
     library: &mut L,
     steps: &mut Steps<S>,
 ) -> Run
-    ensures causes { (words : List (List ℕ)) → command_of words ≡ Some (ranges script.now settings.now parameter.now limit) → Causes words (L.told library.old) (Rose (L.faults library.old) (L.faults library.new)) steps.old steps.new result }
+    ensures causes { (words : List (List ℕ)) → command_of words ≡ Some (ranges script.now settings.now parameter.now limit)
+        → Causes words (L.told library.old) (Rose (L.faults library.old) (L.faults library.new)) steps.old steps.new result }
     ensures same { L.told library.new ≡ L.told library.old }
 {
     match read_script(alloc, script, library) {

@@ -265,7 +265,8 @@ fn do_lines<S: Ledger>(
 ) -> Run
     requires judged { IsJudged accepted.work.problem accepted.verdict }
     requires full { Every (Every IsFull) lines.now }
-    ensures { ((result ≡ Run.Memory) × (steps.new ≡ steps.old)) ⊎ ((settings : List Pairs) × AreLaidOver accepted.work.last lines.now settings × DoesAt task accepted.work limit settings steps.old steps.new result) }
+    ensures { ((result ≡ Run.Memory) × (steps.new ≡ steps.old)) ⊎ ((settings : List Pairs) × AreLaidOver accepted.work.last lines.now settings
+        × DoesAt task accepted.work limit settings steps.old steps.new result) }
 {
     match all_laid_over(alloc, &accepted.work.last, lines.as_slice()) {
         Ok(settings) => do_at(alloc, accepted, &settings, task, limit, steps),
@@ -335,7 +336,8 @@ pub(crate) fn solve<L: Library, S: Ledger>(
     library: &mut L,
     steps: &mut Steps<S>,
 ) -> Run
-    ensures causes { (words : List (List ℕ)) → command_of words ≡ Some (solves script.now limit) → Causes words (L.told library.old) (Rose (L.faults library.old) (L.faults library.new)) steps.old steps.new result }
+    ensures causes { (words : List (List ℕ)) → command_of words ≡ Some (solves script.now limit)
+        → Causes words (L.told library.old) (Rose (L.faults library.old) (L.faults library.new)) steps.old steps.new result }
     ensures same { L.told library.new ≡ L.told library.old }
 {
     match read_script(alloc, script, library) {
@@ -376,7 +378,8 @@ fn do_file<L: Library, S: Ledger>(
     steps: &mut Steps<S>,
 ) -> Run
     requires { IsJudged accepted.work.problem accepted.verdict }
-    ensures run { OrWhole (IsTrue (task_refuses task)) accepted.work.problem (DoesFrom (L.told library.old) (Rose (L.faults library.old) (L.faults library.new)) task accepted.work settings.now limit steps.old steps.new) steps.old steps.new result }
+    ensures run { OrWhole (IsTrue (task_refuses task)) accepted.work.problem
+        (DoesFrom (L.told library.old) (Rose (L.faults library.old) (L.faults library.new)) task accepted.work settings.now limit steps.old steps.new) steps.old steps.new result }
     ensures same { L.told library.new ≡ L.told library.old }
     ensures never_falls { L.faults library.old ≤ L.faults library.new }
 {
@@ -404,7 +407,8 @@ pub(crate) fn resolve<L: Library, S: Ledger>(
     library: &mut L,
     steps: &mut Steps<S>,
 ) -> Run
-    ensures causes { (words : List (List ℕ)) → command_of words ≡ Some (command_for task script.now settings.now limit) → Causes words (L.told library.old) (Rose (L.faults library.old) (L.faults library.new)) steps.old steps.new result }
+    ensures causes { (words : List (List ℕ)) → command_of words ≡ Some (command_for task script.now settings.now limit)
+        → Causes words (L.told library.old) (Rose (L.faults library.old) (L.faults library.new)) steps.old steps.new result }
     ensures same { L.told library.new ≡ L.told library.old }
 {
     match read_script(alloc, script, library) {

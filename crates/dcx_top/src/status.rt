@@ -1,7 +1,8 @@
 //! The status of a run whose whole report is written.
 ghost use Rattle.std.specs.Prelude.{◌≡◌, ◌≢◌, ◌⊎◌, Bool};
 ghost use Rattle.std.specs.List.{list_any};
-ghost use Rattle.dcx_top.specs.Ended.{status_of_all as status_of_outcomes, status_of, is_stop, wants_memory, is_filter_stop, filter_wants_memory, is_range_stop, range_wants_memory, is_whole_stop, whole_wants_memory};
+ghost use Rattle.dcx_top.specs.Ended.{status_of_all as status_of_outcomes, status_of, is_stop, wants_memory, is_filter_stop};
+ghost use Rattle.dcx_top.specs.Ended.{filter_wants_memory, is_range_stop, range_wants_memory, is_whole_stop, whole_wants_memory};
 
 use dcx_answer::Stop;
 use dcx_report::{

@@ -2,19 +2,16 @@
 use Rattle.std.proofs.Common.{◌≡◌, Bool, true, false, [], ◌∷◌, MatchBool, sym, subst, ◌∙◌, pos}
 use Rattle.std.proofs.lemmas.Bool.{false≢true}
 use Rattle.dcx_math.specs.Rational.{ℚ, whole, rat_le, rat_eq, ◌-ℚ◌, ◌≤ℚ◌}
-use Rattle.dcx_math.proofs.Orders.{linear, -ℚ_self, ≡-from_difference}
+use Rattle.dcx_math.proofs.Orders.{linear, -ℚ_self, ≡-from_difference, -ℚ-nonpositive}
 use Rattle.dcx_math.proofs.Ring.{reads}
 use Rattle.dcx_math.proofs.Ratios.{IsTrue-rat_le, IsTrue-rat_eq}
 use Rattle.dcx_convex.specs.Problems.{Holds, AtMost, Equal}
-
-at_most_zero : (x y : ℚ) → x ≤ℚ y → x -ℚ y ≤ℚ whole (pos 0)
-at_most_zero x y h = linear (x ∷ y ∷ []) h (search reads depth 30) tt
 
 from_at_most_zero : (x y : ℚ) → x -ℚ y ≤ℚ whole (pos 0) → x ≤ℚ y
 from_at_most_zero x y h = linear (x ∷ y ∷ []) h (search reads depth 30) tt
 
 pub at_most : (x y : ℚ) (b : Bool) → b ≡ rat_le x y → MatchBool b (Holds AtMost (x -ℚ y)) (¬ Holds AtMost (x -ℚ y))
-at_most x y true e = at_most_zero x y ((IsTrue-rat_le x y).0 (sym e))
+at_most x y true e = -ℚ-nonpositive x y ((IsTrue-rat_le x y).0 (sym e))
 at_most x y false e = λ h. false≢true (e ∙ (IsTrue-rat_le x y).1 (from_at_most_zero x y h))
 
 pub equal : (x y : ℚ) (b : Bool) → b ≡ rat_eq x y → MatchBool b (Holds Equal (x -ℚ y)) (¬ Holds Equal (x -ℚ y))

@@ -41,9 +41,11 @@ module _ (nodes : List Node) (names : Names) (are : AreNodes shape_of nodes) (se
   -- the value of a node from those of its arguments
   told_value : (i : ℕ) (n : Node) → IsNode nodes i n → AreNamed nodes names i → value_of n.call (given_by setting) (given_by point) (map node_value n.args) ≡ node_value i
   told_value i n at named =
-      let told : first_of (entries_of n.sides) (call_value n.call (given_by setting) (given_by point) (arg_sides nodes n) (arguments (map (source_value nodes names setting point) n.args))) ≡ source_value nodes names setting point i =
+      let told : first_of (entries_of n.sides) (call_value n.call (given_by setting) (given_by point) (arg_sides nodes n)
+      (arguments (map (source_value nodes names setting point) n.args))) ≡ source_value nodes names setting point i =
       fun_ext (λ j. sym (node_told nodes are setting point names i n at (named i n (reached_self nodes i) at) j)) in
-      value_is n.call (given_by setting) (given_by point) (map node_value n.args) (arg_sides nodes n) (map (source_value nodes names setting point) n.args) n.sides (sides_in n.args) (numbers_in n.args) (are.shaped i n at)
+      value_is n.call (given_by setting) (given_by point) (map node_value n.args) (arg_sides nodes n) (map (source_value nodes names setting point) n.args) n.sides
+      (sides_in n.args) (numbers_in n.args) (are.shaped i n at)
       ∙ ap₂ (λ (s : Sides) (f : Numbers). record { sides = s; numbers = f }) (sym (sides_are nodes i n at)) told
 
   -- what an argument reaches is named

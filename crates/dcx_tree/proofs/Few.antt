@@ -82,8 +82,11 @@ few_declared nodes vs ps d =
     subst (λ n. n ≤ length nodes) (length-both (λ (v : Variable). v.name) (λ (p : Parameter). p.name) vs ps)
     (subst (λ n. length (declared_names vs ps) ≤ n) (length-keyed nodes)
     (length-le_from_keys nat_list_eq_equiv (declared_names vs ps) (keyed nodes) d.distinct (λ q e.
-    declared_key nodes q (λ (v : Variable). v.name) (λ v. calls.Variable v) (λ v. refl) vs (map (λ (p : Parameter). p.name) ps) (recursion_from_All (λ v. HasCall nodes (calls.Variable v)) vs d.variables_stand)
-    (λ e'. declared_key nodes q (λ (p : Parameter). p.name) (λ p. calls.Parameter p) (λ p. refl) ps [] (recursion_from_All (λ p. HasCall nodes (calls.Parameter p)) ps d.parameters_stand) (λ e''. absurd (no_name q e'')) (subst (λ ns. list_any (same_name q) ns ≡ true) (sym (append-nil' (map (λ (p : Parameter). p.name) ps))) e')) e)))
+    declared_key nodes q (λ (v : Variable). v.name) (λ v. calls.Variable v) (λ v. refl) vs (map (λ (p : Parameter). p.name) ps)
+    (recursion_from_All (λ v. HasCall nodes (calls.Variable v)) vs d.variables_stand)
+    (λ e'. declared_key nodes q (λ (p : Parameter). p.name) (λ p. calls.Parameter p) (λ p. refl) ps []
+    (recursion_from_All (λ p. HasCall nodes (calls.Parameter p)) ps d.parameters_stand) (λ e''. absurd (no_name q e''))
+    (subst (λ ns. list_any (same_name q) ns ≡ true) (sym (append-nil' (map (λ (p : Parameter). p.name) ps))) e')) e)))
   where
     append-nil' : (xs : List (List ℕ)) → xs ++ [] ≡ xs
     append-nil' [] = refl

@@ -1,5 +1,6 @@
 -- Nodes that are formed one by one, and the first that isn't.
-use Rattle.std.proofs.Common.{◌≡◌, inl, inr, ℕ, zero, suc, ◌+◌, ◌<◌, true, List, [], ◌∷◌, ◌++◌, length, map, take, get_or, All, Option, Some, None, IsSome, refl, sym, ap, subst, ◌∙◌, arith, length-append}
+use Rattle.std.proofs.Common.{◌≡◌, inl, inr, ℕ, zero, suc, ◌+◌, ◌<◌, true, List, [], ◌∷◌, ◌++◌, length, map, take}
+use Rattle.std.proofs.Common.{get_or, All, Option, Some, None, IsSome, refl, sym, ap, subst, ◌∙◌, arith, length-append}
 use Rattle.std.specs.List.{slice_get}
 use Rattle.std.proofs.lemmas.List.{take_more, map-append, get_or_default}
 use Rattle.std.proofs.lemmas.Bool.{cases_eq}
@@ -76,7 +77,8 @@ module _ (nodes : List Node) (are : AreNodes shape_of nodes) (setting point : Pa
   values_more arrays o h last = put_each (IsValueOf nodes setting point) arrays o h last
 
   -- what is kept of arguments is their values
-  pub arguments_kept : (arrays : List (Option Array)) → AreValues nodes setting point arrays → (ids : List ℕ) (args : List Array) → map Some args ≡ map (array_at arrays) ids → AreArguments nodes setting point ids args
+  pub arguments_kept : (arrays : List (Option Array)) → AreValues nodes setting point arrays → (ids : List ℕ) (args : List Array) → map Some args ≡ map (array_at arrays) ids
+      → AreArguments nodes setting point ids args
   arguments_kept arrays h [] [] e = tt
   arguments_kept arrays h [] (v ∷ args) e = absurd (cc)
   arguments_kept arrays h (a ∷ ids) [] e = absurd (cc)
@@ -95,18 +97,21 @@ module _ (nodes : List Node) (are : AreNodes shape_of nodes) (setting point : Pa
   formed_none = record { count = refl; some = λ k b r. absurd (omega arith); values = values_none }
 
   -- one more node: where it is reached, its value
-  pub formed_more : (n : ℕ) (arrays : List (Option Array)) (o : Option Array) → HasFormed nodes setting point root n arrays → (IsReached nodes (root ∷ []) n → IsSome o) → ((v : Array) → o ≡ Some v → IsValueOf nodes setting point n v) →
+  pub formed_more : (n : ℕ) (arrays : List (Option Array)) (o : Option Array) → HasFormed nodes setting point root n arrays → (IsReached nodes (root ∷ []) n → IsSome o)
+      → ((v : Array) → o ≡ Some v → IsValueOf nodes setting point n v) →
       HasFormed nodes setting point root (n + 1) (arrays ++ o ∷ [])
   formed_more n arrays o h some is =
       let at : length arrays ≡ n = h.count in
       record {
         count = simp length-append (omega (arith, at));
-        some = λ k b r. some_more (λ k'. IsReached nodes (root ∷ []) k') arrays o (λ k' b' r'. h.some k' (omega (arith, at, b')) r') (λ r'. some (subst (λ m. IsReached nodes (root ∷ []) m) at r')) k (omega (arith, at, b)) r;
+        some = λ k b r. some_more (λ k'. IsReached nodes (root ∷ []) k') arrays o (λ k' b' r'. h.some k' (omega (arith, at, b')) r')
+            (λ r'. some (subst (λ m. IsReached nodes (root ∷ []) m) at r')) k (omega (arith, at, b)) r;
         values = values_more arrays o h.values (λ v e. subst (λ m. IsValueOf nodes setting point m v) (sym at) (is v e));
       }
 
   -- the first node that isn't formed
-  pub first_stop : (arrays : List (Option Array)) (i : ℕ) (stop : ValueStop) → i < length nodes → IsReached nodes (root ∷ []) i → ((k : ℕ) → k < i → IsReached nodes (root ∷ []) k → IsSome (array_at arrays k)) →
+  pub first_stop : (arrays : List (Option Array)) (i : ℕ) (stop : ValueStop) → i < length nodes → IsReached nodes (root ∷ []) i
+      → ((k : ℕ) → k < i → IsReached nodes (root ∷ []) k → IsSome (array_at arrays k)) →
       AreValues nodes setting point arrays → IsNodeStop nodes setting point i stop → IsValueStop nodes setting point root stop
   first_stop arrays i (stops.Passes entry passes) lt r there values h = λ names named.
       let (n, at) = node_there nodes i lt in
@@ -115,7 +120,8 @@ module _ (nodes : List Node) (are : AreNodes shape_of nodes) (setting point : Pa
         node = n;
         there = at;
         reached = r;
-        before = λ k m b s at'. let (v, is) = some_of (array_at arrays k) (there k b s) in (values k v is).formed names (λ j q t z. named j q (reached_through nodes root k j s t) z) k m (reached_self nodes k) at';
+        before = λ k m b s at'. let (v, is) = some_of (array_at arrays k) (there k b s) in
+            (values k v is).formed names (λ j q t z. named j q (reached_through nodes root k j s t) z) k m (reached_self nodes k) at';
         here = h names (λ j q t z. named j q (reached_through nodes root i j r t) z) n at;
       }
   first_stop arrays i (stops.ZeroDivisor entry) lt r there values h = λ names named.
@@ -125,7 +131,8 @@ module _ (nodes : List Node) (are : AreNodes shape_of nodes) (setting point : Pa
         node = n;
         there = at;
         reached = r;
-        before = λ k m b s at'. let (v, is) = some_of (array_at arrays k) (there k b s) in (values k v is).formed names (λ j q t z. named j q (reached_through nodes root k j s t) z) k m (reached_self nodes k) at';
+        before = λ k m b s at'. let (v, is) = some_of (array_at arrays k) (there k b s) in
+            (values k v is).formed names (λ j q t z. named j q (reached_through nodes root k j s t) z) k m (reached_self nodes k) at';
         here = h names (λ j q t z. named j q (reached_through nodes root i j r t) z) n at;
       }
   first_stop arrays i stops.Memory lt r there values h = tt
@@ -141,12 +148,6 @@ call_more P nodes i call read here so_far k n lt at = elim (cases_eq k i) [
       subst P (sym is ∙ ap (λ (x : Node). x.call) same) here
   | inr other ↦ so_far k n (omega (arith, lt, other)) at
 ]
-
--- and what holds of no call holds not of all
-pub call_never : (P : Call → Type 0) (nodes : List Node) (i : ℕ) (call : Call) → call_at nodes i ≡ Some call → ¬ P call → ¬ ((k : ℕ) (n : Node) → IsNode nodes k n → P n.call)
-call_never P nodes i call read none all =
-    let (m, there, is) = found_in (slice_get nodes i) call read in
-    none (subst P is (all i m there))
 
 -- ---- what is read of what is kept
 pub kept_at : (arrays : List (Option Array)) (a : ℕ) (o : Option Array) → IsSome (array_at arrays a) → o ≡ get_or arrays a o → o ≡ array_at arrays a

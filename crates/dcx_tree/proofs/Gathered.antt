@@ -54,7 +54,8 @@ pub rest_length : (ends : List NodeId) (n : ℕ) → length ends ≡ 1 + n → l
 rest_length ends n e = ap length (take_rest ends 1) ∙ length-drop 1 ends ∙ omega (arith, e)
 
 -- the first end, and the others
-pub ends_split : (ends : List NodeId) (n : ℕ) (o : NodeId) (cs : List Constraint) → length ends ≡ 1 + n → o ≡ get_or ends 0 o → sides_in cs ≡ positions (take (length ends - 1) (drop 1 ends)) → positions ends ≡ roots_of o cs
+pub ends_split : (ends : List NodeId) (n : ℕ) (o : NodeId) (cs : List Constraint) → length ends ≡ 1 + n → o ≡ get_or ends 0 o
+    → sides_in cs ≡ positions (take (length ends - 1) (drop 1 ends)) → positions ends ≡ roots_of o cs
 ends_split [] n o cs l at s = absurd (omega arith)
 ends_split (x ∷ ends) n o cs l at s =
     ap₂ (λ y ys. y ∷ ys) (ap (λ (z : NodeId). z.0) (sym at)) (sym (s ∙ ap positions (take_rest (x ∷ ends) 1)))
@@ -76,7 +77,8 @@ pub record IsWhole (source : List Node) (roots : Roots) (part : List Node) (o : 
 module _ (source : List Node) (roots : Roots) (objective : IsObjective source roots.objective) (constraints : AreConstraints source roots.constraints) (declared : AreDeclarations source roots)
     (part : List Node) (ends : List NodeId) (g : IsGathered source (positions_of roots) part (positions ends)) (are : AreNodes shape_of source) (part_are : AreNodes shape_of part)
     (o : NodeId) (cs : List Constraint) (vs : List Variable) (ps : List Parameter) (first : o ≡ get_or ends 0 o) (sides : sides_in cs ≡ positions (take (length ends - 1) (drop 1 ends)))
-    (demands : map demand_of cs ≡ map demand_of roots.constraints) (vs_are : vs ≡ filter (λ v. has_variable part v.name) roots.variables) (ps_are : ps ≡ filter (λ q. has_parameter part q.name) roots.parameters) where
+    (demands : map demand_of cs ≡ map demand_of roots.constraints) (vs_are : vs ≡ filter (λ v. has_variable part v.name) roots.variables)
+    (ps_are : ps ≡ filter (λ q. has_parameter part q.name) roots.parameters) where
   ends_are : positions ends ≡ roots_of o cs
   ends_are = ends_split ends (2 * length roots.constraints) o cs (ends_length source part ends roots.objective roots.constraints g) first sides
 
@@ -101,7 +103,18 @@ module _ (source : List Node) (roots : Roots) (objective : IsObjective source ro
   squares_are = subst AreSquare (sym vs_are) (All-filter (λ (v : Variable). has_variable part v.name) IsSquare roots.variables declared.squares)
 
   pub whole : IsWhole source roots part o cs vs ps
-  whole = record { gathered = gathered_is; nodes = part_are; objective = objective_is; constraints = constraints_are; numbered = numbered_is; declared = declared_are; squares = squares_are; demands = demands; variables = vs_are; parameters = ps_are }
+  whole = record {
+    gathered = gathered_is;
+    nodes = part_are;
+    objective = objective_is;
+    constraints = constraints_are;
+    numbered = numbered_is;
+    declared = declared_are;
+    squares = squares_are;
+    demands = demands;
+    variables = vs_are;
+    parameters = ps_are;
+  }
 
 -- the same of what is handed on: an equal part, an equal list of ends, and lists of the same items
 pub handed_on : (source : List Node) (roots : Roots) → IsObjective source roots.objective → AreConstraints source roots.constraints → AreDeclarations source roots →

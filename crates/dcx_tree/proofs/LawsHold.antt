@@ -1,4 +1,4 @@
--- The main statements hold.
+-- The main statements hold: lawful nodes, signs, convexity, answers, and what gathering keeps.
 use Rattle.std.proofs.Common.{◌≡◌, ℕ, List, map, Some, option_map, sym, ap, subst, ◌∙◌}
 use Rattle.std.specs.Prelude.{filter}
 use Rattle.std.specs.List.{slice_get}
@@ -71,7 +71,8 @@ gathering_keeps_values source roots p are decl of setting point k i h at at' j =
     λ t n in_part.
     let l = listed_whole source (positions_of roots) p.tree (roots_of p.objective p.constraints) g roots.variables roots.parameters decl.reached decl.distinct t n in_part in
     let l' : IsListed p.variables p.parameters n.call =
-    subst (λ vs. IsListed vs p.parameters n.call) (sym of.variables) (subst (λ ps. IsListed (filter (λ (v : Variable). has_variable p.tree v.name) roots.variables) ps n.call) (sym of.parameters) (kept.listed t n in_part)) in
+    subst (λ vs. IsListed vs p.parameters n.call) (sym of.variables)
+    (subst (λ ps. IsListed (filter (λ (v : Variable). has_variable p.tree v.name) roots.variables) ps n.call) (sym of.parameters) (kept.listed t n in_part)) in
     (named roots.variables roots.parameters n.call l, named p.variables p.parameters n.call l') in
     ap (λ f. f j) (part_value source (positions_of roots) p.tree (roots_of p.objective p.constraints) are p.nodes g (declared_in roots) (names_in p) both setting point h i
     (stand_at (order_of source (positions_of roots)) (roots_of p.objective p.constraints) (positions_of roots) k i h g.roots_stand at at'))

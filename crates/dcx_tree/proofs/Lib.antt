@@ -1,4 +1,4 @@
--- The lemmas by which the laws are proved.
+-- The lemmas by which a tree's nodes are lawful, and gathering keeps their values and makes one problem.
 pub mod Lawful
 pub mod LawsHold
 pub mod Sublists

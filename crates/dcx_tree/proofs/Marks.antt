@@ -113,7 +113,8 @@ pub over : (marks : List Bool) (i : ℕ) (P : ℕ → Type 0) → get_or marks i
 over marks i P free j = ((λ m. inl m), elim [ inl m ↦ m | inr p ↦ absurd (not_true (get_or marks i false) free p.0) ])
 
 -- and where it is, its arguments do
-pub through : (marks now : List Bool) (i : ℕ) (P : ℕ → Type 0) → IsMarked marks i → ((j : ℕ) → IsMarked now j ↔ (IsMarked marks j ⊎ P j)) → (j : ℕ) → IsMarked now j ↔ (IsMarked marks j ⊎ (IsMarked marks i × P j))
+pub through : (marks now : List Bool) (i : ℕ) (P : ℕ → Type 0) → IsMarked marks i → ((j : ℕ) → IsMarked now j ↔ (IsMarked marks j ⊎ P j)) → (j : ℕ)
+    → IsMarked now j ↔ (IsMarked marks j ⊎ (IsMarked marks i × P j))
 through marks now i P m more j = (
   (λ k. elim ((more j).0 k) [ inl was ↦ inl was | inr p ↦ inr (m, p) ]),
   elim [ inl was ↦ (more j).1 (inl was) | inr p ↦ (more j).1 (inr p.1) ],

@@ -1,5 +1,6 @@
 -- What is formed of a node from the values of its arguments is the node's value.
-use Rattle.std.proofs.Common.{◌≡◌, ℕ, zero, suc, ◌<◌, ◌≤◌, inl, inr, IsOk, Bool, true, false, if◌then◌else◌, List, [], ◌∷◌, map, replicate, get_or, Option, Some, option_map, refl, sym, ap, ap₂, ◌∙◌, subst, arith, pos}
+use Rattle.std.proofs.Common.{◌≡◌, ℕ, zero, suc, ◌<◌, ◌≤◌, inl, inr, IsOk, Bool, true, false, if◌then◌else◌, List, [], ◌∷◌}
+use Rattle.std.proofs.Common.{map, replicate, get_or, Option, Some, option_map, refl, sym, ap, ap₂, ◌∙◌, subst, arith, pos}
 use Rattle.std.specs.Prelude.{nat_lt}
 use Rattle.std.specs.List.{slice_get}
 use Rattle.std.specs.Option.{unwrap_or}
@@ -168,7 +169,8 @@ module _ (nodes : List Node) (are : AreNodes shape_of nodes) (setting point : Pa
         record {
           shape = same ∙ sym (sides_are nodes i n at);
           numbers = λ names named j.
-              first_alike (entries_of n.sides) (call_value n.call (given_by setting) (given_by point) (arg_sides nodes n) (arguments (map (source_value nodes names setting point) n.args))) (number_at v.entries j) j
+              first_alike (entries_of n.sides) (call_value n.call (given_by setting) (given_by point) (arg_sides nodes n)
+              (arguments (map (source_value nodes names setting point) n.args))) (number_at v.entries j) j
               (λ below. is.numbers j (omega (arith, size, below))
               ∙ ap₂ (λ (ss : List Sides) (a : Entries). call_value n.call (given_by setting) (given_by point) ss a j) (sides_alike n.args args h) (numbers_are names named))
               (λ past. number_past v.entries j (omega (arith, v.full, size, past)))

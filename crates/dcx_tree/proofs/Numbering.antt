@@ -137,5 +137,6 @@ module _ (nodes : List Node) (roots : List ℕ) (part : List Node) (ends : List 
   numbered =
       let all = stand_flat (order_of nodes roots) ends roots (postorder part) (postorder nodes) g.roots_stand (λ a' a k at e. post_stands (suc a) a' a (omega arith) e) in
       let stands = stand_all (order_of nodes roots) once (flat_map (postorder part) ends) (flat_map (postorder nodes) roots) [] [] all refl in
-      let counted = counts_up (order_of nodes roots) once 0 (order_of part ends) (order_of nodes roots) (λ t x e. let z : 0 + t ≡ t = omega arith in subst (λ k. slice_get (order_of nodes roots) k ≡ Some x) (sym z) e) stands in
+      let counted = counts_up (order_of nodes roots) once 0 (order_of part ends) (order_of nodes roots)
+      (λ t x e. let z : 0 + t ≡ t = omega arith in subst (λ k. slice_get (order_of nodes roots) k ≡ Some x) (sym z) e) stands in
       counted ∙ ap (range_with_len 0) (sym g.count)

@@ -25,12 +25,7 @@ use Rattle.dcx_tree.specs.Problems.{IsObjective, HasSides, AreConstraints, IsLis
 use Rattle.dcx_tree.specs.Problems as problems
 use Rattle.dcx_tree.specs.Gather.{Demand, is_variable, is_parameter, has_variable, has_parameter, demand_of}
 use Rattle.dcx_tree.proofs.Sublists.{contains_at, at_contains, filter_at, at_filter, any_at, at_any, one_name, distinct_front, distinct_back, distinct_both}
-
--- an element stands at each place
-there : {X : Type 0} (xs : List X) (k : ℕ) → k < length xs → (x : X) × (slice_get xs k ≡ Some x)
-there [] k lt = absurd (omega arith)
-there (x ∷ xs) zero lt = (x, refl)
-there (x ∷ xs) (suc k) lt = there xs k (omega arith)
+use Rattle.dcx_math.proofs.Lists.{element_at}
 
 -- a constraint of the part, and that of the whole
 record IsRenamedConstraint (order : List ℕ) (c c' : Constraint) : Type 0 where
@@ -59,7 +54,7 @@ module _ (nodes : List Node) (roots : List ℕ) (part : List Node) (ends : List 
       (n m : Node) × IsNode part k n × IsNode nodes i m × IsRenamed (order_of nodes roots) m n
   part_node k i e =
       let lt : k < length part = let w = slice_get_within (order_of nodes roots) k i e in let c = g.count in omega (arith, w, c) in
-      let (n, at) = there part k lt in
+      let (n, at) = element_at part k lt in
       let r = g.renamed k n at in
       let s : r.0 ≡ i = same_Some r.0 i (sym r.2 ∙ e) in
       (n, r.1, at, subst (λ z. IsNode nodes z r.1) s r.3, r.4)

@@ -110,5 +110,6 @@ module _ (nodes : List Node) (roots : List ℕ) (part : List Node) (ends : List 
   part_value k i e =
       let (n, m, at, at', ren) = part_node nodes roots part ends g k i e in
       let lt : k < length (convex_nodes part_names part) = let w = slice_get_within part k n at in let l = length-map part (convex_node part_names part) in omega (arith, w, l) in
-      let law = (nodes_are_told (convex_nodes part_names part) (tree_lawful part_names part are').ordered).one_value (numbers_by part_names.parameters setting) (numbers_by part_names.variables point) stood_value told in
+      let law = (nodes_are_told (convex_nodes part_names part) (tree_lawful part_names part are').ordered).one_value (numbers_by part_names.parameters setting)
+      (numbers_by part_names.variables point) stood_value told in
       sym (law k lt) ∙ stood_is k i e

@@ -1,4 +1,4 @@
--- What the contracts of this crate cite.
+-- What contracts cite: nodes and problems of a tree, gathering, values and expressions, and the laws.
 pub mod Nodes
 pub mod Kept
 pub mod Problems

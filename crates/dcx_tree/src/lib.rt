@@ -13,12 +13,14 @@
 //! |---|---|
 //! | a push finds the node of an equal expression, or adds one, or names the fault that is there; a refused push changes nothing | `Tree::push` |
 //! | readers tell call, arguments, shape and place of the node | `Tree::call`, `Tree::arg`, `Tree::args`, `Tree::shape`, `Tree::shapes_of`, `Tree::place` |
-//! | the value of a node is the defined one, or the first operation that passes 128 bits or divisor that is 0 is named, where the nodes that it reaches are formed in rising order | `Tree::value`, `specs/Values.antt` |
+//! | the value of a node is the defined one, or the first operation that passes 128 bits or divisor that is 0 is named | `Tree::value`, `specs/Values.antt` |
+//! | which of them comes first goes by the nodes that it reaches, formed in rising order | `Tree::value`, `specs/Values.antt` |
 //! | the value of a node is that of the finite tree to which its arguments unfold | `laws::values_unfold`, `specs/Expressions.antt` |
 //! | the value of a node from what is kept of its arguments, or why it isn't formed | `node_value` |
 //! | whether each leaf is given an array of its shape | `Tree::is_given` |
 //! | which nodes some roots reach is told of each node | `reached_from` |
-//! | ids are nodes, arguments stand first, each node is reached and numbered as it is first finished, both sides of a constraint have its shape, what is listed is what stands in the tree, symmetric and diagonal variables are square | the type `Problem`, `specs/Problems.antt` |
+//! | ids are nodes, arguments stand first, each node is reached and numbered as it is first finished | the type `Problem`, `specs/Problems.antt` |
+//! | both sides of a constraint have its shape, what is listed is what stands in the tree, symmetric and diagonal variables are square | the type `Problem`, `specs/Problems.antt` |
 //! | whether two numbers stand to each other as a constraint asks | `Kind::holds` |
 //! | whether nodes may be the objective and the sides of the constraints of a problem | `Tree::is_objective`, `Tree::are_constraints` |
 //! | a problem is gathered whole and without anything else, and want of memory is the only fault | `gather`, `specs/Gather.antt` |

@@ -1,3 +1,3 @@
--- The lemmas of this crate.
+-- The lemmas by which the script is written point by point.
 pub mod Ranges
 mod Rows

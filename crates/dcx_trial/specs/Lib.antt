@@ -1,2 +1,2 @@
--- The words that contracts cite.
+-- What contracts cite: the text of the made-up script.
 pub mod Trial

@@ -1,4 +1,4 @@
--- Half of 1.
+-- Half of 1 is at least 0, and twice it is 1.
 use Rattle.std.proofs.Common.{◌≡◌, sym, ap, ◌∙◌, [], ◌∷◌, pos}
 use Rattle.dcx_math.specs.Rational.{ℚ, whole, ◌+ℚ◌, ◌*ℚ◌, ◌/ℚ◌}
 use Rattle.dcx_math.specs.Sums.{IsNonnegative}

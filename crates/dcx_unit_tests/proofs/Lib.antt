@@ -1,2 +1,2 @@
--- The lemmas.
+-- The lemmas on the tests' own calls: half of 1.
 pub mod Halves

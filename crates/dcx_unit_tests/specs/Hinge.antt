@@ -2,13 +2,14 @@
 -- number turned round.
 use Rattle.std.specs.Prelude.{◌≡◌, ℕ, ◌<◌, List, [], ◌∷◌, Option, Some, None, true, false, pos, negsuc}
 use Rattle.std.proofs.Common.{inl, inr, refl, sym, ap, subst, arith}
-use Rattle.std.proofs.lemmas.List.Elements.{All-head}
+use Rattle.std.proofs.lemmas.List.Elements.{All-head, All-cons, All-nil}
 use Rattle.dcx_math.specs.Rational.{ℚ, whole, ◌+ℚ◌, ◌*ℚ◌, ◌≤ℚ◌, neg_ℚ, rat_max}
-use Rattle.dcx_math.specs.Sums.{rat_sum_below}
+use Rattle.dcx_math.specs.Sums.{IsNonnegative, rat_sum_below}
 use Rattle.dcx_math.proofs.Ring.{ring, reads}
 use Rattle.dcx_math.proofs.Orders.{≤ℚ_refl, ≤ℚ-from_≡, +ℚ-≤ℚ, *ℚ-≤ℚ, neg_ℚ-≤ℚ, +ℚ-nonnegative, linear}
 use Rattle.dcx_math.proofs.Products.{*ℚ-nonnegative}
 use Rattle.dcx_math.proofs.Bounds.{≤ℚ-rat_max_left, ≤ℚ-rat_max_right, rat_max-≤ℚ, rat_max-monotone}
+use Rattle.dcx_frac.specs.Fits.{IsRepresentable}
 use Rattle.dcx_shape.specs.declared.shape.Sides.{Sides}
 use Rattle.dcx_shape.specs.declared.shape.Sides.TheVariants.{Scalar, Vector, Matrix}
 use Rattle.dcx_shape.specs.Sides.{entries_of}
@@ -19,8 +20,13 @@ use Rattle.dcx_atom.specs.Formed.{number}
 use Rattle.dcx_atom.specs.Signs.{sign_at, Follows}
 use Rattle.dcx_atom.specs.Meaning.{Meaning, at_most, IsMet}
 use Rattle.dcx_atom.specs.Laws.{SumsUp, KeepsSign, KeepsTrend, IsBent, IsSoundGraph, IsTightGraph, HasSubgradients, Recedes, slopes_times}
+use Rattle.dcx_atom.specs.OwnUnknowns.{HasOwnUnknowns}
+use Rattle.dcx_atom.specs.Duality.{weighted_arguments, AreRowSlopes, balance, AreDemanded, HasDualGraph}
+use Rattle.dcx_atom.specs.Fractions.{HasFractionSummands, HasFractionCoefficients, HasFractionSlopes}
 use Rattle.dcx_atom.specs.Linear as linear_call
 use Rattle.dcx_atom.specs.Linear.{LinearMeaning, IsLinear}
+use Rattle.dcx_atom.proofs.Units.{one_nonnegative}
+use Rattle.dcx_atom.proofs.Fractions.{zero_fits, one_fits, minus_one_fits, number_fits, greater_fits}
 
 -- the sides of the only argument, a scalar
 abbrev pub one_scalar : List Sides → Option Sides
@@ -135,6 +141,52 @@ hinge_subgradient (Scalar ∷ []) sides is c w accepted a =
 hinge_subgradient (Vector n ∷ []) sides is c w accepted a = cc
 hinge_subgradient (Matrix m n ∷ []) sides is c w accepted a = cc
 hinge_subgradient (s ∷ r ∷ rs) sides is c w accepted a = cc
+
+pub hinge_own : HasOwnUnknowns hinge_meaning
+hinge_own args sides is = let own : 0 < 1 = omega arith in record { rows = λ j b. ((tt, (own, tt)), tt); results = λ j b. (own, tt) }
+
+-- the weighted row, over the argument alone
+row_slope : (w x : ℚ) → whole (pos 0) +ℚ (whole (pos 0) +ℚ w *ℚ x) ≡
+    whole (pos 0) +ℚ (w *ℚ (whole (pos 1) *ℚ x +ℚ (whole (negsuc 0) *ℚ whole (pos 0) +ℚ whole (pos 0))) +ℚ whole (pos 0))
+row_slope w x = ring (w ∷ x ∷ []) (search reads depth 30) tt
+
+row_slopes : AreRowSlopes hinge_meaning
+row_slopes [] sides is w a = cc
+row_slopes (Scalar ∷ []) sides is w a =
+    let e : Scalar ≡ sides = cc in
+    subst (λ s. slopes_times hinge_meaning (Scalar ∷ []) w a ≡ weighted_arguments hinge_meaning (Scalar ∷ []) (entries_of s) w a) e (row_slope (w 0 0) (a 0 0))
+row_slopes (Vector n ∷ []) sides is w a = cc
+row_slopes (Matrix m n ∷ []) sides is w a = cc
+row_slopes (s ∷ r ∷ rs) sides is w a = cc
+
+-- where the unknown is 1
+at_one : (c w : ℚ) → IsNonnegative (whole (pos 0) +ℚ (c *ℚ (whole (pos 1) *ℚ whole (pos 1) +ℚ whole (pos 0))
+    +ℚ (w *ℚ (whole (pos 1) *ℚ whole (pos 0) +ℚ (whole (negsuc 0) *ℚ whole (pos 1) +ℚ whole (pos 0))) +ℚ whole (pos 0)))) → w ≤ℚ c
+at_one c w h = linear (c ∷ w ∷ []) h (search reads depth 30) tt
+
+demanded : AreDemanded hinge_meaning
+demanded [] sides is c w left j b = cc
+demanded (Scalar ∷ []) sides is c w left j b =
+    let e : Scalar ≡ sides = cc in
+    let first = first_entry (Scalar ∷ []) sides is j b in
+    All-cons IsMet (record { left = number (w j 0); relation = at_most; right = number (c j) }) []
+    (subst (λ i. w i 0 ≤ℚ c i) (sym first) (at_one (c 0) (w 0 0)
+    (subst (λ s. IsNonnegative (balance hinge_meaning (Scalar ∷ []) (entries_of s) c w (λ k. whole (pos 1)))) (sym e) (left (λ k. whole (pos 1)) (λ k z. one_nonnegative))))) (All-nil IsMet)
+demanded (Vector n ∷ []) sides is c w left j b = cc
+demanded (Matrix m n ∷ []) sides is c w left j b = cc
+demanded (s ∷ r ∷ rs) sides is c w left j b = cc
+
+pub hinge_duality : HasDualGraph hinge_meaning
+hinge_duality = record { slopes = row_slopes; demanded = demanded }
+
+pub hinge_fraction_summands : HasFractionSummands hinge_meaning
+hinge_fraction_summands args a j h = All-cons IsRepresentable _ [] (greater_fits (a 0 0) (whole (pos 0)) (h 0 0) zero_fits) (All-nil IsRepresentable)
+
+pub hinge_fraction_coefficients : HasFractionCoefficients hinge_meaning
+hinge_fraction_coefficients = record { rows = λ args j. ((one_fits, (minus_one_fits, tt)), tt); results = λ args sides j is few. (one_fits, tt) }
+
+pub hinge_fraction_slopes : HasFractionSlopes hinge_meaning
+hinge_fraction_slopes args sides is c ws none i e b l = number_fits ws _
 
 turned_is : (x : ℚ) → neg_ℚ x ≡ whole (negsuc 0) *ℚ x +ℚ whole (pos 0)
 turned_is x = ring (x ∷ []) (search reads depth 30) tt

@@ -1,3 +1,3 @@
--- What the contracts of this crate cite.
+-- What contracts cite: two small calls of the tests' own, and what generic functions say of any call.
 pub mod Hinge
 pub mod Uses

@@ -9,6 +9,7 @@ ghost use Rattle.dcx_atom.specs.Graph.{IsGraphOf};
 ghost use Rattle.dcx_atom.specs.Steps.{rows_before, AreSlopesOf, IsSlopeStop};
 ghost use Rattle.dcx_atom.specs.Linear.{AreTermsOf};
 ghost use Rattle.dcx_unit_tests.specs.Hinge.{hinge_meaning, hinge_sums, hinge_sign, hinge_trend, hinge_bent, hinge_sound, hinge_tight, hinge_subgradient, hinge_recedes};
+ghost use Rattle.dcx_unit_tests.specs.Hinge.{hinge_own, hinge_duality, hinge_fraction_summands, hinge_fraction_coefficients, hinge_fraction_slopes};
 ghost use Rattle.dcx_unit_tests.specs.Hinge.{turned_meaning, turned_linear, turned_sign, turned_trend};
 ghost use Rattle.dcx_unit_tests.specs.Uses.{IsBelowChord, RecedesTwice, SumsAtLeastZero, StaysInPlace, IsBestFilling, BoundBelow, IsAdditive};
 
@@ -43,6 +44,16 @@ impl Atom for Hinge {
     ghost subgradient = { λ _. hinge_subgradient };
 
     ghost recession = { λ _. hinge_recedes };
+
+    ghost own_unknowns = { λ _. hinge_own };
+
+    ghost duality = { λ _. hinge_duality };
+
+    ghost fraction_summands = { λ _. hinge_fraction_summands };
+
+    ghost fraction_coefficients = { λ _. hinge_fraction_coefficients };
+
+    ghost fraction_slopes = { λ _. hinge_fraction_slopes };
 
     fn shape(&self, args: &[Shape]) -> Option<Shape> {
         match args {

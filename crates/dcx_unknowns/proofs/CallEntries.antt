@@ -22,7 +22,7 @@ use Rattle.dcx_convex.specs.Nodes.{Numbers, Point, Setting, first_of, arguments,
 use Rattle.dcx_convex.specs.Rules.{Rules, Judgement, is_constant, judgement_by}
 use Rattle.dcx_convex.specs.Reductions.{StandsFor}
 use Rattle.dcx_convex.proofs.Signs.{at_test}
-use Rattle.dcx_convex.proofs.Beyond.{beyond_refl}
+use Rattle.dcx_atom.specs.Farthest.{beyond_refl}
 use Rattle.dcx_convex.proofs.Convexity.{same_bend_is}
 use Rattle.dcx_call.specs.declared.call.Call.{Call}
 use Rattle.dcx_call.specs.declared.call.Call.TheVariants as calls

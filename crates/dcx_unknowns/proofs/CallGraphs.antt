@@ -16,8 +16,7 @@ use Rattle.dcx_tree.specs.Nodes.{Names, Node, head_of, arg_sides}
 use Rattle.dcx_unknowns.specs.Layout.{call_aux, call_rows}
 use Rattle.dcx_unknowns.specs.Equations.{call_entry}
 use Rattle.dcx_unknowns.proofs.Lists.{Each, each_nil, each_cons, each_joined, joined_part, each_map, each_unmap}
-use Rattle.dcx_unknowns.proofs.OwnTerms.{Agree, rows_same, form_same}
-use Rattle.dcx_unknowns.proofs.OwnGraphs.{atom_own}
+use Rattle.dcx_atom.proofs.OwnTerms.{Agree, rows_same, form_same}
 use Rattle.dcx_unknowns.proofs.CallEntries.{CallHolds, first_same, direct_value}
 
 -- a row is at most 0
@@ -88,7 +87,7 @@ module _ (nodes : List Node) (n : Node) where
           each_joined (RowHolds a t) (entries_of n.sides) (λ j. map (λ row. record { entry = j; row = row }) ((atom_meaning m).rows args j))
           (λ j b. each_map (RowHolds a t) (λ row. record { entry = j; row = row }) ((atom_meaning m).rows args j)
           (each_holds ((atom_meaning m).rows args j) a t
-          (rows_same (length ((atom_meaning m).kinds args)) ((atom_meaning m).rows args j) a ((atom_meaning m).filling args a) t ((atom_own m args n.sides e).rows j b) same
+          (rows_same (length ((atom_meaning m).kinds args)) ((atom_meaning m).rows args j) a ((atom_meaning m).filling args a) t (((atom_lawful m).own_unknowns args n.sides e).rows j b) same
           (((atom_lawful m).tightness args n.sides e a).holds.rows j b))))
       filled_rows (calls.Linear l) e same = each_nil (RowHolds a t)
       filled_rows (calls.Pairing q) e same = each_nil (RowHolds a t)
@@ -103,7 +102,7 @@ module _ (nodes : List Node) (n : Node) where
   filled_value names s x (calls.Atom m) r fs t e same j =
       let a = arguments fs in
       first_same (entries_of n.sides) (λ k. form_at ((atom_meaning m).result args k) t) ((atom_meaning m).value args a) j
-      (λ b. sym (form_same (length ((atom_meaning m).kinds args)) ((atom_meaning m).result args j) ((atom_meaning m).filling args a) t ((atom_own m args n.sides e).results j b) same)
+      (λ b. sym (form_same (length ((atom_meaning m).kinds args)) ((atom_meaning m).result args j) ((atom_meaning m).filling args a) t (((atom_lawful m).own_unknowns args n.sides e).results j b) same)
       ∙ ((atom_lawful m).tightness args n.sides e a).reaches j b)
   filled_value names s x (calls.Linear l) r fs t e same j = direct_value names s x (calls.Linear l) tt args n.sides fs t e j
   filled_value names s x (calls.Pairing q) r fs t e same j = direct_value names s x (calls.Pairing q) tt args n.sides fs t e j

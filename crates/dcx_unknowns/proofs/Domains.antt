@@ -68,7 +68,8 @@ module _ (p : Problem) where
     keeps_at : (x : Point) (k : ℕ) (v : Variable) → IsVariable p.variables k v → KeepsDomain v (x k) → KeepsDomain v (x (number_in (names_in p).variables v.name))
     keeps_at x k v at h = subst (λ i. KeepsDomain v (x i)) (sym (number_is k v at)) h
 
-    call_keeps : (x : Point) → AreKept p.variables x → (call : Call) (args : List Sides) (sides : Sides) → IsListed p.variables p.parameters call → VariableKeeps x (head_of (names_in p) call args sides)
+    call_keeps : (x : Point) → AreKept p.variables x → (call : Call) (args : List Sides) (sides : Sides) → IsListed p.variables p.parameters call
+        → VariableKeeps x (head_of (names_in p) call args sides)
     call_keeps x kept (calls.Variable v) args sides l = let (k, at) = contains_at p.variables v l in keeps_at x k v at (kept k v at)
     call_keeps x kept (calls.Parameter q) args sides l = tt
     call_keeps x kept (calls.Constant c) args sides l = tt

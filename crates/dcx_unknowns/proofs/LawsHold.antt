@@ -1,4 +1,4 @@
--- The main statements hold.
+-- Unknowns are numbered and few, and points, domains and rays are unknowns: the laws' proofs.
 use Rattle.dcx_unknowns.specs.Laws.{UnknownsAreNumbered, PointsAreUnknowns, DomainsAreUnknowns, RaysAreUnknowns, UnknownsAreFew}
 use Rattle.dcx_unknowns.proofs.Owners.{are_numbered}
 use Rattle.dcx_unknowns.proofs.Points.{stand_for_points, point_along}

@@ -28,7 +28,8 @@ use Rattle.dcx_tree.proofs.NodeValues.{args_are}
 use Rattle.dcx_linear.specs.declared.row.UnknownKind.{UnknownKind}
 use Rattle.dcx_linear.specs.Size.{columns_for, capped}
 use Rattle.dcx_unknowns.specs.declared.layout.Layout.{Layout}
-use Rattle.dcx_unknowns.specs.Layout.{is_reduced, marked, AreReduced, call_aux, aux_if, call_rows, rows_if, IsCallGraph, IsNodeGraph, aux_kind, aux_of, aux_below, rows_of_node, rows_counted, kinds_with, rows_with, columns_with, IsLayoutWith, IsTooLarge}
+use Rattle.dcx_unknowns.specs.Layout.{is_reduced, marked, AreReduced, call_aux, aux_if, call_rows, rows_if, IsCallGraph, IsNodeGraph, aux_kind, aux_of}
+use Rattle.dcx_unknowns.specs.Layout.{aux_below, rows_of_node, rows_counted, kinds_with, rows_with, columns_with, IsLayoutWith, IsTooLarge}
 use Rattle.dcx_unknowns.proofs.Places.{joined_next, summed_next}
 
 -- ---- counts within 32 bits
@@ -67,7 +68,8 @@ module _ (nodes : List Node) where
       by None e = (refl, refl)
       by (Some n) e = call_none nodes n n.call (h n e)
 
-  pub node_some : (i : ℕ) (g : Graph) → i < length nodes → IsNodeGraph nodes i (Some g) → (g.aux ≡ aux_if nodes true (slice_get nodes i)) × (length g.rows ≡ length (rows_if nodes true (slice_get nodes i)))
+  pub node_some : (i : ℕ) (g : Graph) → i < length nodes → IsNodeGraph nodes i (Some g)
+      → (g.aux ≡ aux_if nodes true (slice_get nodes i)) × (length g.rows ≡ length (rows_if nodes true (slice_get nodes i)))
   node_some i g lt h = by (slice_get nodes i) refl
     where
       by : (o : Option Node) → slice_get nodes i ≡ o → (g.aux ≡ aux_if nodes true o) × (length g.rows ≡ length (rows_if nodes true o))
@@ -113,8 +115,9 @@ module _ (nodes : List Node) where
     columns_no_more e = ap (λ xs. sum_by columns_for (map aux_kind xs)) (aux_no_more e)
 
     -- their kinds are added, or none
-    pub kinds_more : (kinds old new : List UnknownKind) → reduced i ≡ true → kinds ≡ old ++ map aux_kind (aux_below nodes reduced i) → new ≡ kinds ++ map aux_kind (aux_if nodes true (slice_get nodes i)) →
-        new ≡ old ++ map aux_kind (aux_below nodes reduced (i + 1))
+    pub kinds_more : (kinds old new : List UnknownKind) → reduced i ≡ true → kinds ≡ old ++ map aux_kind (aux_below nodes reduced i)
+        → new ≡ kinds ++ map aux_kind (aux_if nodes true (slice_get nodes i))
+        → new ≡ old ++ map aux_kind (aux_below nodes reduced (i + 1))
     kinds_more kinds old new e so_far more =
         let here = map aux_kind (aux_if nodes true (slice_get nodes i)) in
         more ∙ ap (λ ks. ks ++ here) so_far ∙ append_assoc old (map aux_kind (aux_below nodes reduced i)) here
@@ -179,7 +182,8 @@ module _ (p : Problem) (i : ℕ) (m : AtomCall) (sides : List Sides) where
   -- the graph of the atom is that of the node
   pub atom_graph : (g : Graph) → IsAtomNode p i m sides → IfSome ((atom_meaning m).shape sides) (λ s. IsGraphOf (atom_meaning m) sides (entries_of s) g) → IsNodeGraph p.tree i (Some g)
   atom_graph g a h = λ n at.
-      let here : IsGraphOf (atom_meaning m) sides (entries_of a.node.sides) g = some_fact (λ s. IsGraphOf (atom_meaning m) sides (entries_of s) g) ((atom_meaning m).shape sides) a.node.sides a.shape h in
+      let here : IsGraphOf (atom_meaning m) sides (entries_of a.node.sides) g =
+      some_fact (λ s. IsGraphOf (atom_meaning m) sides (entries_of s) g) ((atom_meaning m).shape sides) a.node.sides a.shape h in
       let placed : IsGraphOf (atom_meaning m) (arg_sides p.tree a.node) (entries_of a.node.sides) g = subst (λ ss. IsGraphOf (atom_meaning m) ss (entries_of a.node.sides) g) a.args here in
       let graph : IsCallGraph p.tree a.node a.node.call (Some g) = subst (λ call. IsCallGraph p.tree a.node call (Some g)) (sym a.call) placed in
       subst (λ (z : Node). IsCallGraph p.tree z z.call (Some g)) (same_Some a.node n (sym a.there ∙ at)) graph
@@ -192,14 +196,16 @@ over most n told e h few = omega (arith, e, h, few)
 exact : (n told : ℕ) → told ≡ capped n → told ≤ 2400 → told ≡ n
 exact n told e h = omega (arith, e, h)
 
-pub too_large : (p : Problem) (reduced : ℕ → Bool) (rows columns : ℕ) → rows ≡ capped (rows_with p reduced) → columns ≡ capped (columns_with p reduced) → (600 < rows) ⊎ (2400 < columns) → IsTooLarge p reduced rows columns
+pub too_large : (p : Problem) (reduced : ℕ → Bool) (rows columns : ℕ) → rows ≡ capped (rows_with p reduced) → columns ≡ capped (columns_with p reduced) → (600 < rows) ⊎ (2400 < columns)
+    → IsTooLarge p reduced rows columns
 too_large p reduced rows columns r c many = record {
   many = λ few. elim many [ inl a ↦ over 600 (rows_with p reduced) rows r a few.few_rows | inr b ↦ over 2400 (columns_with p reduced) columns c b few.few_columns ];
   rows_told = r;
   columns_told = c;
 }
 
-pub laid_out : (p : Problem) (reduced : ℕ → Bool) (l : Layout) → l.kinds ≡ kinds_with p reduced → l.rows ≡ capped (rows_with p reduced) → l.columns ≡ capped (columns_with p reduced) → l.rows ≤ 600 → l.columns ≤ 2400 → IsLayoutWith p reduced l
+pub laid_out : (p : Problem) (reduced : ℕ → Bool) (l : Layout) → l.kinds ≡ kinds_with p reduced → l.rows ≡ capped (rows_with p reduced) → l.columns ≡ capped (columns_with p reduced) → l.rows ≤ 600
+    → l.columns ≤ 2400 → IsLayoutWith p reduced l
 laid_out p reduced l k r c few_rows few_columns =
     let rows = exact (rows_with p reduced) l.rows r (omega (arith, few_rows)) in
     let columns = exact (columns_with p reduced) l.columns c few_columns in

@@ -1,4 +1,4 @@
--- The lemmas by which the functions and the laws of this crate are proved.
+-- The lemmas on layouts and on unknowns of points, and those by which forms that meet the equations are one.
 pub mod Places
 pub mod Sources
 pub mod Owners
@@ -7,9 +7,6 @@ pub mod Domains
 pub mod Layouts
 pub mod Lists
 pub mod Constants
-pub mod OwnTerms
-pub mod OwnUnknowns
-pub mod OwnGraphs
 pub mod CallEntries
 pub mod CallGraphs
 pub mod OfKinds

@@ -26,7 +26,7 @@ use Rattle.dcx_unknowns.proofs.Owners.{are_numbered}
 use Rattle.dcx_unknowns.proofs.Domains.{stand_for_domain}
 use Rattle.dcx_unknowns.specs.Equations.{Forms, call_entry, args_of, filling_of, AllStand, row_number, numbers_if, reduced_with}
 use Rattle.dcx_unknowns.proofs.Lists.{Each, each_nil, each_map, each_flat, each_range, zip_flat}
-use Rattle.dcx_unknowns.proofs.OwnTerms.{Agree}
+use Rattle.dcx_atom.proofs.OwnTerms.{Agree}
 use Rattle.dcx_unknowns.proofs.CallGraphs.{call_filling, filled_kinds, filled_rows, filled_value}
 use Rattle.dcx_unknowns.proofs.OfKinds.{nonneg_from, nonpos_from, kinds_both, IsOfAuxKind, taken_kinds, zipped_kinds}
 use Rattle.dcx_unknowns.proofs.Lift.{filling_if, filling_at, numbers_at, aux_numbers, lift, lift_variable, lift_aux, lift_filling}
@@ -119,7 +119,8 @@ module _ (rules : Rules) (p : Problem) (s : Setting) (y : Point) where
       node_rows : (i : ℕ) (n : Node) → IsNode p.tree i n → (b : Bool) → is_reduced rules p i ≡ b → Each (IsKept u) (numbers_if rules p s forms i (Some n) (rows_if p.tree b (Some n)))
       node_rows i n at true e =
           let args = map-same (λ a. a < i) (forms u) value (λ a l. let w = slice_get_within p.tree i n at in forms_same a (omega (arith, l, w))) n.args (p.nodes.earlier i n at) in
-          let filled = subst (λ (fs : List Numbers). Agree (length (call_aux p.tree n n.call)) (call_filling n.call (arg_sides p.tree n) (arguments fs)) (filling_of rules p i u)) (sym args) (filled_at i n at e) in
+          let filled = subst (λ (fs : List Numbers). Agree (length (call_aux p.tree n n.call)) (call_filling n.call (arg_sides p.tree n) (arguments fs)) (filling_of rules p i u)) (sym args)
+          (filled_at i n at e) in
           each_map (IsKept u) (row_number rules p s forms i n) (call_rows p.tree n n.call)
           (filled_rows p.tree n (args_of rules p s forms n u) (filling_of rules p i u) n.call (p.nodes.shaped i n at) filled)
       node_rows i n at false e = each_nil (IsKept u)

@@ -1,5 +1,6 @@
 -- Unknowns and the entries whose own they are.
-use Rattle.std.proofs.Common.{◌≡◌, ◌⊎◌, inl, inr, ℕ, zero, suc, ◌+◌, ◌*◌, ◌<◌, ◌≤◌, List, [], ◌∷◌, ◌++◌, length, map, take, get_or, replicate, Some, option_map, refl, sym, ap, subst, ◌∙◌, arith, zero-add, add-zero, length-append}
+use Rattle.std.proofs.Common.{◌≡◌, ◌⊎◌, inl, inr, ℕ, zero, suc, ◌+◌, ◌*◌, ◌<◌, ◌≤◌, List, [], ◌∷◌, ◌++◌, length, map, take, get_or}
+use Rattle.std.proofs.Common.{replicate, Some, option_map, refl, sym, ap, subst, ◌∙◌, arith, zero-add, add-zero, length-append}
 use Rattle.std.specs.Prelude.{sum_by, slice_get, All}
 use Rattle.std.proofs.Math.Path.{fun_ext}
 use Rattle.std.proofs.lemmas.List.{length-map, get_or-map, take_all, map_push}
@@ -147,10 +148,12 @@ owned m (v ∷ vs) n kind e = by (in_either (own_kinds v) (variable_kinds vs) n 
 
 -- ---- where the unknowns of each variable begin
 -- one variable more is passed
-pub firsts_next : (vs : List Variable) (k next : ℕ) (v : Variable) (xs ys : List ℕ) → k < length vs → v ≡ get_or vs k v → next ≡ first_unknown vs k → xs ≡ map (first_unknown vs) (places_below k) → ys ≡ xs ++ next ∷ [] →
-    (ys ≡ map (first_unknown vs) (places_below (k + 1))) × (next + count_of v ≡ first_unknown vs (k + 1))
+pub firsts_next : (vs : List Variable) (k next : ℕ) (v : Variable) (xs ys : List ℕ) → k < length vs → v ≡ get_or vs k v → next ≡ first_unknown vs k → xs ≡ map (first_unknown vs) (places_below k)
+    → ys ≡ xs ++ next ∷ []
+    → (ys ≡ map (first_unknown vs) (places_below (k + 1))) × (next + count_of v ≡ first_unknown vs (k + 1))
 firsts_next vs k next v xs ys lt at is so_far e = (
-  e ∙ ap (λ zs. zs ++ next ∷ []) so_far ∙ ap (λ i. map (first_unknown vs) (places_below k) ++ i ∷ []) is ∙ sym (ap (map (first_unknown vs)) (places_next k) ∙ map_push (first_unknown vs) (places_below k) k),
+  e ∙ ap (λ zs. zs ++ next ∷ []) so_far ∙ ap (λ i. map (first_unknown vs) (places_below k) ++ i ∷ []) is
+      ∙ sym (ap (map (first_unknown vs)) (places_next k) ∙ map_push (first_unknown vs) (places_below k) k),
   ap (λ i. next + i) (ap count_of at) ∙ ap (λ i. i + count_of (get_or vs k v)) is ∙ sym (sum_by_more count_of vs k v lt),
 )
 

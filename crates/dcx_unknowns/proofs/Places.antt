@@ -58,7 +58,8 @@ module _ {A : Type 0} where
   ]
 
 -- ---- what passes a test
-passing_more : (p : ℕ → Bool) (a : ℕ) (passing rest : List ℕ) (o : Option ℕ) (b : Bool) → p a ≡ b → slice_get passing (count_by p rest) ≡ o → slice_get (cond b (a ∷ passing) passing) (count_by p (a ∷ rest)) ≡ o
+passing_more : (p : ℕ → Bool) (a : ℕ) (passing rest : List ℕ) (o : Option ℕ) (b : Bool) → p a ≡ b → slice_get passing (count_by p rest) ≡ o
+    → slice_get (cond b (a ∷ passing) passing) (count_by p (a ∷ rest)) ≡ o
 passing_more p a passing rest o true t e =
     let here : ◌≡◌ {A = ℕ} (cond (p a) 1 0) 1 = ap (λ c. cond c 1 0) t in
     let c : count_by p (a ∷ rest) ≡ suc (count_by p rest) = omega (arith, sum_by-cons (λ j. cond (p j) 1 0) a rest, here) in

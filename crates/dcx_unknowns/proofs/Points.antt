@@ -46,13 +46,15 @@ abbrev array_of : Unknowns → ℕ → Attribute → Sides → Numbers
 array_of u first a s = first_of (entries_of s) (λ j. number_at u (unknown_in first a s j))
 
 -- entries that have the same source have the same number
-same_number : (u : Unknowns) (first : ℕ) (a : Attribute) (s : Sides) (j k : ℕ) → j < entries_of s → k < entries_of s → source_of a s j ≡ source_of a s k → array_of u first a s j ≡ array_of u first a s k
+same_number : (u : Unknowns) (first : ℕ) (a : Attribute) (s : Sides) (j k : ℕ) → j < entries_of s → k < entries_of s → source_of a s j ≡ source_of a s k
+    → array_of u first a s j ≡ array_of u first a s k
 same_number u first a s j k h h' e =
     below (entries_of s) (λ i. number_at u (unknown_in first a s i)) j h ∙ ap (λ o. number_at u (option_map (λ i. first + own_before a s i) o)) e
     ∙ sym (below (entries_of s) (λ i. number_at u (unknown_in first a s i)) k h')
 
 -- ---- unknowns of their kinds make an array of the domain
-array_keeps : (u : Unknowns) (first : ℕ) (a : Attribute) (s : Sides) → IsSquareFor a s → ((j : ℕ) → Owns a s j → IsOfKind (kind_of a) (u (first + own_before a s j))) → Keeps (attribute_of a) s (array_of u first a s)
+array_keeps : (u : Unknowns) (first : ℕ) (a : Attribute) (s : Sides) → IsSquareFor a s → ((j : ℕ) → Owns a s j → IsOfKind (kind_of a) (u (first + own_before a s j)))
+    → Keeps (attribute_of a) s (array_of u first a s)
 array_keeps u first Free s sq of = tt
 array_keeps u first Nonneg s sq of = λ j h. subst (λ q. whole (pos 0) ≤ℚ q) (sym (below (entries_of s) (λ i. number_at u (unknown_in first Nonneg s i)) j h)) (of j (h, refl))
 array_keeps u first Nonpos s sq of = λ j h. subst (λ q. q ≤ℚ whole (pos 0)) (sym (below (entries_of s) (λ i. number_at u (unknown_in first Nonpos s i)) j h)) (of j (h, refl))

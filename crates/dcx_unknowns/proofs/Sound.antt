@@ -57,7 +57,8 @@ module _ (rules : Rules) (p : Problem) (s : Setting) (forms : Forms) (u : Unknow
     -- and its rows hold
     node_rows : RowsHold (reduced_with rules p s forms) u → Each (RowHolds (args_of rules p s forms n u) (filling_of rules p i u)) (call_rows p.tree n n.call)
     node_rows holds =
-        let part = each_part (IsKept u) (λ i. numbers_if rules p s forms i (slice_get p.tree i) (rows_if p.tree (is_reduced rules p i) (slice_get p.tree i))) _ holds i i (range_at (length p.tree) i within_tree) in
+        let part = each_part (IsKept u) (λ i. numbers_if rules p s forms i (slice_get p.tree i) (rows_if p.tree (is_reduced rules p i) (slice_get p.tree i))) _ holds i i
+        (range_at (length p.tree) i within_tree) in
         let here = subst (Each (IsKept u)) (ap₂ (λ b o. numbers_if rules p s forms i o (rows_if p.tree b o)) reduced at) part in
         each_unmap (IsKept u) (row_number rules p s forms i n) (call_rows p.tree n n.call) here
 
@@ -74,7 +75,8 @@ module _ (rules : Rules) (p : Problem) (s : Setting) (forms : Forms) (u : Unknow
         StandsFor rules s point (head_of (names_in p) n.call (arg_sides p.tree n) n.sides) (map (judgement_at rules (nodes_of p)) n.args) (map (forms u) n.args) (forms u i)
     node_stands i n at = by (is_reduced rules p i) refl
       where
-        by : (b : Bool) → is_reduced rules p i ≡ b → StandsFor rules s point (head_of (names_in p) n.call (arg_sides p.tree n) n.sides) (map (judgement_at rules (nodes_of p)) n.args) (map (forms u) n.args) (forms u i)
+        by : (b : Bool) → is_reduced rules p i ≡ b → StandsFor rules s point (head_of (names_in p) n.call (arg_sides p.tree n) n.sides) (map (judgement_at rules (nodes_of p)) n.args)
+            (map (forms u) n.args) (forms u i)
         by true e =
             entries_stand (names_in p) s point rules (map (judgement_at rules (nodes_of p)) n.args) (arg_sides p.tree n) n.sides (map (forms u) n.args) (filling_of rules p i u) (forms u i) n.call
             (p.nodes.shaped i n at) (not_constant p rules i n at e) (node_holds i n at e of holds) (reduced_form p rules s forms all i n at e u)

@@ -1,5 +1,6 @@
 -- Whose unknown stands for an entry.
-use Rattle.std.proofs.Common.{◌≡◌, ◌≢◌, ◌⊎◌, inl, inr, ℕ, ◌+◌, ◌*◌, ◌<◌, Bool, true, false, if◌then◌else◌, List, [], ◌∷◌, ◌++◌, map, get_or, Option, Some, None, option_map, refl, sym, ap, ap₂, subst, ◌∙◌, arith, mul_comm, true≢false}
+use Rattle.std.proofs.Common.{◌≡◌, ◌≢◌, ◌⊎◌, inl, inr, ℕ, ◌+◌, ◌*◌, ◌<◌, Bool, true, false, if◌then◌else◌, List, [], ◌∷◌, ◌++◌, map, get_or}
+use Rattle.std.proofs.Common.{Option, Some, None, option_map, refl, sym, ap, ap₂, subst, ◌∙◌, arith, mul_comm, true≢false}
 use Rattle.std.specs.Prelude.{nat_le, nat_eq}
 use Rattle.std.proofs.lemmas.Bool.{leb-false, le-leb, lt-leb, ne_eqb, cases_order}
 use Rattle.std.proofs.lemmas.List.{map_push}
@@ -131,8 +132,9 @@ module _ (first : ℕ) (a : Attribute) (s : Sides) (k : ℕ) (xs ys : List (Opti
       (listed_next (Some next) e o, omega (arith, is, own_more a s k own))
 
   -- any other the one that is listed for its source
-  pub other_listed_next : (next : ℕ) (o : Option ℕ) → IsSquareFor a s → k < entries_of s → is_own a s k ≡ false → next ≡ first + own_before a s k → o ≡ listed_for xs (source_of a s k) → ys ≡ xs ++ o ∷ [] →
-      (ys ≡ map (unknown_in first a s) (places_below (k + 1))) × (next ≡ first + own_before a s (k + 1))
+  pub other_listed_next : (next : ℕ) (o : Option ℕ) → IsSquareFor a s → k < entries_of s → is_own a s k ≡ false → next ≡ first + own_before a s k → o ≡ listed_for xs (source_of a s k)
+      → ys ≡ xs ++ o ∷ []
+      → (ys ≡ map (unknown_in first a s) (places_below (k + 1))) × (next ≡ first + own_before a s (k + 1))
   other_listed_next next o sq lt other is at e = (listed_next o e (at ∙ by (source_of a s k) refl), omega (arith, is, own_no_more a s k other))
     where
       by : (t : Option ℕ) → source_of a s k ≡ t → listed_for xs t ≡ option_map (λ i. first + own_before a s i) t

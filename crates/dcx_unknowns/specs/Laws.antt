@@ -1,4 +1,4 @@
--- The main statements, as the clauses of the laws say them.
+-- The laws of unknowns: how they are numbered, that there are few, and that points, domains and rays are such.
 use Rattle.std.specs.Prelude.{◌≡◌, ℕ, ◌+◌, ◌<◌, ◌≤◌, true, List, length, Some, slice_get}
 use Rattle.dcx_math.specs.Rational.{ℚ}
 use Rattle.dcx_shape.specs.Sides.{entries_of}

@@ -1,4 +1,4 @@
--- What the contracts of this crate cite.
+-- What contracts cite: the unknowns of variables, the layout, and the equations of a reduced program.
 pub mod Own
 pub mod Unknowns
 pub mod Layout

@@ -18,7 +18,7 @@ use Rattle.dcx_simplex.proofs.Rights.{optimal_right}
 use Rattle.dcx_lp_answer.specs.declared.answer.LpStatus.TheVariants as status
 use Rattle.dcx_lp_answer.specs.declared.answer.LpAnswer.{LpAnswer}
 use Rattle.dcx_lp_answer.specs.Right.{IsRight, IsRightAs}
-use Rattle.dcx_warm.specs.Install.{IsSound, IsColumnList, Installs, NeverInstalls}
+use Rattle.dcx_warm.specs.Install.{IsSound, IsColumnList, Installs}
 use Rattle.dcx_warm.specs.Dual.{Repairs, NeverRepairs}
 use Rattle.dcx_warm.specs.Warm.{WarmEnds, NeverEnds, IsFirst, IsOptimalAt}
 use Rattle.dcx_warm.proofs.Installing as install
@@ -54,9 +54,6 @@ pub ends_once : (equations : List Row) (limit : ℕ) (columns : List ℕ) (t u v
 ends_once equations limit columns t u v n m start a b = one_end limit columns t u v n m start.tableau.form a b
 
 -- ---- no end
-pub never_installed : (limit : ℕ) (columns : List ℕ) (t : Table) → NeverInstalls columns limit t 0 → NeverEnds limit columns t
-never_installed limit columns t none u n w = none w.middle w.pivots w.installs
-
 pub costs_positive : (limit : ℕ) (columns : List ℕ) (t v : Table) (k : ℕ) → Installs columns limit v k t 0 → ¬ (NoneEnters (objective_row v) v) → NeverEnds limit columns t
 costs_positive limit columns t v k i none u n w =
     none (subst (λ x. NoneEnters (objective_row x) x) (install.once columns limit w.middle w.pivots v k t 0 w.installs i).0 w.costs)
@@ -96,7 +93,8 @@ ends_optimal p limit columns u n list w =
 
 -- ---- what is read there
 module _ (p : Program) (u : Table) (at : IsOptimalAt p u) where
-  last_by : (k : ℕ) → k < length (first_tableau p).rows → length (first_tableau p).rows ≤ k + 2 → (k ≡ objective_row u) ⊎ (k ≢ objective_row u) → basic_at u.basis k ≡ basic_at (first_tableau p).basis k
+  last_by : (k : ℕ) → k < length (first_tableau p).rows → length (first_tableau p).rows ≤ k + 2 → (k ≡ objective_row u) ⊎ (k ≢ objective_row u)
+      → basic_at u.basis k ≡ basic_at (first_tableau p).basis k
   last_by k h l (inl e) =
       ap (basic_at u.basis) e ∙ at.objective ∙ at.columns ∙ sym (ap (basic_at (first_tableau p).basis) (e ∙ ap (λ n. n - 2) at.rows) ∙ (start_of p).objective)
   last_by k h l (inr n) =

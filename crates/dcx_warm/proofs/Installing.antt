@@ -71,9 +71,6 @@ module _ (columns : List ℕ) where
   once limit u m v k t n (Takes t' n' s d x' y' z rest) y = once limit u m v k (after_pivot s d t') (n' + 1) rest (next limit v k t' n' y s d x' y').1
 
   -- ---- along the loop
-  pub alike_same : (limit : ℕ) (t : Table) (n : ℕ) → InstallsAlike columns limit t n t n
-  alike_same limit t n = record { onward = λ u m x. x; back = λ u m x. x }
-
   pub alike_next : (limit : ℕ) (t : Table) (n : ℕ) (v : Table) (k r c : ℕ) → InstallsAlike columns limit t n v k → IsTaken columns v c → IsGiving columns v c r → IsAllowed limit v k r c → InstallsAlike columns limit t n (after_pivot r c v) (k + 1)
   alike_next limit t n v k r c a x y z = record {
     onward = λ u m i. a.onward u m (Takes v k r c x y z i);

@@ -1,4 +1,4 @@
--- The lemmas.
+-- The lemmas by which a warm run has one end, from which the optimal answer is read.
 pub mod Pivoting
 pub mod Installing
 pub mod Ratios

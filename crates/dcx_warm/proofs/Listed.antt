@@ -16,7 +16,8 @@ module _ (columns : List ℕ) (t : Table) (list : IsColumnList t.plain columns) 
   below_by i l k (inl h) = let b = (all (get_or columns k 0) (k, h, refl)).1 in omega (arith, b, count)
   below_by i l k (inr h) = omega (arith, l, count)
 
-  apart_by : (i : ℕ) → t.plain ≤ basic_at t.basis i → (k j : ℕ) → k < j → j < suc (length columns) → (d : (k < length columns) ⊎ (length columns ≤ k)) (e : (j < length columns) ⊎ (length columns ≤ j)) → row_by i k d ≢ row_by i j e
+  apart_by : (i : ℕ) → t.plain ≤ basic_at t.basis i → (k j : ℕ) → k < j → j < suc (length columns)
+      → (d : (k < length columns) ⊎ (length columns ≤ k)) (e : (j < length columns) ⊎ (length columns ≤ j)) → row_by i k d ≢ row_by i j e
   apart_by i high k j l m (inl h) (inl g) same =
       let x = (all (get_or columns k 0) (k, h, refl)).2 in
       let y = (all (get_or columns j 0) (j, g, refl)).2 in

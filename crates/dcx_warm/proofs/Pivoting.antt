@@ -25,20 +25,13 @@ of_next equations t r c s p = IsTableauOf-pivoted equations (t.columns + 3) t.ba
 pub kin_same : (t : Table) → IsKin t t
 kin_same t = record { rows = refl; columns = refl; plain = refl; last = λ k h l. refl }
 
-pub kin_next : (t u : Table) (r c : ℕ) → IsKin t u → IsPivot u r c → IsKin t (after_pivot r c u)
-kin_next t u r c k p = record {
-  rows = length-after r c u ∙ k.rows;
-  columns = k.columns;
-  plain = k.plain;
-  last = λ i h l. get_or-set_other u.basis r i c 0 (λ e. let a = k.rows in let b = p.row in absurd (omega (arith, a, b, l, e))) ∙ k.last i h l;
-}
-
 pub kin_step : (t u : Table) (r c : ℕ) → IsPivot t r c → IsKin (after_pivot r c t) u → IsKin t u
 kin_step t u r c p k = record {
   rows = k.rows ∙ length-after r c t;
   columns = k.columns;
   plain = k.plain;
-  last = λ i h l. k.last i (let e = length-after r c t in omega (arith, e, h)) (let e = length-after r c t in omega (arith, e, l)) ∙ get_or-set_other t.basis r i c 0 (λ e. let b = p.row in absurd (omega (arith, b, l, e)));
+  last = λ i h l. k.last i (let e = length-after r c t in omega (arith, e, h)) (let e = length-after r c t in omega (arith, e, l))
+      ∙ get_or-set_other t.basis r i c 0 (λ e. let b = p.row in absurd (omega (arith, b, l, e)));
 }
 
 -- ---- the basis

@@ -1,4 +1,4 @@
--- The words that contracts cite.
+-- What contracts cite: making listed columns basic, the dual simplex, and the whole warm run.
 pub mod Install
 pub mod Dual
 pub mod Warm

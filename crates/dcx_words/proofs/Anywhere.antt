@@ -3,7 +3,8 @@ use Rattle.std.proofs.Common.{◌≡◌, ℕ, Bool, true, false, cond, List, [],
 use Rattle.std.specs.Prelude.{nat_eq, bytes_eq, codes}
 use Rattle.std.specs.List.{list_any, starts_with}
 use Rattle.std.proofs.lemmas.Bool.{or_parts}
-use Rattle.dcx_words.specs.Commands.{Command, check, solve, resolve, certificate, certify, migrate, trial, iis, range, Operands, limit_of, option_word, option_front, unlimited, put_before, limited, without_option, file_of, files_of, three_files_of, size_of, warm_files_of, limited_command, command_of}
+use Rattle.dcx_words.specs.Commands.{Command, check, solve, resolve, certificate, certify, migrate, trial, iis, range, Operands, limit_of, option_word, option_front, unlimited}
+use Rattle.dcx_words.specs.Commands.{put_before, limited, without_option, file_of, files_of, three_files_of, size_of, warm_files_of, limited_command, command_of}
 use Rattle.dcx_words.specs.Laws.{is_option, HasNoOption, with_limit, limited_by, OptionStandsAnywhere}
 use Rattle.dcx_words.proofs.Taking.{at_operand, put_twice}
 use Rattle.dcx_words.proofs.NoMinus.{option_of_minus, none_in, file_operand, three_file_operands, none_with}
@@ -30,16 +31,27 @@ no_option (w ∷ ws) h =
 -- the operands with another limit
 relimited : (name : List ℕ) (words : List (List ℕ)) (m n : ℕ) (command : Command) → limited_command name (record { words = words; limit = m }) ≡ Some command
     → limited_command name (record { words = words; limit = n }) ≡ with_limit command n
-relimited name words m n command = by (bytes_eq name (codes "solve")) (bytes_eq name (codes "resolve")) (bytes_eq name (codes "certificate")) (bytes_eq name (codes "trial")) (bytes_eq name (codes "iis")) (bytes_eq name (codes "range"))
+relimited name words m n command =
+    by (bytes_eq name (codes "solve")) (bytes_eq name (codes "resolve")) (bytes_eq name (codes "certificate")) (bytes_eq name (codes "trial")) (bytes_eq name (codes "iis"))
+    (bytes_eq name (codes "range"))
   where
     -- of what the operands are made, whatever the limit
-    same : {X : Type 0} (form : X → ℕ → Command) (o : Option X) → ((x : X) → Some (form x n) ≡ with_limit (form x m) n) → option_map (λ x. form x m) o ≡ Some command → option_map (λ x. form x n) o ≡ with_limit command n
+    same : {X : Type 0} (form : X → ℕ → Command) (o : Option X) → ((x : X) → Some (form x n) ≡ with_limit (form x m) n) → option_map (λ x. form x m) o ≡ Some command
+        → option_map (λ x. form x n) o ≡ with_limit command n
     same form None h e = cc
     same form (Some x) h e = let d : form x m ≡ command = cc in h x ∙ ap (λ c. with_limit c n) d
 
     by : (a b c d i r : Bool)
-        → cond a (option_map (λ script. solve script m) (file_of words)) (cond b (option_map (λ files. resolve files.0 files.1 m files.2) (warm_files_of words)) (cond c (option_map (λ files. certificate files.0 files.1 m) (files_of words)) (cond d (option_map (λ size. trial size m) (size_of words)) (cond i (option_map (λ files. iis files.0 files.1 m) (files_of words)) (cond r (option_map (λ files. range files.0 files.1 files.2 m) (three_files_of words)) None))))) ≡ Some command
-        → cond a (option_map (λ script. solve script n) (file_of words)) (cond b (option_map (λ files. resolve files.0 files.1 n files.2) (warm_files_of words)) (cond c (option_map (λ files. certificate files.0 files.1 n) (files_of words)) (cond d (option_map (λ size. trial size n) (size_of words)) (cond i (option_map (λ files. iis files.0 files.1 n) (files_of words)) (cond r (option_map (λ files. range files.0 files.1 files.2 n) (three_files_of words)) None))))) ≡ with_limit command n
+        → cond a (option_map (λ script. solve script m) (file_of words))
+        (cond b (option_map (λ files. resolve files.0 files.1 m files.2) (warm_files_of words))
+        (cond c (option_map (λ files. certificate files.0 files.1 m) (files_of words))
+        (cond d (option_map (λ size. trial size m) (size_of words)) (cond i (option_map (λ files. iis files.0 files.1 m) (files_of words))
+        (cond r (option_map (λ files. range files.0 files.1 files.2 m) (three_files_of words)) None))))) ≡ Some command
+        → cond a (option_map (λ script. solve script n) (file_of words))
+        (cond b (option_map (λ files. resolve files.0 files.1 n files.2) (warm_files_of words))
+        (cond c (option_map (λ files. certificate files.0 files.1 n) (files_of words))
+        (cond d (option_map (λ size. trial size n) (size_of words)) (cond i (option_map (λ files. iis files.0 files.1 n) (files_of words))
+        (cond r (option_map (λ files. range files.0 files.1 files.2 n) (three_files_of words)) None))))) ≡ with_limit command n
     by true b c d i r e = same (λ script limit. solve script limit) (file_of words) (λ x. refl) e
     by false true c d i r e = same (λ files limit. resolve files.0 files.1 limit files.2) (warm_files_of words) (λ x. refl) e
     by false false true d i r e = same (λ files limit. certificate files.0 files.1 limit) (files_of words) (λ x. refl) e
@@ -52,7 +64,8 @@ relimited name words m n command = by (bytes_eq name (codes "solve")) (bytes_eq 
 both_sides : (front back rest : List (List ℕ)) (text : List ℕ) → HasNoOption front → without_option rest ≡ limited text back → without_option (front ++ rest) ≡ limited text (front ++ back)
 both_sides front back rest text h e = stand_before front rest h ∙ ap (option_map (put_before front)) e ∙ by (limit_of text)
   where
-    by : (o : Option ℕ) → option_map (put_before front) (option_map (λ n. let p : Operands = record { words = back; limit = n } in p) o) ≡ option_map (λ n. let p : Operands = record { words = front ++ back; limit = n } in p) o
+    by : (o : Option ℕ) → option_map (put_before front) (option_map (λ n. let p : Operands = record { words = back; limit = n } in p) o)
+        ≡ option_map (λ n. let p : Operands = record { words = front ++ back; limit = n } in p) o
     by None = refl
     by (Some n) = refl
 
@@ -70,7 +83,8 @@ words_begin : (text : List ℕ) → is_option (option_front ++ text) ≡ true
 words_begin text = refl
 
 -- a command without a limit stays none with the option
-unlimited_stays : {X : Type 0} (form : X → Command) (o : Option X) (text : List ℕ) (command : Command) → ((x : X) (n : ℕ) → with_limit (form x) n ≡ None) → option_map form o ≡ Some command → None ≡ limited_by text command
+unlimited_stays : {X : Type 0} (form : X → Command) (o : Option X) (text : List ℕ) (command : Command) → ((x : X) (n : ℕ) → with_limit (form x) n ≡ None) → option_map form o ≡ Some command
+    → None ≡ limited_by text command
 unlimited_stays form None text command h e = cc
 unlimited_stays form (Some x) text command h e = let d : form x ≡ command = cc in by (limit_of text) ∙ ap (limited_by text) d
   where
@@ -94,11 +108,14 @@ by_name name words rest text command h r = by (bytes_eq name (codes "check")) (b
     none : {X : Type 0} (f : List (List ℕ) → Option X) → ((words : List (List ℕ)) (x : X) → f words ≡ Some x → HasNoOption words) → f rest ≡ None
     none f k = ap f r.is ∙ none_with is_option f r.front r.back r.word k r.option
 
-    three : (form : List ℕ × List ℕ × List ℕ → Command) → ((x : List ℕ × List ℕ × List ℕ) (n : ℕ) → with_limit (form x) n ≡ None) → option_map form (three_files_of words) ≡ Some command → option_map form (three_files_of rest) ≡ limited_by text command
+    three : (form : List ℕ × List ℕ × List ℕ → Command) → ((x : List ℕ × List ℕ × List ℕ) (n : ℕ) → with_limit (form x) n ≡ None) → option_map form (three_files_of words) ≡ Some command
+        → option_map form (three_files_of rest) ≡ limited_by text command
     three form k e = ap (option_map form) (none three_files_of (three_file_operands is_option option_of_minus)) ∙ unlimited_stays form (three_files_of words) text command k e
 
-    by : (a b c : Bool) → cond a (option_map check (file_of words)) (cond b (option_map (λ files. certify files.0 files.1 files.2) (three_files_of words)) (cond c (option_map (λ files. migrate files.0 files.1 files.2) (three_files_of words)) (option_and_then (limited_command name) (without_option words)))) ≡ Some command
-        → cond a (option_map check (file_of rest)) (cond b (option_map (λ files. certify files.0 files.1 files.2) (three_files_of rest)) (cond c (option_map (λ files. migrate files.0 files.1 files.2) (three_files_of rest)) (option_and_then (limited_command name) (without_option rest)))) ≡ limited_by text command
+    by : (a b c : Bool) → cond a (option_map check (file_of words)) (cond b (option_map (λ files. certify files.0 files.1 files.2) (three_files_of words))
+        (cond c (option_map (λ files. migrate files.0 files.1 files.2) (three_files_of words)) (option_and_then (limited_command name) (without_option words)))) ≡ Some command
+        → cond a (option_map check (file_of rest)) (cond b (option_map (λ files. certify files.0 files.1 files.2) (three_files_of rest))
+        (cond c (option_map (λ files. migrate files.0 files.1 files.2) (three_files_of rest)) (option_and_then (limited_command name) (without_option rest)))) ≡ limited_by text command
     by true b c e = ap (option_map check) (none file_of (file_operand is_option option_of_minus)) ∙ unlimited_stays check (file_of words) text command (λ x n. refl) e
     by false true c e = three (λ files. certify files.0 files.1 files.2) (λ x n. refl) e
     by false false true e = three (λ files. migrate files.0 files.1 files.2) (λ x n. refl) e

@@ -1,4 +1,4 @@
--- The lemmas of this crate.
+-- The lemmas by which the options stand anywhere among the operands, once at most.
 pub mod Numerals
 pub mod Taking
 pub mod NoMinus

@@ -18,7 +18,8 @@ some_digit n e = grind (arith, nat_tests)
 above : (most v : ℕ) → most < v → nat_le v most ≡ false
 above most v l = grind (arith, nat_tests)
 
-pub no_parsed_number : {E : Type 0} (longest least most : ℕ) (err : E) (text : List ℕ) → ParsesUnsigned 64 10 text (Err err) → is_numeral longest text ≡ true → most < 2 ^ 64 → number_within longest least most text ≡ None
+pub no_parsed_number : {E : Type 0} (longest least most : ℕ) (err : E) (text : List ℕ) → ParsesUnsigned 64 10 text (Err err) → is_numeral longest text ≡ true → most < 2 ^ 64
+    → number_within longest least most text ≡ None
 no_parsed_number longest least most err text h e l =
     let ps = and_parts _ _ e in
     let qs = and_parts _ _ ps.0 in

@@ -3,13 +3,16 @@ use Rattle.std.proofs.Common.{◌≡◌, ℕ, ◌≤◌, Bool, true, false, cond
 use Rattle.std.specs.Prelude.{nat_eq, bytes_eq, codes}
 use Rattle.std.specs.List.{count_by, list_any, starts_with}
 use Rattle.std.proofs.lemmas.Bool.{or_parts}
-use Rattle.dcx_words.specs.Commands.{Command, check, solve, resolve, certificate, certify, migrate, trial, iis, range, Operands, limit_of, option_word, option_front, put_before, limited, limited_by_next, without_option, without_warm, file_of, files_of, warm_files_of, three_files_of, size_of, limited_command}
+use Rattle.dcx_words.specs.Commands.{Command, check, solve, resolve, certificate, certify, migrate, trial, iis, range, Operands, limit_of, option_word, option_front, put_before}
+use Rattle.dcx_words.specs.Commands.{limited, limited_by_next, without_option, without_warm, file_of, files_of, warm_files_of, three_files_of, size_of, limited_command}
 use Rattle.dcx_words.specs.Laws.{is_option, HasNoOption, OptionStandsOnce}
 use Rattle.dcx_words.proofs.NoMinus.{option_of_minus, first_counted, not_counted, none_counted, number_passes_none, file_operand, file_operands, three_file_operands, size_operand, beside_warm, kept}
 
 -- ---- operands
 pub operands : (name : List ℕ) (o : Operands) (command : Command) → limited_command name o ≡ Some command → HasNoOption o.words
-operands name o command = by (bytes_eq name (codes "solve")) (bytes_eq name (codes "resolve")) (bytes_eq name (codes "certificate")) (bytes_eq name (codes "trial")) (bytes_eq name (codes "iis")) (bytes_eq name (codes "range"))
+operands name o command =
+    by (bytes_eq name (codes "solve")) (bytes_eq name (codes "resolve")) (bytes_eq name (codes "certificate")) (bytes_eq name (codes "trial")) (bytes_eq name (codes "iis"))
+    (bytes_eq name (codes "range"))
   where
     one : (f : Option (List ℕ)) → file_of o.words ≡ f → option_map (λ script. solve script o.limit) f ≡ Some command → HasNoOption o.words
     one None d e = cc
@@ -31,7 +34,12 @@ operands name o command = by (bytes_eq name (codes "solve")) (bytes_eq name (cod
     size None d e = cc
     size (Some n) d e = size_operand is_option option_of_minus o.words n d
 
-    by : (a b c d i r : Bool) → cond a (option_map (λ script. solve script o.limit) (file_of o.words)) (cond b (option_map (λ files. resolve files.0 files.1 o.limit files.2) (warm_files_of o.words)) (cond c (option_map (λ files. certificate files.0 files.1 o.limit) (files_of o.words)) (cond d (option_map (λ size. trial size o.limit) (size_of o.words)) (cond i (option_map (λ files. iis files.0 files.1 o.limit) (files_of o.words)) (cond r (option_map (λ files. range files.0 files.1 files.2 o.limit) (three_files_of o.words)) None))))) ≡ Some command → HasNoOption o.words
+    by : (a b c d i r : Bool) → cond a (option_map (λ script. solve script o.limit) (file_of o.words))
+        (cond b (option_map (λ files. resolve files.0 files.1 o.limit files.2) (warm_files_of o.words))
+        (cond c (option_map (λ files. certificate files.0 files.1 o.limit) (files_of o.words))
+        (cond d (option_map (λ size. trial size o.limit) (size_of o.words))
+        (cond i (option_map (λ files. iis files.0 files.1 o.limit) (files_of o.words)) (cond r (option_map (λ files. range files.0 files.1 files.2 o.limit) (three_files_of o.words)) None)))))
+        ≡ Some command → HasNoOption o.words
     by true b c d i r e = one (file_of o.words) refl e
     by false true c d i r e = warm (warm_files_of o.words) refl e
     by false false true d i r e = two (λ files. certificate files.0 files.1 o.limit) (files_of o.words) refl e
@@ -69,7 +77,8 @@ once (w ∷ ws) o h k = by (λ rest. once ws rest) (bytes_eq w option_word) (sta
         let p = limited_words text back o e in
         one_more w (text ∷ back) (not_counted is_option text back p.1 ∙ none_counted is_option back (subst HasNoOption p.0 k))
 
-    operand : ((rest : Operands) → without_option ws ≡ Some rest → HasNoOption rest.words → count_by is_option ws ≤ 1) → (r : Option Operands) → without_option ws ≡ r → is_option w ≡ false → option_map (put_before (w ∷ [])) r ≡ Some o → count_by is_option (w ∷ ws) ≤ 1
+    operand : ((rest : Operands) → without_option ws ≡ Some rest → HasNoOption rest.words → count_by is_option ws ≤ 1) → (r : Option Operands) → without_option ws ≡ r → is_option w ≡ false
+        → option_map (put_before (w ∷ [])) r ≡ Some o → count_by is_option (w ∷ ws) ≤ 1
     operand more None d f e = cc
     operand more (Some rest) d f e =
         let words_are : o.words ≡ w ∷ rest.words = ap words_of (sym e) in
@@ -101,7 +110,9 @@ option_stands_once name words command = by (bytes_eq name (codes "check")) (byte
     some None d e = cc
     some (Some o) d e = once words o d (operands name o command e)
 
-    by : (a b c : Bool) → cond a (option_map check (file_of words)) (cond b (option_map (λ files. certify files.0 files.1 files.2) (three_files_of words)) (cond c (option_map (λ files. migrate files.0 files.1 files.2) (three_files_of words)) (option_and_then (limited_command name) (without_option words)))) ≡ Some command → count_by is_option words ≤ 1
+    by : (a b c : Bool) → cond a (option_map check (file_of words)) (cond b (option_map (λ files. certify files.0 files.1 files.2) (three_files_of words))
+        (cond c (option_map (λ files. migrate files.0 files.1 files.2) (three_files_of words)) (option_and_then (limited_command name) (without_option words)))) ≡ Some command
+        → count_by is_option words ≤ 1
     by true b c e = one (file_of words) refl e
     by false true c e = three (λ files. certify files.0 files.1 files.2) (three_files_of words) refl e
     by false false true e = three (λ files. migrate files.0 files.1 files.2) (three_files_of words) refl e

@@ -1,5 +1,6 @@
 -- The option is taken out of the words.
-use Rattle.std.proofs.Common.{◌≡◌, ℕ, suc, ◌+◌, ◌-◌, ◌<◌, add-one, true, false, cond, List, [], ◌∷◌, ◌++◌, length, map, take, drop, get_or, Option, Some, None, MatchOption, option_map, refl, sym, ap, ◌∙◌, subst, append_assoc, Bor}
+use Rattle.std.proofs.Common.{◌≡◌, ℕ, suc, ◌+◌, ◌-◌, ◌<◌, add-one, true, false, cond, List, [], ◌∷◌, ◌++◌, length, map, take, drop, get_or}
+use Rattle.std.proofs.Common.{Option, Some, None, MatchOption, option_map, refl, sym, ap, ◌∙◌, subst, append_assoc, Bor}
 use Rattle.std.specs.Prelude.{nat_eq, bytes_eq}
 use Rattle.std.specs.List.{starts_with}
 use Rattle.std.specs.Str.Pattern.{FindsTextPrefix, StripsPrefix}
@@ -22,7 +23,8 @@ at_word w ws e = ap (λ b. cond b (limited_by_next ws) (cond (starts_with nat_eq
 at_front : (w : List ℕ) (ws : List (List ℕ)) → bytes_eq w option_word ≡ false → starts_with nat_eq w option_front ≡ true → without_option (w ∷ ws) ≡ limited (drop (length option_front) w) ws
 at_front w ws e d = rw (e, d)
 
-pub at_operand : (w : List ℕ) (ws : List (List ℕ)) → bytes_eq w option_word ≡ false → starts_with nat_eq w option_front ≡ false → without_option (w ∷ ws) ≡ option_map (put_before (w ∷ [])) (without_option ws)
+pub at_operand : (w : List ℕ) (ws : List (List ℕ)) → bytes_eq w option_word ≡ false → starts_with nat_eq w option_front ≡ false
+    → without_option (w ∷ ws) ≡ option_map (put_before (w ∷ [])) (without_option ws)
 at_operand w ws e d = rw (e, d)
 
 pub put_twice : (xs ys : List (List ℕ)) (o : Option Operands) → option_map (put_before xs) (option_map (put_before ys) o) ≡ option_map (put_before (xs ++ ys)) o
@@ -75,7 +77,8 @@ found_front f words i x word text h d b =
     ∙ ap (λ t. option_map (put_before (map f (take i words))) (limited t (map f (drop (i + 1) words)))) (ap (drop (length option_front)) (sym h.text) ∙ sym b.1)
     ∙ ap (λ ws. option_map (put_before (map f (take i words))) (limited text (map f ws))) (sym (behind words (i + 1)))
 
-pub found_operand : {X : Type 0} (f : X → List ℕ) (words : List X) (i : ℕ) (x : X) (word : List ℕ) → IsReadAt f words i x word → bytes_eq word option_word ≡ false → starts_with nat_eq word option_front ≡ false
+pub found_operand : {X : Type 0} (f : X → List ℕ) (words : List X) (i : ℕ) (x : X) (word : List ℕ) → IsReadAt f words i x word → bytes_eq word option_word ≡ false
+    → starts_with nat_eq word option_front ≡ false
     → StandBefore f words (i + 1)
 found_operand f words i x word h d b =
     let s = stands_at f words i x h.within h.is in

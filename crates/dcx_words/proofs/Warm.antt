@@ -1,12 +1,15 @@
 -- Where `--warm` may stand.
-use Rattle.std.proofs.Common.{◌≡◌, ℕ, ◌+◌, Bool, true, false, cond, ◌||◌, List, [], ◌∷◌, ◌++◌, length, drop, Option, Some, None, option_map, option_and_then, refl, sym, ap, ◌∙◌, subst, arith, append_assoc}
+use Rattle.std.proofs.Common.{◌≡◌, ℕ, ◌+◌, Bool, true, false, cond, ◌||◌, List, [], ◌∷◌, ◌++◌, length, drop, Option, Some, None}
+use Rattle.std.proofs.Common.{option_map, option_and_then, refl, sym, ap, ◌∙◌, subst, arith, append_assoc}
 use Rattle.std.specs.Prelude.{nat_eq, bytes_eq, codes}
 use Rattle.std.specs.List.{count_by, list_any, starts_with}
 use Rattle.std.proofs.lemmas.Bool.{or_parts}
 use Rattle.std.proofs.lemmas.Slice.Eq.{bytes_eq-Decides}
-use Rattle.dcx_words.specs.Commands.{Command, check, solve, resolve, certificate, certify, migrate, trial, iis, range, Operands, limit_of, option_word, option_front, put_before, limited, limited_by_next, without_option, warm_word, without_warm, file_of, files_of, warm_files_of, three_files_of, size_of, limited_command, command_of}
+use Rattle.dcx_words.specs.Commands.{Command, check, solve, resolve, certificate, certify, migrate, trial, iis, range, Operands, limit_of, option_word, option_front, put_before, limited}
+use Rattle.dcx_words.specs.Commands.{limited_by_next, without_option, warm_word, without_warm, file_of, files_of, warm_files_of, three_files_of, size_of, limited_command, command_of}
 use Rattle.dcx_words.specs.Laws.{is_option, is_warm, HasNoOption, warmed, is_warm_command, EndInOption, WarmStandsAnywhere, WarmStandsApart, WarmStandsOnce}
-use Rattle.dcx_words.proofs.NoMinus.{warm_of_minus, HasNone, first_counted, not_counted, none_counted, not_none, none_in, number_passes_none, file_operand, file_operands, three_file_operands, size_operand, beside_warm, first_taken, none_with}
+use Rattle.dcx_words.proofs.NoMinus.{warm_of_minus, HasNone, first_counted, not_counted, none_counted, not_none, none_in, number_passes_none}
+use Rattle.dcx_words.proofs.NoMinus.{file_operand, file_operands, three_file_operands, size_operand, beside_warm, first_taken, none_with}
 use Rattle.dcx_words.proofs.Once.{operands, limited_words}
 
 no_file : (front back : List (List ℕ)) → file_of (front ++ warm_word ∷ back) ≡ None
@@ -124,7 +127,8 @@ operands_eta words n x h =
 limited_moves : (text : List ℕ) (front back : List (List ℕ)) → Moves (limited text (front ++ back)) (limited text (front ++ warm_word ∷ back))
 limited_moves text front back = by (limit_of text)
   where
-    by : (n : Option ℕ) → Moves (option_map (λ n. let p : Operands = record { words = front ++ back; limit = n } in p) n) (option_map (λ n. let p : Operands = record { words = front ++ warm_word ∷ back; limit = n } in p) n)
+    by : (n : Option ℕ) → Moves (option_map (λ n. let p : Operands = record { words = front ++ back; limit = n } in p) n)
+        (option_map (λ n. let p : Operands = record { words = front ++ warm_word ∷ back; limit = n } in p) n)
     by None = λ x e. cc
     by (Some n) = λ x e.
         let d = operands_eta (front ++ back) n x e in
@@ -156,7 +160,8 @@ moves (w ∷ ws) back h = by (moves ws back) (bytes_eq w option_word) refl (star
 
     by : (¬ EndInOption ws → Moves (without_option (ws ++ back)) (without_option (ws ++ warm_word ∷ back))) → (a : Bool) → bytes_eq w option_word ≡ a → (b : Bool)
         → Moves (cond a (limited_by_next (ws ++ back)) (cond b (limited (drop (length option_front) w) (ws ++ back)) (option_map (put_before (w ∷ [])) (without_option (ws ++ back)))))
-        (cond a (limited_by_next (ws ++ warm_word ∷ back)) (cond b (limited (drop (length option_front) w) (ws ++ warm_word ∷ back)) (option_map (put_before (w ∷ [])) (without_option (ws ++ warm_word ∷ back)))))
+        (cond a (limited_by_next (ws ++ warm_word ∷ back)) (cond b (limited (drop (length option_front) w) (ws ++ warm_word ∷ back))
+        (option_map (put_before (w ∷ [])) (without_option (ws ++ warm_word ∷ back)))))
     by rest true d b = next ws refl ((bytes_eq-Decides w option_word).0 d)
     by rest false d true = limited_moves (drop (length option_front) w) ws back
     by rest false d false =
@@ -165,9 +170,12 @@ moves (w ∷ ws) back h = by (moves ws back) (bytes_eq w option_word) refl (star
 
 -- what the operands come to
 command_warmed : (name : List ℕ) (o p : Operands) (command : Command) → HasOneMore o p → limited_command name o ≡ Some command → limited_command name p ≡ warmed command
-command_warmed name o p command m = by (bytes_eq name (codes "solve")) (bytes_eq name (codes "resolve")) (bytes_eq name (codes "certificate")) (bytes_eq name (codes "trial")) (bytes_eq name (codes "iis")) (bytes_eq name (codes "range"))
+command_warmed name o p command m =
+    by (bytes_eq name (codes "solve")) (bytes_eq name (codes "resolve")) (bytes_eq name (codes "certificate")) (bytes_eq name (codes "trial")) (bytes_eq name (codes "iis"))
+    (bytes_eq name (codes "range"))
   where
-    none : {X : Type 0} (form was : X → Command) (f : List (List ℕ) → Option X) → f (m.front ++ warm_word ∷ m.back) ≡ None → ((x : X) → warmed (was x) ≡ None) → (r : Option X) → option_map was r ≡ Some command → option_map form (f p.words) ≡ warmed command
+    none : {X : Type 0} (form was : X → Command) (f : List (List ℕ) → Option X) → f (m.front ++ warm_word ∷ m.back) ≡ None → ((x : X) → warmed (was x) ≡ None) → (r : Option X)
+        → option_map was r ≡ Some command → option_map form (f p.words) ≡ warmed command
     none form was f h k None e = cc
     none form was f h k (Some x) e =
         let d : was x ≡ command = cc in
@@ -183,14 +191,25 @@ command_warmed name o p command m = by (bytes_eq name (codes "solve")) (bytes_eq
         ∙ ap (λ n. warmed (resolve x.0 x.1 n x.2)) m.limit ∙ ap warmed c
 
     by : (a b c d i r : Bool)
-        → cond a (option_map (λ script. solve script o.limit) (file_of o.words)) (cond b (option_map (λ files. resolve files.0 files.1 o.limit files.2) (warm_files_of o.words)) (cond c (option_map (λ files. certificate files.0 files.1 o.limit) (files_of o.words)) (cond d (option_map (λ size. trial size o.limit) (size_of o.words)) (cond i (option_map (λ files. iis files.0 files.1 o.limit) (files_of o.words)) (cond r (option_map (λ files. range files.0 files.1 files.2 o.limit) (three_files_of o.words)) None))))) ≡ Some command
-        → cond a (option_map (λ script. solve script p.limit) (file_of p.words)) (cond b (option_map (λ files. resolve files.0 files.1 p.limit files.2) (warm_files_of p.words)) (cond c (option_map (λ files. certificate files.0 files.1 p.limit) (files_of p.words)) (cond d (option_map (λ size. trial size p.limit) (size_of p.words)) (cond i (option_map (λ files. iis files.0 files.1 p.limit) (files_of p.words)) (cond r (option_map (λ files. range files.0 files.1 files.2 p.limit) (three_files_of p.words)) None))))) ≡ warmed command
+        → cond a (option_map (λ script. solve script o.limit) (file_of o.words))
+        (cond b (option_map (λ files. resolve files.0 files.1 o.limit files.2) (warm_files_of o.words))
+        (cond c (option_map (λ files. certificate files.0 files.1 o.limit) (files_of o.words))
+        (cond d (option_map (λ size. trial size o.limit) (size_of o.words))
+        (cond i (option_map (λ files. iis files.0 files.1 o.limit) (files_of o.words)) (cond r (option_map (λ files. range files.0 files.1 files.2 o.limit) (three_files_of o.words)) None)))))
+        ≡ Some command
+        → cond a (option_map (λ script. solve script p.limit) (file_of p.words))
+        (cond b (option_map (λ files. resolve files.0 files.1 p.limit files.2) (warm_files_of p.words))
+        (cond c (option_map (λ files. certificate files.0 files.1 p.limit) (files_of p.words))
+        (cond d (option_map (λ size. trial size p.limit) (size_of p.words))
+        (cond i (option_map (λ files. iis files.0 files.1 p.limit) (files_of p.words)) (cond r (option_map (λ files. range files.0 files.1 files.2 p.limit) (three_files_of p.words)) None)))))
+        ≡ warmed command
     by true b c d i r e = none (λ script. solve script p.limit) (λ script. solve script o.limit) file_of (no_file m.front m.back) (λ x. refl) (file_of o.words) e
     by false true c d i r e = files (warm_files_of o.words) refl e
     by false false true d i r e = none (λ files. certificate files.0 files.1 p.limit) (λ files. certificate files.0 files.1 o.limit) files_of (no_files m.front m.back) (λ x. refl) (files_of o.words) e
     by false false false true i r e = none (λ size. trial size p.limit) (λ size. trial size o.limit) size_of (no_size m.front m.back) (λ x. refl) (size_of o.words) e
     by false false false false true r e = none (λ files. iis files.0 files.1 p.limit) (λ files. iis files.0 files.1 o.limit) files_of (no_files m.front m.back) (λ x. refl) (files_of o.words) e
-    by false false false false false true e = none (λ files. range files.0 files.1 files.2 p.limit) (λ files. range files.0 files.1 files.2 o.limit) three_files_of (no_three_files m.front m.back) (λ x. refl) (three_files_of o.words) e
+    by false false false false false true e =
+        none (λ files. range files.0 files.1 files.2 p.limit) (λ files. range files.0 files.1 files.2 o.limit) three_files_of (no_three_files m.front m.back) (λ x. refl) (three_files_of o.words) e
     by false false false false false false e = cc
 
 pub warm_stands_anywhere : WarmStandsAnywhere
@@ -202,7 +221,8 @@ warm_stands_anywhere name front back command h = by (bytes_eq name (codes "check
     more : List (List ℕ)
     more = front ++ warm_word ∷ back
 
-    none : {X : Type 0} (form : X → Command) (f : List (List ℕ) → Option X) → f more ≡ None → ((x : X) → warmed (form x) ≡ None) → (r : Option X) → option_map form r ≡ Some command → option_map form (f more) ≡ warmed command
+    none : {X : Type 0} (form : X → Command) (f : List (List ℕ) → Option X) → f more ≡ None → ((x : X) → warmed (form x) ≡ None) → (r : Option X) → option_map form r ≡ Some command
+        → option_map form (f more) ≡ warmed command
     none form f k n None e = cc
     none form f k n (Some x) e = let d : form x ≡ command = cc in ap (option_map form) k ∙ sym (n x) ∙ ap warmed d
 
@@ -211,8 +231,10 @@ warm_stands_anywhere name front back command h = by (bytes_eq name (codes "check
     some (Some o) None m e = absurd (m o refl)
     some (Some o) (Some p) m e = command_warmed name o p command (m o refl) e
 
-    by : (a b c : Bool) → cond a (option_map check (file_of words)) (cond b (option_map (λ files. certify files.0 files.1 files.2) (three_files_of words)) (cond c (option_map (λ files. migrate files.0 files.1 files.2) (three_files_of words)) (option_and_then (limited_command name) (without_option words)))) ≡ Some command
-        → cond a (option_map check (file_of more)) (cond b (option_map (λ files. certify files.0 files.1 files.2) (three_files_of more)) (cond c (option_map (λ files. migrate files.0 files.1 files.2) (three_files_of more)) (option_and_then (limited_command name) (without_option more)))) ≡ warmed command
+    by : (a b c : Bool) → cond a (option_map check (file_of words)) (cond b (option_map (λ files. certify files.0 files.1 files.2) (three_files_of words))
+        (cond c (option_map (λ files. migrate files.0 files.1 files.2) (three_files_of words)) (option_and_then (limited_command name) (without_option words)))) ≡ Some command
+        → cond a (option_map check (file_of more)) (cond b (option_map (λ files. certify files.0 files.1 files.2) (three_files_of more))
+        (cond c (option_map (λ files. migrate files.0 files.1 files.2) (three_files_of more)) (option_and_then (limited_command name) (without_option more)))) ≡ warmed command
     by true b c e = none check file_of (no_file front back) (λ x. refl) (file_of words) e
     by false true c e = none (λ files. certify files.0 files.1 files.2) three_files_of (no_three_files front back) (λ x. refl) (three_files_of words) e
     by false false true e = none (λ files. migrate files.0 files.1 files.2) three_files_of (no_three_files front back) (λ x. refl) (three_files_of words) e
@@ -240,7 +262,8 @@ apart (w ∷ ws) back o h k = by (apart ws back) (bytes_eq w option_word) (start
         let q = operands_eta (w ∷ p.words) p.limit o e in
         others p d (or_parts (is_option w) (list_any is_option p.words) (subst HasNoOption q.0 k)).1
 
-    by : ((p : Operands) → without_option (rest ws) ≡ Some p → HasNoOption p.words → ⊥) → (a b : Bool) → cond a (limited_by_next (rest ws)) (cond b (limited (drop (length option_front) w) (rest ws)) (option_map (put_before (w ∷ [])) (without_option (rest ws)))) ≡ Some o → ⊥
+    by : ((p : Operands) → without_option (rest ws) ≡ Some p → HasNoOption p.words → ⊥) → (a b : Bool)
+        → cond a (limited_by_next (rest ws)) (cond b (limited (drop (length option_front) w) (rest ws)) (option_map (put_before (w ∷ [])) (without_option (rest ws)))) ≡ Some o → ⊥
     by others true b e = next ws e
     by others false true e = stays (drop (length option_front) w) ws e
     by others false false e = operand others (without_option (rest ws)) refl e
@@ -267,7 +290,8 @@ warm_stands_apart name front back (before, is) = by (command_of (name ∷ more))
     some (Some o) d command e = apart before back o (ap without_option (sym spelled) ∙ d) (operands name o command e)
 
     found : (command : Command) (a b c : Bool)
-        → cond a (option_map check (file_of more)) (cond b (option_map (λ files. certify files.0 files.1 files.2) (three_files_of more)) (cond c (option_map (λ files. migrate files.0 files.1 files.2) (three_files_of more)) (option_and_then (limited_command name) (without_option more)))) ≡ Some command → ⊥
+        → cond a (option_map check (file_of more)) (cond b (option_map (λ files. certify files.0 files.1 files.2) (three_files_of more))
+        (cond c (option_map (λ files. migrate files.0 files.1 files.2) (three_files_of more)) (option_and_then (limited_command name) (without_option more)))) ≡ Some command → ⊥
     found command true b c e = one (file_of more) (no_file front back) command e
     found command false true c e = three (λ files. certify files.0 files.1 files.2) (three_files_of more) (no_three_files front back) command e
     found command false false true e = three (λ files. migrate files.0 files.1 files.2) (three_files_of more) (no_three_files front back) command e
@@ -297,7 +321,8 @@ taken_counted (w ∷ ws) o h = by (λ p. taken_counted ws p) (bytes_eq w option_
     behind : (text : List ℕ) (vs : List (List ℕ)) → limited text vs ≡ Some o → (count_by is_warm vs ≡ count_by is_warm o.words) × (is_warm text ≡ false)
     behind text vs = by (limit_of text) refl
       where
-        by : (n : Option ℕ) → limit_of text ≡ n → option_map (λ n. let p : Operands = record { words = vs; limit = n } in p) n ≡ Some o → (count_by is_warm vs ≡ count_by is_warm o.words) × (is_warm text ≡ false)
+        by : (n : Option ℕ) → limit_of text ≡ n → option_map (λ n. let p : Operands = record { words = vs; limit = n } in p) n ≡ Some o
+            → (count_by is_warm vs ≡ count_by is_warm o.words) × (is_warm text ≡ false)
         by None d e = cc
         by (Some n) d e = (ap (count_by is_warm) (sym (operands_eta vs n o e).0), number_passes_none is_warm warm_of_minus 10 0 1000000000 n text d)
 
@@ -305,50 +330,63 @@ taken_counted (w ∷ ws) o h = by (λ p. taken_counted ws p) (bytes_eq w option_
     next [] d e = cc
     next (text ∷ vs) d e = let p = behind text vs e in not_counted is_warm w (text ∷ vs) d ∙ not_counted is_warm text vs p.1 ∙ p.0
 
-    operand : ((p : Operands) → without_option ws ≡ Some p → count_by is_warm ws ≡ count_by is_warm p.words) → (r : Option Operands) → without_option ws ≡ r → option_map (put_before (w ∷ [])) r ≡ Some o → count_by is_warm (w ∷ ws) ≡ count_by is_warm o.words
+    operand : ((p : Operands) → without_option ws ≡ Some p → count_by is_warm ws ≡ count_by is_warm p.words) → (r : Option Operands) → without_option ws ≡ r
+        → option_map (put_before (w ∷ [])) r ≡ Some o → count_by is_warm (w ∷ ws) ≡ count_by is_warm o.words
     operand rest None d e = cc
     operand rest (Some p) d e =
         first_counted is_warm w ws (is_warm w) refl ∙ ap (λ n. cond (is_warm w) 1 0 + n) (rest p d) ∙ sym (first_counted is_warm w p.words (is_warm w) refl)
         ∙ ap (count_by is_warm) (sym (operands_eta (w ∷ p.words) p.limit o e).0)
 
     by : ((p : Operands) → without_option ws ≡ Some p → count_by is_warm ws ≡ count_by is_warm p.words) → (a b : Bool) → bytes_eq w option_word ≡ a → starts_with nat_eq w option_front ≡ b
-        → cond a (limited_by_next ws) (cond b (limited (drop (length option_front) w) ws) (option_map (put_before (w ∷ [])) (without_option ws))) ≡ Some o → count_by is_warm (w ∷ ws) ≡ count_by is_warm o.words
+        → cond a (limited_by_next ws) (cond b (limited (drop (length option_front) w) ws) (option_map (put_before (w ∷ [])) (without_option ws))) ≡ Some o
+        → count_by is_warm (w ∷ ws) ≡ count_by is_warm o.words
     by rest true b d f e = next ws (option_is_not_warm w true b d f refl) e
     by rest false true d f e = not_counted is_warm w ws (option_is_not_warm w false true d f refl) ∙ (behind (drop (length option_front) w) ws e).0
     by rest false false d f e = operand rest (without_option ws) refl e
 
 -- of a command that takes the option
 operands_counted : (name : List ℕ) (o : Operands) (command : Command) → limited_command name o ≡ Some command → count_by is_warm o.words ≡ cond (is_warm_command command) 1 0
-operands_counted name o command = by (bytes_eq name (codes "solve")) (bytes_eq name (codes "resolve")) (bytes_eq name (codes "certificate")) (bytes_eq name (codes "trial")) (bytes_eq name (codes "iis")) (bytes_eq name (codes "range"))
+operands_counted name o command =
+    by (bytes_eq name (codes "solve")) (bytes_eq name (codes "resolve")) (bytes_eq name (codes "certificate")) (bytes_eq name (codes "trial")) (bytes_eq name (codes "iis"))
+    (bytes_eq name (codes "range"))
   where
-    none : {X : Type 0} (form : X → Command) (f : List (List ℕ) → Option X) → ((words : List (List ℕ)) (x : X) → f words ≡ Some x → HasNone is_warm words) → ((x : X) → is_warm_command (form x) ≡ false)
+    none : {X : Type 0} (form : X → Command) (f : List (List ℕ) → Option X) → ((words : List (List ℕ)) (x : X) → f words ≡ Some x → HasNone is_warm words)
+        → ((x : X) → is_warm_command (form x) ≡ false)
         → (r : Option X) → f o.words ≡ r → option_map form r ≡ Some command → count_by is_warm o.words ≡ cond (is_warm_command command) 1 0
     none form f h k None d e = cc
     none form f h k (Some x) d e =
         let c : form x ≡ command = cc in
         none_counted is_warm o.words (h o.words x d) ∙ ap (λ b. cond b 1 0) (sym (k x)) ∙ ap (λ z. cond (is_warm_command z) 1 0) c
 
-    files : (r : Option (List ℕ × List ℕ × Bool)) → warm_files_of o.words ≡ r → option_map (λ (x : List ℕ × List ℕ × Bool). resolve x.0 x.1 o.limit x.2) r ≡ Some command → count_by is_warm o.words ≡ cond (is_warm_command command) 1 0
+    files : (r : Option (List ℕ × List ℕ × Bool)) → warm_files_of o.words ≡ r → option_map (λ (x : List ℕ × List ℕ × Bool). resolve x.0 x.1 o.limit x.2) r ≡ Some command
+        → count_by is_warm o.words ≡ cond (is_warm_command command) 1 0
     files None d e = cc
     files (Some x) d e =
         let c : resolve x.0 x.1 o.limit x.2 ≡ command = cc in
         let p = beside_warm o.words x d in
         warm_counted o.words (file_operands is_warm warm_of_minus (without_warm o.words).0 (x.0, x.1) p.0) ∙ ap (λ b. cond b 1 0) p.1 ∙ ap (λ z. cond (is_warm_command z) 1 0) c
 
-    by : (a b c d i r : Bool) → cond a (option_map (λ script. solve script o.limit) (file_of o.words)) (cond b (option_map (λ files. resolve files.0 files.1 o.limit files.2) (warm_files_of o.words)) (cond c (option_map (λ files. certificate files.0 files.1 o.limit) (files_of o.words)) (cond d (option_map (λ size. trial size o.limit) (size_of o.words)) (cond i (option_map (λ files. iis files.0 files.1 o.limit) (files_of o.words)) (cond r (option_map (λ files. range files.0 files.1 files.2 o.limit) (three_files_of o.words)) None))))) ≡ Some command
+    by : (a b c d i r : Bool) → cond a (option_map (λ script. solve script o.limit) (file_of o.words))
+        (cond b (option_map (λ files. resolve files.0 files.1 o.limit files.2) (warm_files_of o.words))
+        (cond c (option_map (λ files. certificate files.0 files.1 o.limit) (files_of o.words))
+        (cond d (option_map (λ size. trial size o.limit) (size_of o.words))
+        (cond i (option_map (λ files. iis files.0 files.1 o.limit) (files_of o.words)) (cond r (option_map (λ files. range files.0 files.1 files.2 o.limit) (three_files_of o.words)) None)))))
+        ≡ Some command
         → count_by is_warm o.words ≡ cond (is_warm_command command) 1 0
     by true b c d i r e = none (λ script. solve script o.limit) file_of (file_operand is_warm warm_of_minus) (λ x. refl) (file_of o.words) refl e
     by false true c d i r e = files (warm_files_of o.words) refl e
     by false false true d i r e = none (λ files. certificate files.0 files.1 o.limit) files_of (file_operands is_warm warm_of_minus) (λ x. refl) (files_of o.words) refl e
     by false false false true i r e = none (λ size. trial size o.limit) size_of (size_operand is_warm warm_of_minus) (λ x. refl) (size_of o.words) refl e
     by false false false false true r e = none (λ files. iis files.0 files.1 o.limit) files_of (file_operands is_warm warm_of_minus) (λ x. refl) (files_of o.words) refl e
-    by false false false false false true e = none (λ files. range files.0 files.1 files.2 o.limit) three_files_of (three_file_operands is_warm warm_of_minus) (λ x. refl) (three_files_of o.words) refl e
+    by false false false false false true e =
+        none (λ files. range files.0 files.1 files.2 o.limit) three_files_of (three_file_operands is_warm warm_of_minus) (λ x. refl) (three_files_of o.words) refl e
     by false false false false false false e = cc
 
 pub warm_stands_once : WarmStandsOnce
 warm_stands_once name words command = by (bytes_eq name (codes "check")) (bytes_eq name (codes "certify")) (bytes_eq name (codes "migrate"))
   where
-    none : {X : Type 0} (form : X → Command) (f : List (List ℕ) → Option X) → ((words : List (List ℕ)) (x : X) → f words ≡ Some x → HasNone is_warm words) → ((x : X) → is_warm_command (form x) ≡ false)
+    none : {X : Type 0} (form : X → Command) (f : List (List ℕ) → Option X) → ((words : List (List ℕ)) (x : X) → f words ≡ Some x → HasNone is_warm words)
+        → ((x : X) → is_warm_command (form x) ≡ false)
         → (r : Option X) → f words ≡ r → option_map form r ≡ Some command → count_by is_warm words ≡ cond (is_warm_command command) 1 0
     none form f h k None d e = cc
     none form f h k (Some x) d e =
@@ -359,7 +397,8 @@ warm_stands_once name words command = by (bytes_eq name (codes "check")) (bytes_
     some None d e = cc
     some (Some o) d e = taken_counted words o d ∙ operands_counted name o command e
 
-    by : (a b c : Bool) → cond a (option_map check (file_of words)) (cond b (option_map (λ files. certify files.0 files.1 files.2) (three_files_of words)) (cond c (option_map (λ files. migrate files.0 files.1 files.2) (three_files_of words)) (option_and_then (limited_command name) (without_option words)))) ≡ Some command
+    by : (a b c : Bool) → cond a (option_map check (file_of words)) (cond b (option_map (λ files. certify files.0 files.1 files.2) (three_files_of words))
+        (cond c (option_map (λ files. migrate files.0 files.1 files.2) (three_files_of words)) (option_and_then (limited_command name) (without_option words)))) ≡ Some command
         → count_by is_warm words ≡ cond (is_warm_command command) 1 0
     by true b c e = none check file_of (file_operand is_warm warm_of_minus) (λ x. refl) (file_of words) refl e
     by false true c e = none (λ files. certify files.0 files.1 files.2) three_files_of (three_file_operands is_warm warm_of_minus) (λ x. refl) (three_files_of words) refl e

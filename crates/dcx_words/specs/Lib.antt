@@ -1,4 +1,4 @@
--- The words that contracts cite.
+-- What contracts cite: the words that are plain forms, where the options may stand, and what they ask for.
 pub mod Commands
 pub mod Around
 pub mod Asked

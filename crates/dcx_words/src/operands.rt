@@ -1,7 +1,8 @@
 //! The operands of a command, and the option and the word `--warm` that stand anywhere among them.
 ghost use Rattle.std.specs.Prelude.{◌≡◌, ◌<◌, [], ◌∷◌, slice_index_or, true, false, nat_eq, length, drop, map, string_bytes, None, Some, MatchOption, option_map};
 ghost use Rattle.std.specs.List.{starts_with};
-ghost use Rattle.dcx_words.specs.Commands.{unlimited as unlimited_of, limited as limited_of, limited_by_next as limited_by_next_of, put_before, option_front, without_option as without_option_of, is_file as is_file_of, file_of, files_of, warm_files_of, three_files_of, size_of};
+ghost use Rattle.dcx_words.specs.Commands.{unlimited as unlimited_of, limited as limited_of, limited_by_next as limited_by_next_of, put_before, option_front};
+ghost use Rattle.dcx_words.specs.Commands.{without_option as without_option_of, is_file as is_file_of, file_of, files_of, warm_files_of, three_files_of, size_of};
 ghost use Rattle.dcx_words.specs.Around.{words_around, operands_around, Gives};
 
 use crate::number::number_within;

@@ -1,6 +1,7 @@
 //! What the words of a command line ask for.
 ghost use Rattle.std.specs.Prelude.{◌∷◌, map, string_bytes, option_map, option_and_then};
-ghost use Rattle.dcx_words.specs.Commands.{check, solve, resolve, certificate, certify, migrate, trial, iis, range, file_of, files_of, warm_files_of, three_files_of, size_of, command_of, limited_command, without_option as without_option_of};
+ghost use Rattle.dcx_words.specs.Commands.{check, solve, resolve, certificate, certify, migrate, trial, iis, range, file_of, files_of, warm_files_of};
+ghost use Rattle.dcx_words.specs.Commands.{three_files_of, size_of, command_of, limited_command, without_option as without_option_of};
 ghost use Rattle.dcx_words.specs.Around.{words_around, operands_around};
 ghost use Rattle.dcx_words.specs.Asked.{Asks};
 

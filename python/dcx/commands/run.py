@@ -8,7 +8,6 @@ import sys
 import traceback
 from importlib import import_module
 from importlib.abc import MetaPathFinder
-from types import ModuleType
 from typing import Optional
 
 from ..numbers import float_digits
@@ -102,12 +101,13 @@ class OneModule(MetaPathFinder):
 
 
 def stand_in() -> None:
-    """Lets `import cvxpy` and `from cvxpy import ..` find the recorder, and nothing below it but its `error`."""
+    """Lets `import cvxpy` and `from cvxpy import ..` find the recorder, and of what lies below it `error` and
+    `settings`."""
     recorder = import_module("dcx.cvxpy")
     sys.modules["cvxpy"] = recorder
     recorder.__path__ = []
-    if isinstance(vars(recorder).get("error"), ModuleType):
-        sys.modules["cvxpy.error"] = recorder.error
+    for name in ("error", "settings"):
+        sys.modules[f"cvxpy.{name}"] = getattr(recorder, name)
     if OneModule not in sys.meta_path:
         sys.meta_path.insert(0, OneModule)
 

@@ -11,41 +11,28 @@ from pathlib import Path
 from ..messages import status as status_message
 from ..program import ProgramError
 from ..view import found, page
-from .table import NOT_FOUND, READ_FAULT, asked, up_to
+from .asking import NOT_FOUND, Ended, add_files, asked, handed_over, up_to
 
 WRITE_FAULT = 4
 
 
 def add_arguments(parser: argparse.ArgumentParser) -> None:
     """The files, how they are answered, and where the page goes."""
-    parser.add_argument("script", metavar="SCRIPT", help="a script of the program's language")
-    parser.add_argument("settings", nargs="?", metavar="SETTINGS", help="a file with a setting of parameters a line")
+    add_files(parser)
     parser.add_argument("-o", "--output", metavar="FILE", help="the page; beside the script, with .html, without it")
     parser.add_argument("--range", metavar="P", dest="parameter", help="also the value over the parameter P")
     chosen = "whose answer stands in the script; 1 without it"
     parser.add_argument("--setting", metavar="N", type=up_to(1000), default=1, help=chosen)
     parser.add_argument("--sort", choices=["multiplier"], help="the constraints' table: the greatest multipliers first")
-    parser.add_argument("--warm", action="store_true", help="begin each setting at the answer before it")
-    parser.add_argument("--max-pivots", metavar="N", type=up_to(10**9), help="how many pivots a solve may take")
     parser.add_argument("--open", action="store_true", help="open the page in a browser")
 
 
 def run(arguments: argparse.Namespace) -> int:
     """Writes the page, tells its name, and ends with the program's own status."""
-    if arguments.warm and arguments.settings is None:
-        print("dcx: --warm goes with a file of settings", file=sys.stderr)
-        return 2
-    files = []
-    for name in filter(None, (arguments.script, arguments.settings)):
-        try:
-            with open(name, "rb") as file:
-                files.append(file.read())
-        except OSError as error:
-            print(f"dcx: {name} can't be read: {error.strerror}", file=sys.stderr)
-            return READ_FAULT
-    options = ["--warm"] * arguments.warm
-    if arguments.max_pivots is not None:
-        options.append(f"--max-pivots={arguments.max_pivots}")
+    try:
+        files, options = handed_over(arguments)
+    except Ended as ended:
+        return ended.status
     names = (arguments.script, arguments.settings or "")
     try:
         answered = asked(files, options, is_shown=sys.stderr.isatty())

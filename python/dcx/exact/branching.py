@@ -75,8 +75,8 @@ class Branching:
     Of a node that is split the side below is taken first, with all that follows from it.
     """
 
-    def __init__(self, session, setting, limit):
-        self.session, self.problem, self.setting, self.limit = session, session.problem, setting, limit
+    def __init__(self, session, setting, limit, most=MOST_NODES):
+        self.session, self.problem, self.setting, self.limit, self.most = session, session.problem, setting, limit, most
         self.program = session.formed(setting)
         self.unknowns = [Layout(self.problem).entries[n] for _, n in self.problem.variables]
         self.marked = marked(self.problem)
@@ -85,8 +85,8 @@ class Branching:
     def found(self):
         waiting = [root_box(self.problem)]
         while waiting:
-            if len(self.answer.nodes) >= MOST_NODES:
-                raise Stopped(32, f" {MOST_NODES}")
+            if len(self.answer.nodes) >= self.most:
+                raise Stopped(32, f" {self.most}")
             box = waiting.pop()
             node = self.node(len(self.answer.nodes) + 1, box)
             self.answer.nodes.append(node)

@@ -88,6 +88,9 @@ class Case:
         if len(self.words) == 2 and self.words[0] in listings and self.words[1] in self.files:
             status, text = listings[self.words[0]](self.files[self.words[1]])
             return status, text.encode()
+        if len(self.words) == 3 and self.words[0] == "branch" and self.words[2] in self.files:
+            status, text = listing.branched(self.files[self.words[2]], int(self.words[1]))
+            return status, text.encode()
         if len(self.words) == 2 and self.words[0] == "short" and self.words[1] in ("run", "setting", "trial"):
             return 0, report.short(self.words[1]).encode()
         calls = iter(range(10**9))

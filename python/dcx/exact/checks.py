@@ -202,14 +202,19 @@ class Checker:
             for entry, value in enumerate(entries):
                 test(constraint.kind == "equal" or value >= 0, "DualSign", c, entry, value)
 
-    def bound(self):
-        problem, section = self.problem, self.section
+    def walk(self):
+        """Hands the multipliers on from the objective and the constraints down to the variables."""
+        problem = self.problem
         self.values.form(*(n for n in range(len(problem.nodes)) if not problem.has_variable[n]))
         self.reach = [[ZERO] * shapes.size(node.shape) for node in problem.nodes]
         self.collect()
         self.total = ZERO
         for n in reversed(range(len(problem.nodes))):
             self.hand_on(n, problem.nodes[n])
+
+    def bound(self):
+        problem, section = self.problem, self.section
+        self.walk()
         for v, (_, n) in enumerate(problem.variables):
             test_variable(v, problem.nodes[n], self.reach[n], self.numbers)
         test(self.total >= section.number, "Bound", section.number, self.total)

@@ -1,13 +1,17 @@
-"""The problem of a script and its reduced program as lines, as the page on worked cases describes them."""
+"""The problem of a script, its reduced program and the end of its branch and bound as lines, as the page on worked cases
+describes them.
+"""
 from . import shapes
 from .affine import Affine
-from .commands import Accepted
+from .branching import Branching
+from .commands import MOST_PIVOTS, Accepted
 from .elaborate import elaborate
-from .faults import Refused
+from .faults import Refused, Stopped
 from .grammar import parse
 from .limits import OF_PROGRAM
 from .numbers import number
 from .reduce import TooLarge, Wide, ZeroDivisor, affine_map, fixed, reduced
+from .session import Session
 from .tokens import text_of, tokens_of
 
 AXES = {None: "", 0: " axis 0", 1: " axis 1"}
@@ -140,3 +144,33 @@ def program_lines(data, is_map):
         return 0, text + program_text(problem, fixed(problem, program, setting, OF_PROGRAM.numbers))
     except (TooLarge, ZeroDivisor, Wide) as fault:
         return 0, text + fault_text(fault)
+
+
+def branched(data, most):
+    """How branch and bound with at most so many nodes ends at the setting that a script ends with."""
+    try:
+        accepted = Accepted(data)
+    except Refused:
+        return 1, ""
+    session = Session(accepted.problem, accepted.verdict, OF_PROGRAM)
+    try:
+        branching = Branching(session, accepted.last, MOST_PIVOTS, most)
+    except Stopped:
+        return 0, "no program\n"
+    try:
+        answer = branching.found()
+    except Stopped as stop:
+        return 0, stop_text(stop)
+    nodes = len(answer.nodes)
+    if answer.number is None:
+        return 0, f"infeasible nodes {nodes}\n"
+    return 0, f"optimal {number(answer.number)} nodes {nodes}\n"
+
+
+def stop_text(stop):
+    """The line of what stops branch and bound."""
+    if stop.kind == 30:
+        return "relaxation unbounded\n"
+    if stop.kind == 32:
+        return f"node limit{stop.carried}\n"
+    return f"{' '.join(stop.carried.split()[:2])} stopped\n"

@@ -66,7 +66,7 @@ class Problem:
             for name, n in declared
             if n in self.numbers and tree.nodes[n].call[0] == "parameter"
         ]
-        self.mark_reached()
+        self.has_variable, self.has_parameter = (reaches(self.nodes, word) for word in ("variable", "parameter"))
 
     def reach(self, tree, root):
         """The number of a node of the tree, those that it stands on first."""
@@ -84,12 +84,13 @@ class Problem:
                 waiting.extend((a, False) for a in reversed(node.args))
         return self.numbers[root]
 
-    def mark_reached(self):
-        """For each node, whether it reaches a variable and whether it reaches a parameter."""
-        self.has_variable, self.has_parameter = [], []
-        for node in self.nodes:
-            self.has_variable.append(node.call[0] == "variable" or any(self.has_variable[a] for a in node.args))
-            self.has_parameter.append(node.call[0] == "parameter" or any(self.has_parameter[a] for a in node.args))
-
     def arg_shapes(self, node):
         return [self.nodes[a].shape for a in node.args]
+
+
+def reaches(nodes, word):
+    """For each of the nodes, which stand behind their arguments, whether it reaches a leaf of this word."""
+    found = []
+    for node in nodes:
+        found.append(node.call[0] == word or any(found[a] for a in node.args))
+    return found

@@ -1,6 +1,7 @@
 """The answer where the program stops: the exact solver is asked, and the program checks what it says."""
 from __future__ import annotations
 
+import re
 import time
 from dataclasses import replace
 from fractions import Fraction
@@ -15,6 +16,8 @@ from . import CERTIFICATE, INTERVAL, PYTHON, asking
 from .intervals import End, Interval
 
 __all__ = ["Shown", "Wishes", "helps", "shown"]
+
+_LONG = re.compile(r"\d{40,}")
 
 
 class Wishes(NamedTuple):
@@ -76,7 +79,7 @@ def shown(script: str, settings: str, maximized: bool, wishes: Wishes) -> Shown:
     interval = None if made is None else checked(made, settings, maximized)
     told = (
         f"the exact solver finds the problem {found.status}, but the numbers that show it pass 128 bits "
-        f"({found.wide}), so that the program can't check them"
+        f"({_shortened(found.wide)}), so that the program can't check them"
     )
     if interval is None:
         raise SolverError(f'{told}; trust="python" takes the answer at Python\'s word')
@@ -88,6 +91,11 @@ def shown(script: str, settings: str, maximized: bool, wishes: Wishes) -> Shown:
         raise SolverError(f'{reason}trust="python" takes the exact answer at Python\'s word')
     answer = _near(made, found)
     return Shown(answer, INTERVAL, interval=interval, seconds=time.perf_counter() - start)
+
+
+def _shortened(text: str) -> str:
+    """The text with the first digits of numbers that have more than 128 bits hold."""
+    return _LONG.sub(lambda digits: f"{digits[0][:6]}.. of {len(digits[0])} digits", text)
 
 
 def checked(made: Any, settings: str, maximized: bool) -> Interval:

@@ -5,10 +5,10 @@ from fractions import Fraction
 from math import floor, log10
 from typing import NamedTuple, Optional
 
-__all__ = ["End", "Interval", "relative"]
+__all__ = ["LEAST", "End", "Interval", "relative"]
 
-NARROW = 1e-6
-LEAST = Fraction(1, 10**12)
+NARROW = 1e-6  # the relative width of an answer at the most
+LEAST = Fraction(1, 10**12)  # next to 0 a relative width says nothing: what is no wider than this is narrow too
 
 
 def relative(low: Fraction, high: Fraction) -> float:
@@ -73,5 +73,7 @@ class Interval(NamedTuple):
             for end, without in ((self.low, "-inf"), (self.high, "inf"))
         ]
         width = "" if self.width is None else f", relative width {self.width:.1e}"
+        if self.width is not None and self.width > NARROW and self.is_narrow:  # the value is next to 0
+            width = f", {float(self.high - self.low):.1e} wide"
         box = "" if not self.boxed else f", where |{'|, |'.join(self.boxed)}| <= {self.box}"
         return f"from {ends[0]} to {ends[1]}{width}{box}"

@@ -18,7 +18,7 @@ from ..exact.session import Session
 from ..exact.settings import parse_settings
 from ..exact.solver import solved
 from . import multipliers, points
-from .intervals import relative
+from .intervals import LEAST, relative
 from .multipliers import Bound
 from .points import Margins
 from .texts import OBJECTIVE, Text, Unwritten
@@ -56,10 +56,10 @@ class Made:
     why: str = ""
 
     def width(self) -> float:
-        """The relative width; without end where an end is missing."""
+        """The relative width, 0 of one that is as narrow as any has to be; without end where an end is missing."""
         if self.value is None or self.bound is None:
             return float("inf")
-        return relative(self.value, self.bound)
+        return 0.0 if abs(self.value - self.bound) <= LEAST else relative(self.value, self.bound)
 
 
 class Maker:

@@ -54,12 +54,7 @@ class _Walk(Checker):
         section.duals = duals
         super().__init__(problem, setting, section, EXACT)
         self.wanted, self.decimals = wanted, decimals
-        self.values.form(*(n for n in range(len(problem.nodes)) if not problem.has_variable[n]))
-        self.reach = [[ZERO] * shapes.size(node.shape) for node in problem.nodes]
-        self.collect()
-        self.total = ZERO
-        for n in reversed(range(len(problem.nodes))):
-            self.hand_on(n, problem.nodes[n])
+        self.walk()
         self.left = {v: _left(problem.nodes[n], self.reach[n]) for v, (_, n) in enumerate(problem.variables)}
 
     def hand_on_slopes(self, n, node):

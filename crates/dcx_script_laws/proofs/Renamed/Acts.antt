@@ -9,14 +9,16 @@ use Rattle.dcx_array.specs.declared.fault.ArrayFault.{ArrayFault}
 use Rattle.dcx_script_values.specs.declared.fault.ElabFault.{ElabFault}
 use Rattle.dcx_script_values.specs.declared.fault.ElabFault.TheVariants.{UnknownName, BadArgument}
 use Rattle.dcx_script_values.specs.Faults.{array_fault_at}
-use Rattle.dcx_script_values.specs.Values.{Value, Values, values_of, items_of, count, counted, depth, State, Act, and_then, ◌>>=◌, ◌>>◌, done, fault, unless, or_fault, or_array_fault, bound_to, look, bind, unbind, restore, too_many, most_steps, step, most_items, most_depth, room, joined}
+use Rattle.dcx_script_values.specs.Values.{Value, Values, values_of, items_of, count, counted, depth, State, Act, and_then, ◌>>=◌, ◌>>◌, done, fault, unless, or_fault}
+use Rattle.dcx_script_values.specs.Values.{or_array_fault, bound_to, look, bind, unbind, restore, too_many, most_steps, step, most_items, most_depth, room, joined}
 use Rattle.dcx_script_laws.specs.Renamed.{state_renamed, answer_renamed}
 use Rattle.dcx_script_laws.specs.Names.{IsRenaming, Follows}
 use Rattle.dcx_script_laws.proofs.Renamed.Entries.{lookup_renamed, insert_renamed, remove_renamed}
 
 -- ---- one after the other
 module _ {rename : List ℕ → List ℕ} where
-  then_along : {A B : Type 0} (r q : Result (A × State) ElabFault) (f g : A → Act B) → q ≡ answer_renamed rename r → ((x : A) → Follows rename (f x) (g x)) → and_then q g ≡ answer_renamed rename (and_then r f)
+  then_along : {A B : Type 0} (r q : Result (A × State) ElabFault) (f g : A → Act B) → q ≡ answer_renamed rename r → ((x : A) → Follows rename (f x) (g x))
+      → and_then q g ≡ answer_renamed rename (and_then r f)
   then_along (Ok p) q f g e h = ap (λ z. and_then z g) e ∙ (h p.0).along p.1
   then_along (Err x) q f g e h = ap (λ z. and_then z g) e
 

@@ -28,10 +28,14 @@ use Rattle.dcx_script_values.specs.Kinds.{Reading, operand, nested, empty, unfit
 use Rattle.dcx_signature.specs.declared.table.Function.{Function}
 use Rattle.dcx_signature.specs.declared.table.Function.TheVariants as functions
 use Rattle.dcx_signature.specs.Fits.{is_by_rows}
-use Rattle.dcx_signature.specs.Table.{Row, x_word, matrix_word, a_word, b_word, v_word, e_word, n_word, k_word, list_word, shape_word, order_word, value_word, nonneg_word, nonpos_word, objective_word, constraints_word, first_word, second_word, step_word, row}
+use Rattle.dcx_signature.specs.Table.{Row, x_word, matrix_word, a_word, b_word, v_word, e_word, n_word, k_word, list_word, shape_word, order_word}
+use Rattle.dcx_signature.specs.Table.{value_word, nonneg_word, nonpos_word, objective_word, constraints_word, first_word, second_word, step_word, row}
 use Rattle.dcx_signature.specs.Arguments.{Given, Matched, matched, Bound, bound_of, given_for, value_for, is_right, all_right, sides_of_x, are_given}
 use Rattle.dcx_signature.specs.Turns.{range_count, range_from}
-use Rattle.dcx_functions.specs.Calls.{reading_of, operand_for, sides_of_operand, axis_for, whole_or, natural_or, share_for, count_of, is_set, items_for, of_one, of_two, of_several, stacked, reshaped, vectorized, reshape, is_matrix, axis_is_written, running, differences, longer_than, differenced, total_variation, norm_call, norm, objective_of, constant_of, one_frac, filled_with, range_of, declared_sides, flags_of, names_unoffered, variable_of, parameter_of, linear, atom, perform, is_placed, function_called}
+use Rattle.dcx_functions.specs.Calls.{reading_of, operand_for, sides_of_operand, axis_for, whole_or, natural_or, share_for, count_of, is_set, items_for}
+use Rattle.dcx_functions.specs.Calls.{of_one, of_two, of_several, stacked, reshaped, vectorized, reshape, is_matrix, axis_is_written, running, differences}
+use Rattle.dcx_functions.specs.Calls.{longer_than, differenced, total_variation, norm_call, norm, objective_of, constant_of, one_frac, filled_with, range_of}
+use Rattle.dcx_functions.specs.Calls.{declared_sides, flags_of, names_unoffered, variable_of, parameter_of, linear, atom, perform, is_placed, function_called}
 use Rattle.dcx_script_laws.specs.Renamed.{call_renamed, node_renamed}
 use Rattle.dcx_script_laws.specs.Names.{IsRenaming, Follows}
 use Rattle.dcx_script_laws.proofs.Renamed.Nodes.{same_function, operands_kept}
@@ -69,7 +73,8 @@ module _ {rename : List ℕ → List ℕ} where
 
   -- the arguments, and what is made of them
   pub arguments_follow : {A : Type 0} (place : Place) (wanted : Row) (gs : List Given) {f g : Bound → Act A} → ((bound : Bound) → Follows rename (f bound) (g bound)) →
-      Follows rename (λ s. (arguments_by place wanted gs (sides_of_x s.nodes (bound_of (matched wanted gs))) >>= f) s) (λ s. (arguments_by place wanted gs (sides_of_x s.nodes (bound_of (matched wanted gs))) >>= g) s)
+      Follows rename (λ s. (arguments_by place wanted gs (sides_of_x s.nodes (bound_of (matched wanted gs))) >>= f) s)
+      (λ s. (arguments_by place wanted gs (sides_of_x s.nodes (bound_of (matched wanted gs))) >>= g) s)
   arguments_follow place wanted gs h =
       reads (λ s. sides_of_x s.nodes (bound_of (matched wanted gs))) (λ s. sides_of_x s.nodes (bound_of (matched wanted gs))) (λ s. sides_of_x_kept rename s.nodes (bound_of (matched wanted gs)))
       (λ x. chain (arguments_by_follow place wanted gs x) h)
@@ -120,11 +125,13 @@ module _ {rename : List ℕ → List ℕ} (is : IsRenaming rename) where
 
   stacked_follow : (place : Place) (call : LinearCall) (vs : List Value) → Follows rename (stacked place call vs) (stacked place call vs)
   stacked_follow place call vs =
-      next (unless_follows (EmptyResult place) (not (nat_eq (length vs) 0))) (chain (operands_follow place (map reading vs)) (λ xs. expression_follows (called_follows is place (calls.Linear call) xs)))
+      next (unless_follows (EmptyResult place) (not (nat_eq (length vs) 0)))
+      (chain (operands_follow place (map reading vs)) (λ xs. expression_follows (called_follows is place (calls.Linear call) xs)))
 
   reshaped_follows : (place : Place) (x : Operand) (sides : Sides) (by_columns : Bool) → Follows rename (reshaped place x sides by_columns) (reshaped place x sides by_columns)
   reshaped_follows place x sides by_columns =
-      chain (or_fault_follows (ShapeClash place) (shape_with sides)) (λ to. expression_follows (called_follows is place (calls.Linear (linears.Reshape (record { to = to; by_columns = by_columns }))) (x ∷ [])))
+      chain (or_fault_follows (ShapeClash place) (shape_with sides))
+      (λ to. expression_follows (called_follows is place (calls.Linear (linears.Reshape (record { to = to; by_columns = by_columns }))) (x ∷ [])))
 
   vectorized_follows : (place : Place) (bound : Bound) → Follows rename (vectorized place bound) (vectorized place bound)
   vectorized_follows place bound = chain (operand_for_follows place x_word bound) (λ x. chain (operand_sides_follow x) (λ sides. reshaped_follows place x (Vector (entries_of sides)) true))
@@ -145,7 +152,8 @@ module _ {rename : List ℕ → List ℕ} (is : IsRenaming rename) where
 
   differenced_follows : (place : Place) (k : ℕ) (bound : Bound) → Follows rename (differenced place k bound) (differenced place k bound)
   differenced_follows place k bound =
-      chain (operand_for_follows place x_word bound) (λ x. chain (operand_sides_follow x) (λ sides. next (longer_follows place k sides) (chain (pushed_follows is place x) (λ i. differences_follow place k i))))
+      chain (operand_for_follows place x_word bound)
+      (λ x. chain (operand_sides_follow x) (λ sides. next (longer_follows place k sides) (chain (pushed_follows is place x) (λ i. differences_follow place k i))))
 
   variation_follows : (place : Place) (bound : Bound) → Follows rename (total_variation place bound) (total_variation place bound)
   variation_follows place bound = chain (differenced_follows place 1 bound) (λ i. push_follows is place (calls.Atom (atoms.Norm1 (record { axis = axes.All }))) (i ∷ []))
@@ -217,7 +225,8 @@ module _ {rename : List ℕ → List ℕ} (is : IsRenaming rename) where
   placed_kept None f = refl
   placed_kept (Some name) f = refl
 
-  pub function_called_follows : (target : Option (List ℕ)) (place : Place) (f : Function) (gs : List Given) → Follows rename (function_called target place f gs) (function_called (option_map rename target) place f gs)
+  pub function_called_follows : (target : Option (List ℕ)) (place : Place) (f : Function) (gs : List Given)
+      → Follows rename (function_called target place f gs) (function_called (option_map rename target) place f gs)
   function_called_follows target place f gs =
       next (instead (ap (unless (NotOffered place)) (placed_kept target f)) (unless_follows (NotOffered place) (is_placed target f)))
       (arguments_follow place (row f) gs (λ bound. perform_follows target f place bound))

@@ -24,7 +24,9 @@ use Rattle.dcx_script_values.specs.Kinds.{Reading, is_square}
 use Rattle.dcx_script_values.specs.Operands.{numbers_read}
 use Rattle.dcx_script_state.specs.declared.flags.Flags.{Flags}
 use Rattle.dcx_script_state.specs.Attributes.{may_stand}
-use Rattle.dcx_script_state.specs.Declarations.{is_declared, declared_shape, variable_with, list_variable, declare_variable, set_value, first_value, set_first, parameter_with, list_parameter, declare_parameter, parameter_name, parameter_of, give, asked_with, has_sides, are_sides, may_be_asked, make_problem, roots_of, is_parameter, is_reached, reached_values, standing_setting, most_events, solve}
+use Rattle.dcx_script_state.specs.Declarations.{is_declared, declared_shape, variable_with, list_variable, declare_variable, set_value, first_value, set_first}
+use Rattle.dcx_script_state.specs.Declarations.{parameter_with, list_parameter, declare_parameter, parameter_name, parameter_of, give, asked_with, has_sides, are_sides}
+use Rattle.dcx_script_state.specs.Declarations.{may_be_asked, make_problem, roots_of, is_parameter, is_reached, reached_values, standing_setting, most_events, solve}
 use Rattle.dcx_script_laws.specs.Renamed.{entries_renamed, variable_renamed, parameter_renamed, call_renamed, node_renamed, state_renamed}
 use Rattle.dcx_script_laws.specs.Names.{IsRenaming, Follows}
 use Rattle.dcx_script_laws.proofs.Renamed.Entries.{same_renamed, insert_renamed, any_renamed, filter_changed}
@@ -42,7 +44,8 @@ module _ (rename : List ℕ → List ℕ) (nodes : List (Node Call)) where
 
   may_be_asked_kept : (q : Asked) → may_be_asked (map (node_renamed rename) nodes) q ≡ may_be_asked nodes q
   may_be_asked_kept q =
-      ap₂ (λ n f. (nat_lt q.objective n && nat_eq (entries_of (f q.objective)) 1) && list_all (are_sides (map (node_renamed rename) nodes)) q.constraints) (length-map nodes (node_renamed rename)) (sides_kept rename nodes)
+      ap₂ (λ n f. (nat_lt q.objective n && nat_eq (entries_of (f q.objective)) 1) && list_all (are_sides (map (node_renamed rename) nodes)) q.constraints)
+      (length-map nodes (node_renamed rename)) (sides_kept rename nodes)
       ∙ ap (λ test. (nat_lt q.objective (length nodes) && nat_eq (entries_of (sides_at nodes q.objective)) 1) && list_all test q.constraints) (same_function are_sides_kept)
 
 -- ---- what is done with what was read
@@ -83,7 +86,8 @@ module _ {rename : List ℕ → List ℕ} where
   -- ---- the problem
   problem_made_follows : (place : Place) (may : Asked → Bool) (before asked : Option Asked) → Follows rename (problem_made place may before asked) (problem_made place may before asked)
   problem_made_follows place may before asked =
-      chain (or_fault_follows (BadArgument place) asked) (λ q. next (unless_follows (BadArgument place) (may q)) (next (unless_follows (TwoProblems place) (is_none before)) (record { along = λ s. refl })))
+      chain (or_fault_follows (BadArgument place) asked)
+      (λ q. next (unless_follows (BadArgument place) (may q)) (next (unless_follows (TwoProblems place) (is_none before)) (record { along = λ s. refl })))
 
   pub make_problem_follows : (place : Place) (v : Value) (vs : List Value) → Follows rename (make_problem place v vs) (make_problem place v vs)
   make_problem_follows place v vs = record {
@@ -96,9 +100,11 @@ module _ {rename : List ℕ → List ℕ} (is : IsRenaming rename) where
   -- ---- declarations
   declared_kept : (name : List ℕ) (s : State) → is_declared (rename name) (state_renamed rename s) ≡ is_declared name s
   declared_kept name s =
-      ap₂ (λ a b. a || b) (any_renamed is (λ (v : Variable). v.name) (variable_renamed rename) (λ v. refl) name s.variables) (any_renamed is (λ (p : Parameter). p.name) (parameter_renamed rename) (λ p. refl) name s.parameters)
+      ap₂ (λ a b. a || b) (any_renamed is (λ (v : Variable). v.name) (variable_renamed rename) (λ v. refl) name s.variables)
+      (any_renamed is (λ (p : Parameter). p.name) (parameter_renamed rename) (λ p. refl) name s.parameters)
 
-  pub declare_variable_follows : (place : Place) (name : List ℕ) (sides : Sides) (flags : Flags) → Follows rename (declare_variable place name sides flags) (declare_variable place (rename name) sides flags)
+  pub declare_variable_follows : (place : Place) (name : List ℕ) (sides : Sides) (flags : Flags)
+      → Follows rename (declare_variable place name sides flags) (declare_variable place (rename name) sides flags)
   declare_variable_follows place name sides flags =
       reads (is_declared name) (is_declared (rename name)) (declared_kept name) (λ again.
       next (unless_follows (BadArgument place) (may_stand flags && not again))
@@ -165,7 +171,8 @@ module _ {rename : List ℕ → List ℕ} (is : IsRenaming rename) where
   reached_renamed : (nodes : List (Node Call)) (asked : Option Asked) (setting : Pairs) →
       reached_values (map (node_renamed rename) nodes) asked (entries_renamed rename setting) ≡ entries_renamed rename (reached_values nodes asked setting)
   reached_renamed nodes None setting = refl
-  reached_renamed nodes (Some q) setting = filter_changed (λ (e : List ℕ × Array). (rename e.0, e.1)) (λ e. is_reached nodes q e.0) (λ e. is_reached (map (node_renamed rename) nodes) q e.0) (λ e. reached_kept nodes q e.0) setting
+  reached_renamed nodes (Some q) setting = filter_changed (λ (e : List ℕ × Array). (rename e.0, e.1)) (λ e. is_reached nodes q e.0)
+      (λ e. is_reached (map (node_renamed rename) nodes) q e.0) (λ e. reached_kept nodes q e.0) setting
 
   pub standing_renamed : (s : State) → standing_setting (state_renamed rename s) ≡ entries_renamed rename (standing_setting s)
   standing_renamed s = reached_renamed s.nodes s.asked s.setting
@@ -179,4 +186,5 @@ module _ {rename : List ℕ → List ℕ} (is : IsRenaming rename) where
 
   pub solve_follows : (place : Place) → Follows rename (solve place) (solve place)
   solve_follows place =
-      reads (λ s. length s.events) (λ s. length s.events) (λ s. length-map s.events (entries_renamed rename)) (λ n. next (unless_follows (too_many place Events (n + 1)) (nat_lt n most_events)) event_follows)
+      reads (λ s. length s.events) (λ s. length s.events) (λ s. length-map s.events (entries_renamed rename))
+      (λ n. next (unless_follows (too_many place Events (n + 1)) (nat_lt n most_events)) event_follows)

@@ -18,7 +18,8 @@ pub filter_changed : {X : Type 0} (change : X → X) (test told : X → Bool) �
 filter_changed change test told h [] = refl
 filter_changed change test told h (x ∷ xs) = rw (h x) (by (test x) (filter_changed change test told h xs))
   where
-    by : (b : Bool) → filter told (map change xs) ≡ map change (filter test xs) → cond b (change x ∷ filter told (map change xs)) (filter told (map change xs)) ≡ map change (cond b (x ∷ filter test xs) (filter test xs))
+    by : (b : Bool) → filter told (map change xs) ≡ map change (filter test xs)
+        → cond b (change x ∷ filter told (map change xs)) (filter told (map change xs)) ≡ map change (cond b (x ∷ filter test xs) (filter test xs))
     by true r = ap (λ l. change x ∷ l) r
     by false r = r
 
@@ -38,7 +39,8 @@ module _ {rename : List ℕ → List ℕ} (is : IsRenaming rename) where
   lookup_renamed name [] = refl
   lookup_renamed name (e ∷ es) = rw (same_renamed name e.0) (ap (λ r. cond (same_name name e.0) (Some e.1) r) (lookup_renamed name es))
 
-  pub insert_renamed : {X : Type 0} (es : List (List ℕ × X)) (name : List ℕ) (v : X) → insert_entry same_name (entries_renamed rename es) (rename name) v ≡ entries_renamed rename (insert_entry same_name es name v)
+  pub insert_renamed : {X : Type 0} (es : List (List ℕ × X)) (name : List ℕ) (v : X)
+      → insert_entry same_name (entries_renamed rename es) (rename name) v ≡ entries_renamed rename (insert_entry same_name es name v)
   insert_renamed [] name v = refl
   insert_renamed (e ∷ es) name v = rw (same_renamed name e.0) (by (same_name name e.0) (insert_renamed es name v))
     where
@@ -48,12 +50,14 @@ module _ {rename : List ℕ → List ℕ} (is : IsRenaming rename) where
       by true h = refl
       by false h = ap (λ r. (rename e.0, e.1) ∷ r) h
 
-  pub remove_renamed : {X : Type 0} (name : List ℕ) (es : List (List ℕ × X)) → remove_entry (same_name (rename name)) (entries_renamed rename es) ≡ entries_renamed rename (remove_entry (same_name name) es)
+  pub remove_renamed : {X : Type 0} (name : List ℕ) (es : List (List ℕ × X))
+      → remove_entry (same_name (rename name)) (entries_renamed rename es) ≡ entries_renamed rename (remove_entry (same_name name) es)
   remove_renamed name [] = refl
   remove_renamed name (e ∷ es) = rw (same_renamed name e.0) (by (same_name name e.0) (remove_renamed name es))
     where
       by : (b : Bool) → remove_entry (same_name (rename name)) (entries_renamed rename es) ≡ entries_renamed rename (remove_entry (same_name name) es) →
-          cond b (entries_renamed rename es) ((rename e.0, e.1) ∷ remove_entry (same_name (rename name)) (entries_renamed rename es)) ≡ entries_renamed rename (cond b es (e ∷ remove_entry (same_name name) es))
+          cond b (entries_renamed rename es) ((rename e.0, e.1) ∷ remove_entry (same_name (rename name)) (entries_renamed rename es))
+          ≡ entries_renamed rename (cond b es (e ∷ remove_entry (same_name name) es))
       by true h = refl
       by false h = ap (λ r. (rename e.0, e.1) ∷ r) h
 

@@ -5,7 +5,7 @@ use Rattle.dcx_point.specs.Pairs.{same_name}
 use Rattle.dcx_point.proofs.Puts.{same_name-refl, same_name-true}
 use Rattle.dcx_syntax.specs.declared.tree.Module.{Module}
 use Rattle.dcx_syntax.specs.declared.tree.Module.TheVariants.{Cvxpy, Numpy}
-use Rattle.dcx_signature.specs.Table.{module_name}
+use Rattle.dcx_syntax.specs.Statements.{module_bytes}
 use Rattle.dcx_script_laws.specs.Names.{IsRenaming, is_word, exchanged}
 
 left : (a b : Bool) → (a || b) ≡ false → a ≡ false
@@ -46,6 +46,6 @@ module _ (a b : List ℕ) where
     modules = modules;
   }
     where
-      modules : (m : Module) → exchanged a b (module_name m) ≡ module_name m
-      modules Cvxpy = word_stays (module_name Cvxpy) (left _ _ (right _ _ p)) (left _ _ (right _ _ q))
-      modules Numpy = word_stays (module_name Numpy) (left _ _ (right _ _ (right _ _ p))) (left _ _ (right _ _ (right _ _ q)))
+      modules : (m : Module) → exchanged a b (module_bytes m) ≡ module_bytes m
+      modules Cvxpy = word_stays (module_bytes Cvxpy) (left _ _ (right _ _ p)) (left _ _ (right _ _ q))
+      modules Numpy = word_stays (module_bytes Numpy) (left _ _ (right _ _ (right _ _ p))) (left _ _ (right _ _ (right _ _ q)))

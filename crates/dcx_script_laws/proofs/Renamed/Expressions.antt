@@ -11,7 +11,11 @@ use Rattle.dcx_array.specs.Arrays.{number}
 use Rattle.dcx_syntax.specs.declared.tree.Named.{Named}
 use Rattle.dcx_syntax.specs.declared.tree.Module.{Module}
 use Rattle.dcx_syntax.specs.declared.tree.Signed.{Signed}
-use Rattle.dcx_syntax.specs.Expressions.{Expr, expr, Compared, no_comparison, compared, Sum, sum, Added, no_addition, added, Term, term, Scaled, no_scaling, scaled, Factor, factor, Power, power_of, Raised, no_power, raised, Exponent, exponent, Postfix, postfix, Trailers, no_trailer, attribute, call, indexed, Args, no_args, args, MoreArgs, args_end, args_comma, more_args, Arg, by_place, by_name, Indices, no_index, more_indices, Index, at, slice, Optional, absent, present, Step, no_step, step, Primary, number_at, text_at, name_at, truth_at, none_at, unit, round, tuple, empty_list, list, comprehension, Items, no_items, items, MoreItems, items_end, items_comma, more_items}
+use Rattle.dcx_syntax.specs.Expressions.{Expr, expr, Compared, no_comparison, compared, Sum, sum, Added, no_addition, added, Term, term, Scaled, no_scaling, scaled, Factor}
+use Rattle.dcx_syntax.specs.Expressions.{factor, Power, power_of, Raised, no_power, raised, Exponent, exponent, Postfix, postfix, Trailers, no_trailer, attribute, call}
+use Rattle.dcx_syntax.specs.Expressions.{indexed, Args, no_args, args, MoreArgs, args_end, args_comma, more_args, Arg, by_place, by_name, Indices, no_index, more_indices}
+use Rattle.dcx_syntax.specs.Expressions.{Index, at, slice, Optional, absent, present, Step, no_step, step, Primary, number_at, text_at, name_at, truth_at, none_at, unit}
+use Rattle.dcx_syntax.specs.Expressions.{round, tuple, empty_list, list, comprehension, Items, no_items, items, MoreItems, items_end, items_comma, more_items}
 use Rattle.dcx_script_values.specs.declared.fault.ElabFault.TheVariants.{UnknownName, UnknownCall, NotOffered}
 use Rattle.dcx_script_values.specs.Values.{Value, plain, text, truth, nothing, tuple as tuple_value, list as list_value, range, library, end, values_of, items_of, list_of, Act, done, fault}
 use Rattle.dcx_signature.specs.declared.table.Function.TheVariants as functions
@@ -21,11 +25,17 @@ use Rattle.dcx_signature.specs.Firsts.{primary_place, expr_place}
 use Rattle.dcx_signature.specs.Turns.{range_items, vector_items, items_through}
 use Rattle.dcx_operators.specs.Indices.{single, sliced}
 use Rattle.dcx_elab.specs.Turns.{turn, turns, each_turn}
-use Rattle.dcx_elab.specs.Expressions.{is_range_unless, is_range, name_called, is_answer, is_solve, solve_called, no_method, module_called, method_called, target_before, is_ignored, given, signed, with_item, expr_means, compared_means, chained_means, sum_means, added_means, term_means, scaled_means, factor_means, power_means, raised_means, exponent_means, postfix_means, trailers_mean, args_mean, more_args_mean, arg_means, indices_mean, index_means, optional_means, step_means, primary_means, items_mean, more_items_mean}
-use Rattle.dcx_script_laws.specs.Renamed.{named_renamed, expr_renamed, compared_renamed, sum_renamed, added_renamed, term_renamed, scaled_renamed, factor_renamed, power_renamed, raised_renamed, exponent_renamed, postfix_renamed, trailers_renamed, args_renamed, more_args_renamed, arg_renamed, indices_renamed, index_renamed, optional_renamed, step_renamed, primary_renamed, items_renamed, more_items_renamed}
+use Rattle.dcx_elab.specs.Expressions.{is_range_unless, is_range, name_called, is_answer, is_solve, solve_called, no_method, module_called, method_called}
+use Rattle.dcx_elab.specs.Expressions.{target_before, is_ignored, given, signed, with_item, expr_means, compared_means, chained_means, sum_means, added_means}
+use Rattle.dcx_elab.specs.Expressions.{term_means, scaled_means, factor_means, power_means, raised_means, exponent_means, postfix_means, trailers_mean, args_mean}
+use Rattle.dcx_elab.specs.Expressions.{more_args_mean, arg_means, indices_mean, index_means, optional_means, step_means, primary_means, items_mean, more_items_mean}
+use Rattle.dcx_script_laws.specs.Renamed.{named_renamed, expr_renamed, compared_renamed, sum_renamed, added_renamed, term_renamed, scaled_renamed, factor_renamed}
+use Rattle.dcx_script_laws.specs.Renamed.{power_renamed, raised_renamed, exponent_renamed, postfix_renamed, trailers_renamed, args_renamed, more_args_renamed}
+use Rattle.dcx_script_laws.specs.Renamed.{arg_renamed, indices_renamed, index_renamed, optional_renamed, step_renamed, primary_renamed, items_renamed, more_items_renamed}
 use Rattle.dcx_script_laws.specs.Names.{IsRenaming, Follows}
 use Rattle.dcx_script_laws.proofs.Renamed.Entries.{same_renamed}
-use Rattle.dcx_script_laws.proofs.Renamed.Acts.{chain, next, instead, done_follows, fault_follows, or_fault_follows, if_follows, step_follows, room_follows, bound_follows, look_follows, bind_follows, restore_follows}
+use Rattle.dcx_script_laws.proofs.Renamed.Acts.{chain, next, instead, done_follows, fault_follows, or_fault_follows, if_follows}
+use Rattle.dcx_script_laws.proofs.Renamed.Acts.{step_follows, room_follows, bound_follows, look_follows, bind_follows, restore_follows}
 use Rattle.dcx_script_laws.proofs.Renamed.Declarations.{solve_follows}
 use Rattle.dcx_script_laws.proofs.Renamed.Operators.{add_values_follow, scale_values_follow, sign_value_follows, compare_values_follow, index_value_follows, attribute_value_follows}
 use Rattle.dcx_script_laws.proofs.Renamed.Calls.{arguments_follow, function_called_follows}
@@ -51,7 +61,8 @@ place_kept rename (expr (sum (term (factor [] (power_of (postfix x ts) exponents
 place_kept rename (expr (sum (term (factor (s ∷ ss) x) factors) terms) sums) = refl
 
 -- ---- targets
-target_kept : (rename : List ℕ → List ℕ) (target : Option (List ℕ)) (ts : Trailers) → target_before (option_map rename target) (trailers_renamed rename ts) ≡ option_map rename (target_before target ts)
+target_kept : (rename : List ℕ → List ℕ) (target : Option (List ℕ)) (ts : Trailers)
+    → target_before (option_map rename target) (trailers_renamed rename ts) ≡ option_map rename (target_before target ts)
 target_kept rename target no_trailer = refl
 target_kept rename target (attribute n rest) = refl
 target_kept rename target (call p xs rest) = refl
@@ -97,10 +108,12 @@ module _ {rename : List ℕ → List ℕ} (is : IsRenaming rename) where
   solve_called_follows : (place : Place) (gs : List Given) → Follows rename (solve_called place gs) (solve_called place gs)
   solve_called_follows place gs = arguments_follow place solve_row gs (λ _. solve_follows is place)
 
-  module_called_follows : (target : Option (List ℕ)) (place : Place) (m : Module) (n : Named) (gs : List Given) → Follows rename (module_called target place m n gs) (module_called (option_map rename target) place m n gs)
+  module_called_follows : (target : Option (List ℕ)) (place : Place) (m : Module) (n : Named) (gs : List Given)
+      → Follows rename (module_called target place m n gs) (module_called (option_map rename target) place m n gs)
   module_called_follows target place m n gs = chain (or_fault_follows (UnknownCall place) (function_named m n.name)) (λ f. function_called_follows is target place f gs)
 
-  method_called_follows : (target : Option (List ℕ)) (place : Place) (v : Value) (n : Named) (gs : List Given) → Follows rename (method_called target place v n gs) (method_called (option_map rename target) place v n gs)
+  method_called_follows : (target : Option (List ℕ)) (place : Place) (v : Value) (n : Named) (gs : List Given)
+      → Follows rename (method_called target place v n gs) (method_called (option_map rename target) place v n gs)
   method_called_follows target place (library m) n gs = module_called_follows target place m n gs
   method_called_follows target place v n gs = if_follows (is_solve v n.name) (solve_called_follows place gs) (no_method_follows place n)
 
@@ -112,7 +125,8 @@ module _ {rename : List ℕ → List ℕ} (is : IsRenaming rename) where
   turn_follows first name v h =
       next (step_follows first) (chain (bound_follows is name) (λ before. next (bind_follows is name v) (chain h (λ x. next (restore_follows is name before) (done_follows x)))))
 
-  turns_follow : (place first : Place) (name : List ℕ) {m n : Act Value} → Follows rename m n → (xs vs : List Value) → Follows rename (turns place first name m xs vs) (turns place first (rename name) n xs vs)
+  turns_follow : (place first : Place) (name : List ℕ) {m n : Act Value} → Follows rename m n → (xs vs : List Value)
+      → Follows rename (turns place first name m xs vs) (turns place first (rename name) n xs vs)
   turns_follow place first name h xs [] = done_follows xs
   turns_follow place first name h xs (v ∷ vs) =
       chain (turn_follows first name v h) (λ x. next (room_follows place xs x) (turns_follow place first name h (xs ++ x ∷ []) vs))
@@ -166,11 +180,13 @@ module _ {rename : List ℕ → List ℕ} (is : IsRenaming rename) where
         chain (is_range_follows n) (λ ranged. chain (args_follow false xs) (λ gs. chain (name_called_follows n ranged gs) (λ v. trailers_follow target n.place rest v)))
     postfix_follows target (postfix x ts) = chain (primary_follows x) (λ v. trailers_follow target (primary_place x) ts v)
 
-    trailers_follow : (target : Option (List ℕ)) (place : Place) (ts : Trailers) (v : Value) → Follows rename (trailers_mean target place ts v) (trailers_mean (option_map rename target) place (trailers_renamed rename ts) v)
+    trailers_follow : (target : Option (List ℕ)) (place : Place) (ts : Trailers) (v : Value)
+        → Follows rename (trailers_mean target place ts v) (trailers_mean (option_map rename target) place (trailers_renamed rename ts) v)
     trailers_follow target place no_trailer v = done_follows v
     trailers_follow target place (attribute n (call p xs rest)) v =
         chain (args_follow (is_solve v n.name) xs) (λ gs.
-        chain (instead (ap (λ t. method_called t place v n gs) (target_kept rename target rest)) (method_called_follows (target_before target rest) place v n gs)) (λ w. trailers_follow target place rest w))
+        chain (instead (ap (λ t. method_called t place v n gs) (target_kept rename target rest)) (method_called_follows (target_before target rest) place v n gs))
+        (λ w. trailers_follow target place rest w))
     trailers_follow target place (attribute n rest) v = chain (attribute_value_follows is n.place n.name v) (λ w. trailers_follow target place rest w)
     trailers_follow target place (call p xs rest) v = chain (args_follow false xs) (λ _. fault_follows (UnknownCall place))
     trailers_follow target place (indexed p x xs rest) v =
@@ -218,7 +234,8 @@ module _ {rename : List ℕ → List ℕ} (is : IsRenaming rename) where
     primary_follows (list place x rest) = chain (with_item_follows place [] (expr_follows x)) (λ vs. chain (more_items_follow place rest vs) (λ ws. done_follows (list_of ws)))
     primary_follows (comprehension place x for_place n from) =
         chain (expr_follows from) (λ v. chain (through_follows for_place v) (λ vs.
-        chain (instead (ap (λ p. turns place p (rename n.name) (expr_means (expr_renamed rename x)) [] vs) (place_kept rename x)) (turns_follow place (expr_place x) n.name (expr_follows x) [] vs)) (λ ws. done_follows (list_of ws))))
+        chain (instead (ap (λ p. turns place p (rename n.name) (expr_means (expr_renamed rename x)) [] vs) (place_kept rename x))
+        (turns_follow place (expr_place x) n.name (expr_follows x) [] vs)) (λ ws. done_follows (list_of ws))))
 
     items_follow : (place : Place) (xs : Items) (vs : List Value) → Follows rename (items_mean place xs vs) (items_mean place (items_renamed rename xs) vs)
     items_follow place no_items vs = done_follows vs

@@ -41,13 +41,15 @@ part_kept rename part h (Some n) = ap Some (h n)
 
 module _ (rename : List ℕ → List ℕ) (nodes : List (Node Call)) where
   side_kept : (i : ℕ) → sides_at (map (node_renamed rename) nodes) i ≡ sides_at nodes i
-  side_kept i = ap (λ o. unwrap_or (option_map (λ n. n.sides) o) Scalar) (slice_get-map (node_renamed rename) nodes i) ∙ ap (λ o. unwrap_or o Scalar) (part_kept rename (λ n. n.sides) (λ n. refl) (slice_get nodes i))
+  side_kept i = ap (λ o. unwrap_or (option_map (λ n. n.sides) o) Scalar) (slice_get-map (node_renamed rename) nodes i)
+      ∙ ap (λ o. unwrap_or o Scalar) (part_kept rename (λ n. n.sides) (λ n. refl) (slice_get nodes i))
 
   pub sides_kept : sides_at (map (node_renamed rename) nodes) ≡ sides_at nodes
   sides_kept = same_function side_kept
 
   arg_kept : (i : ℕ) → args_at (map (node_renamed rename) nodes) i ≡ args_at nodes i
-  arg_kept i = ap (λ o. unwrap_or (option_map (λ n. n.args) o) []) (slice_get-map (node_renamed rename) nodes i) ∙ ap (λ o. unwrap_or o []) (part_kept rename (λ n. n.args) (λ n. refl) (slice_get nodes i))
+  arg_kept i = ap (λ o. unwrap_or (option_map (λ n. n.args) o) []) (slice_get-map (node_renamed rename) nodes i)
+      ∙ ap (λ o. unwrap_or o []) (part_kept rename (λ n. n.args) (λ n. refl) (slice_get nodes i))
 
   operand_kept : (x : Operand) → operand_sides (map (node_renamed rename) nodes) x ≡ operand_sides nodes x
   operand_kept (standing i) = side_kept i
@@ -87,7 +89,8 @@ entries_kept rename nodes = by nodes 0
 -- ---- where a node stands
 module _ {rename : List ℕ → List ℕ} (is : IsRenaming rename) where
   same_kept : (a b : Call) → same_call (call_renamed rename a) (call_renamed rename b) ≡ same_call a b
-  same_kept (calls.Variable a) (calls.Variable b) = ap (λ t. t && (same_shape a.shape b.shape && (same_attribute a.attribute b.attribute && same_whole a.whole b.whole))) (same_renamed is a.name b.name)
+  same_kept (calls.Variable a) (calls.Variable b) =
+      ap (λ t. t && (same_shape a.shape b.shape && (same_attribute a.attribute b.attribute && same_whole a.whole b.whole))) (same_renamed is a.name b.name)
   same_kept (calls.Parameter a) (calls.Parameter b) = ap (λ t. t && (same_shape a.shape b.shape && same_attribute a.attribute b.attribute)) (same_renamed is a.name b.name)
   same_kept (calls.Constant a) (calls.Constant b) = refl
   same_kept (calls.Atom a) (calls.Atom b) = refl

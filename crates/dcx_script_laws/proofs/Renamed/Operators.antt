@@ -28,19 +28,23 @@ use Rattle.dcx_script_values.specs.declared.fault.ElabFault.TheVariants.{BadArgu
 use Rattle.dcx_script_values.specs.Values.{Value, Values, plain, list, expression, items_of, Act}
 use Rattle.dcx_script_values.specs.Nodes.{Operand, operand_sides}
 use Rattle.dcx_script_values.specs.Kinds.{Reading, is_scalar}
-use Rattle.dcx_operators.specs.Operators.{Pair, both_plain, both_lists, with_expression, neither, beside, both_read, both, lists_added, operands_added, plain_added, added_pair, add_values, has_one_entry, multiplied, operands_scaled, plain_scaled, scaled_pair, scale_values, node_signed, plain_signed, sign_value, operands_compared, compared_pair, is_offered, compare_values}
+use Rattle.dcx_operators.specs.Operators.{Pair, both_plain, both_lists, with_expression, neither, beside, both_read, both, lists_added, operands_added}
+use Rattle.dcx_operators.specs.Operators.{plain_added, added_pair, add_values, has_one_entry, multiplied, operands_scaled, plain_scaled, scaled_pair}
+use Rattle.dcx_operators.specs.Operators.{scale_values, node_signed, plain_signed, sign_value, operands_compared, compared_pair, is_offered, compare_values}
 use Rattle.dcx_operators.specs.Indices.{Evaluated, picks_of, index_node, index_plain, item_at, index_list, with_picks, index_value}
 use Rattle.dcx_operators.specs.Attributes.{node_turned, transposed_node, transposed_plain, transposed_value, attribute_value}
 use Rattle.dcx_script_laws.specs.Names.{IsRenaming, Follows}
 use Rattle.dcx_script_laws.proofs.Renamed.Nodes.{operands_kept}
 use Rattle.dcx_script_laws.proofs.Renamed.Acts.{chain, next, reads, done_follows, fault_follows, unless_follows, or_fault_follows, or_array_fault_follows, if_follows, joined_follows}
-use Rattle.dcx_script_laws.proofs.Renamed.Pushes.{sides_follow, operand_follows, plain_follows, expression_follows, constraint_follows, push_follows, called_follows, broadcast_follows, subtracted_follows, constrained_follows}
+use Rattle.dcx_script_laws.proofs.Renamed.Pushes.{sides_follow, operand_follows, plain_follows, expression_follows, constraint_follows}
+use Rattle.dcx_script_laws.proofs.Renamed.Pushes.{push_follows, called_follows, broadcast_follows, subtracted_follows, constrained_follows}
 
 module _ {rename : List ℕ → List ℕ} where
   both_read_follows : (place : Place) (r q : Reading) → Follows rename (both_read place r q) (both_read place r q)
   both_read_follows place r q = chain (operand_follows place r) (λ a. chain (operand_follows place q) (λ b. done_follows (a, b)))
 
-  both_follows : {A : Type 0} {f : Operand → Operand → Act A} (place : Place) (r q : Reading) → ((a b : Operand) → Follows rename (f a b) (f a b)) → Follows rename (both place f r q) (both place f r q)
+  both_follows : {A : Type 0} {f : Operand → Operand → Act A} (place : Place) (r q : Reading) → ((a b : Operand) → Follows rename (f a b) (f a b))
+      → Follows rename (both place f r q) (both place f r q)
   both_follows place r q h = chain (both_read_follows place r q) (λ x. h x.0 x.1)
 
   lists_added_follow : (sign : Sign) (place : Place) (xs ys : Values) → Follows rename (lists_added sign place xs ys) (lists_added sign place xs ys)
@@ -49,10 +53,12 @@ module _ {rename : List ℕ → List ℕ} where
 
   one_entry_follows : (x : Operand) → Follows rename (has_one_entry x) (has_one_entry x)
   one_entry_follows x =
-      reads (λ s. nat_eq (entries_of (operand_sides s.nodes x)) 1) (λ s. nat_eq (entries_of (operand_sides s.nodes x)) 1) (λ s. ap (λ f. nat_eq (entries_of (f x)) 1) (operands_kept rename s.nodes)) done_follows
+      reads (λ s. nat_eq (entries_of (operand_sides s.nodes x)) 1) (λ s. nat_eq (entries_of (operand_sides s.nodes x)) 1)
+      (λ s. ap (λ f. nat_eq (entries_of (f x)) 1) (operands_kept rename s.nodes)) done_follows
 
   -- ---- indices
-  with_picks_follow : {A : Type 0} {f : List Pick → Act A} (place : Place) (xs : List Evaluated) → ((ps : List Pick) → Follows rename (f ps) (f ps)) → Follows rename (with_picks place xs f) (with_picks place xs f)
+  with_picks_follow : {A : Type 0} {f : List Pick → Act A} (place : Place) (xs : List Evaluated) → ((ps : List Pick) → Follows rename (f ps) (f ps))
+      → Follows rename (with_picks place xs f) (with_picks place xs f)
   with_picks_follow place xs h = chain (or_fault_follows (BadArgument place) (picks_of xs)) h
 
   index_plain_follows : (place : Place) (a : Array) (ps : List Pick) → Follows rename (index_plain place a ps) (index_plain place a ps)
@@ -89,7 +95,8 @@ module _ {rename : List ℕ → List ℕ} (is : IsRenaming rename) where
   -- ---- `*`, `/` and `@`
   multiplied_follows : (place : Place) (a b : Operand) → Follows rename (multiplied place a b) (multiplied place a b)
   multiplied_follows place a b =
-      chain (one_entry_follows a) (λ left. chain (one_entry_follows b) (λ right. next (unless_follows (NotOffered place) (left || right)) (broadcast_follows is place (calls.Pairing pairings.Times) (a ∷ b ∷ []))))
+      chain (one_entry_follows a) (λ left. chain (one_entry_follows b)
+      (λ right. next (unless_follows (NotOffered place) (left || right)) (broadcast_follows is place (calls.Pairing pairings.Times) (a ∷ b ∷ []))))
 
   operands_scaled_follow : (scaling : Scaling) (place : Place) (a b : Operand) → Follows rename (operands_scaled scaling place a b) (operands_scaled scaling place a b)
   operands_scaled_follow Times place a b = multiplied_follows place a b
@@ -136,7 +143,8 @@ module _ {rename : List ℕ → List ℕ} (is : IsRenaming rename) where
   -- ---- indices
   index_node_follows : (place : Place) (i : ℕ) (ps : List Pick) → Follows rename (index_node place i ps) (index_node place i ps)
   index_node_follows place i ps =
-      chain (sides_follow i) (λ sides. chain (or_fault_follows (ShapeClash place) (shape_with sides)) (λ from. chain (or_array_fault_follows place (indexed from ps)) (λ call. push_follows is place (calls.Linear (linears.Index call)) (i ∷ []))))
+      chain (sides_follow i) (λ sides. chain (or_fault_follows (ShapeClash place) (shape_with sides))
+      (λ from. chain (or_array_fault_follows place (indexed from ps)) (λ call. push_follows is place (calls.Linear (linears.Index call)) (i ∷ []))))
 
   pub index_value_follows : (place : Place) (v : Value) (xs : List Evaluated) → Follows rename (index_value place v xs) (index_value place v xs)
   index_value_follows place (plain a) xs = with_picks_follow place xs (index_plain_follows place a)

@@ -14,15 +14,12 @@ use Rattle.dcx_script_laws.specs.Renamed.{variable_renamed, parameter_renamed, c
 use Rattle.dcx_script_laws.specs.Names.{IsRenaming}
 use Rattle.dcx_script_laws.proofs.Renamed.Entries.{same_renamed}
 use Rattle.dcx_script_laws.proofs.Renamed.Nodes.{sides_kept}
+use Rattle.dcx_math.proofs.Lists.{map-map}
 
 -- what is made of what is changed item by item
 map_changed : {X Y : Type 0} (change : X → X) (f g : X → Y) → ((x : X) → g (change x) ≡ f x) → (xs : List X) → map g (map change xs) ≡ map f xs
 map_changed change f g h [] = refl
 map_changed change f g h (x ∷ xs) = ap₂ (λ y ys. y ∷ ys) (h x) (map_changed change f g h xs)
-
-map_through : {X Y Z : Type 0} (f : X → Y) (g : Y → Z) (xs : List X) → map g (map f xs) ≡ map (λ x. g (f x)) xs
-map_through f g [] = refl
-map_through f g (x ∷ xs) = ap (λ ys. g (f x) ∷ ys) (map_through f g xs)
 
 -- the names, renamed
 abbrev names_renamed : (List ℕ → List ℕ) → Names → Names
@@ -46,21 +43,25 @@ module _ {rename : List ℕ → List ℕ} (is : IsRenaming rename) where
   node_kept : (names : Names) (nodes : List Node) (n : Node) → convex_node (names_renamed rename names) (map (node_renamed rename) nodes) (node_renamed rename n) ≡ convex_node names nodes n
   node_kept names nodes n =
       let e = head_kept names n.call (arg_sides nodes n) n.sides in
-      ap (λ f. record { head = head_of (names_renamed rename names) (call_renamed rename n.call) (map f n.args) n.sides; args = n.args }) (sides_kept rename nodes) ∙ ap (λ h. record { head = h; args = n.args }) e
+      ap (λ f. record { head = head_of (names_renamed rename names) (call_renamed rename n.call) (map f n.args) n.sides; args = n.args }) (sides_kept rename nodes)
+      ∙ ap (λ h. record { head = h; args = n.args }) e
 
   nodes_kept : (names : Names) (nodes : List Node) → convex_nodes (names_renamed rename names) (map (node_renamed rename) nodes) ≡ convex_nodes names nodes
   nodes_kept names nodes = map_changed (node_renamed rename) (convex_node names nodes) (convex_node (names_renamed rename names) (map (node_renamed rename) nodes)) (node_kept names nodes) nodes
 
-  listed_renamed : {X : Type 0} (name_of : X → List ℕ) (change : X → X) → ((x : X) → name_of (change x) ≡ rename (name_of x)) → (xs : List X) → map name_of (map change xs) ≡ map rename (map name_of xs)
-  listed_renamed name_of change h xs = map_changed change (λ x. rename (name_of x)) name_of h xs ∙ sym (map_through name_of rename xs)
+  listed_renamed : {X : Type 0} (name_of : X → List ℕ) (change : X → X) → ((x : X) → name_of (change x) ≡ rename (name_of x)) → (xs : List X)
+      → map name_of (map change xs) ≡ map rename (map name_of xs)
+  listed_renamed name_of change h xs = map_changed change (λ x. rename (name_of x)) name_of h xs ∙ sym (map-map name_of rename xs)
 
   pub same_problem : (p q : Problem) → IsRenamedProblem rename p q → convex_problem q ≡ convex_problem p
   same_problem p q r = λ i. record { nodes = nodes i; sense = sense_of (r.sense i); objective = (r.objective i).0; constraints = map convex_constraint (r.constraints i) }
     where
       names : names_in q ≡ names_renamed rename (names_in p)
       names =
-          let vs : map (λ (v : Variable). v.name) q.variables ≡ map rename (map (λ v. v.name) p.variables) = ap (map (λ (v : Variable). v.name)) r.variables ∙ listed_renamed (λ (v : Variable). v.name) (variable_renamed rename) (λ v. refl) p.variables in
-          let ps : map (λ (v : Parameter). v.name) q.parameters ≡ map rename (map (λ v. v.name) p.parameters) = ap (map (λ (v : Parameter). v.name)) r.parameters ∙ listed_renamed (λ (v : Parameter). v.name) (parameter_renamed rename) (λ v. refl) p.parameters in
+          let vs : map (λ (v : Variable). v.name) q.variables ≡ map rename (map (λ v. v.name) p.variables) =
+          ap (map (λ (v : Variable). v.name)) r.variables ∙ listed_renamed (λ (v : Variable). v.name) (variable_renamed rename) (λ v. refl) p.variables in
+          let ps : map (λ (v : Parameter). v.name) q.parameters ≡ map rename (map (λ v. v.name) p.parameters) =
+          ap (map (λ (v : Parameter). v.name)) r.parameters ∙ listed_renamed (λ (v : Parameter). v.name) (parameter_renamed rename) (λ v. refl) p.parameters in
           λ i. record { variables = vs i; parameters = ps i }
 
       nodes : convex_nodes (names_in q) q.tree ≡ convex_nodes (names_in p) p.tree

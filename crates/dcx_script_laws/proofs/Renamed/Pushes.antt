@@ -19,7 +19,8 @@ use Rattle.dcx_call.specs.declared.linears.LinearCall.TheVariants as linears
 use Rattle.dcx_call.specs.Calls.{shape_of}
 use Rattle.dcx_script_values.specs.declared.fault.ElabFault.TheVariants.{BadArgument, NotOffered, ShapeClash, EmptyResult}
 use Rattle.dcx_script_values.specs.Values.{plain, expression, constraint, Act, ◌>>=◌, ◌>>◌, done, unless, or_fault, write, too_many}
-use Rattle.dcx_script_values.specs.Nodes.{is_of, add, found_or_added, sides_of_node, given_sides, are_there, push, Operand, standing, constant, operand_sides, all_sides, pushed, all_pushed, promoted, all_promoted, common_shape, called, broadcast_called, subtracted, constrained}
+use Rattle.dcx_script_values.specs.Nodes.{is_of, add, found_or_added, sides_of_node, given_sides, are_there, push, Operand, standing, constant, operand_sides}
+use Rattle.dcx_script_values.specs.Nodes.{all_sides, pushed, all_pushed, promoted, all_promoted, common_shape, called, broadcast_called, subtracted, constrained}
 use Rattle.dcx_script_values.specs.Kinds.{Reading, operand, nested, empty, unfit, is_nested, is_empty}
 use Rattle.dcx_script_values.specs.Operands.{operand_read, each_read, operands_read, numbers_read, as_plain, as_expression, as_constraint}
 use Rattle.dcx_tree.specs.declared.constraint.Kind.{Kind}
@@ -117,13 +118,15 @@ module _ {rename : List ℕ → List ℕ} (is : IsRenaming rename) where
   there_kept : (nodes : List (Node Call)) (args : List ℕ) → are_there (map (node_renamed rename) nodes) args ≡ are_there nodes args
   there_kept nodes args = ap (λ n. list_all (λ a. nat_lt a n) args) (length-map nodes (node_renamed rename))
 
-  given_kept : (nodes : List (Node Call)) (call : Call) (args : List ℕ) → shape_of (call_renamed rename call) (map (sides_at (map (node_renamed rename) nodes)) args) ≡ shape_of call (map (sides_at nodes) args)
+  given_kept : (nodes : List (Node Call)) (call : Call) (args : List ℕ)
+      → shape_of (call_renamed rename call) (map (sides_at (map (node_renamed rename) nodes)) args) ≡ shape_of call (map (sides_at nodes) args)
   given_kept nodes call args = ap (λ f. shape_of (call_renamed rename call) (map f args)) (sides_kept rename nodes) ∙ shape_kept rename call (map (sides_at nodes) args)
 
   pub push_follows : (place : Place) (call : Call) (args : List ℕ) → Follows rename (push place call args) (push place (call_renamed rename call) args)
   push_follows place call args = record {
     along = λ s.
-        ap (λ t. node_pushed place (call_renamed rename call) args t (shape_of (call_renamed rename call) (map (sides_at (map (node_renamed rename) s.nodes)) args)) (position_from (is_of (call_renamed rename call) args) 0 (map (node_renamed rename) s.nodes)) (state_renamed rename s)) (there_kept s.nodes args)
+        ap (λ t. node_pushed place (call_renamed rename call) args t (shape_of (call_renamed rename call) (map (sides_at (map (node_renamed rename) s.nodes)) args))
+        (position_from (is_of (call_renamed rename call) args) 0 (map (node_renamed rename) s.nodes)) (state_renamed rename s)) (there_kept s.nodes args)
         ∙ ap₂ (λ o k. node_pushed place (call_renamed rename call) args (are_there s.nodes args) o k (state_renamed rename s)) (given_kept s.nodes call args) (position_kept is call args 0 s.nodes)
         ∙ (node_pushed_follows place call args (are_there s.nodes args) (shape_of call (map (sides_at s.nodes) args)) (position_from (is_of call args) 0 s.nodes)).along s;
   }
@@ -138,7 +141,8 @@ module _ {rename : List ℕ → List ℕ} (is : IsRenaming rename) where
   all_pushed_follow place (x ∷ xs) = chain (pushed_follows place x) (λ i. chain (all_pushed_follow place xs) (λ is. done_follows (i ∷ is)))
 
   pub promoted_follows : (place : Place) (to : Shape) (i : ℕ) → Follows rename (promoted place to i) (promoted place to i)
-  promoted_follows place to i = chain (sides_follow i) (λ sides. if_follows (same_sides sides (sides_of to)) (done_follows i) (push_follows place (calls.Linear (linears.Promote (record { to = to }))) (i ∷ [])))
+  promoted_follows place to i = chain (sides_follow i)
+      (λ sides. if_follows (same_sides sides (sides_of to)) (done_follows i) (push_follows place (calls.Linear (linears.Promote (record { to = to }))) (i ∷ [])))
 
   pub all_promoted_follow : (place : Place) (to : Shape) (xs : List ℕ) → Follows rename (all_promoted place to xs) (all_promoted place to xs)
   all_promoted_follow place to [] = done_follows []

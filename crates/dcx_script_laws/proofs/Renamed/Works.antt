@@ -24,7 +24,8 @@ use Rattle.dcx_syntax.specs.declared.tree.Script.{Script}
 use Rattle.dcx_syntax.specs.View.{script_view}
 use Rattle.dcx_elab.specs.declared.work.Work.{Work}
 use Rattle.dcx_elab.specs.Meaning.{meaning, IsWork, Elaborates}
-use Rattle.dcx_script_laws.specs.Renamed.{lines_renamed, entries_renamed, variable_renamed, parameter_renamed, call_renamed, node_renamed, state_renamed, meaning_renamed, IsRenamedProblem, IsRenamedWork}
+use Rattle.dcx_script_laws.specs.Renamed.{lines_renamed, entries_renamed, variable_renamed, parameter_renamed, call_renamed}
+use Rattle.dcx_script_laws.specs.Renamed.{node_renamed, state_renamed, meaning_renamed, IsRenamedProblem, IsRenamedWork}
 use Rattle.dcx_script_laws.specs.Names.{IsRenaming}
 use Rattle.dcx_script_laws.proofs.Renamed.Entries.{same_renamed, any_changed, filter_changed}
 use Rattle.dcx_script_laws.proofs.Renamed.Nodes.{order_kept}
@@ -87,11 +88,13 @@ module _ (rename : List ℕ → List ℕ) (nodes : List (Node Call)) (roots : Li
   same_order = order_kept rename nodes roots
 
   -- a node of the part, and the node for which it stands
-  node_renamed_at : (m n l x : Node Call) → IsRenamed (order_of nodes roots) m n → IsRenamed (order_of (map (node_renamed rename) nodes) roots) l x → l ≡ node_renamed rename m → x ≡ node_renamed rename n
+  node_renamed_at : (m n l x : Node Call) → IsRenamed (order_of nodes roots) m n → IsRenamed (order_of (map (node_renamed rename) nodes) roots) l x
+      → l ≡ node_renamed rename m → x ≡ node_renamed rename n
   node_renamed_at m n l x a b e =
       node_one x (node_renamed rename n)
       (b.same_call ∙ ap (λ (z : Node Call). z.call) e ∙ ap (call_renamed rename) (sym a.same_call))
-      (stand_one (order_of nodes roots) x.args n.args m.args (order_once nodes roots) (subst (λ o. StandFor o x.args m.args) same_order (subst (λ (z : Node Call). StandFor (order_of (map (node_renamed rename) nodes) roots) x.args z.args) e b.same_args)) a.same_args)
+      (stand_one (order_of nodes roots) x.args n.args m.args (order_once nodes roots) (subst (λ o. StandFor o x.args m.args) same_order
+      (subst (λ (z : Node Call). StandFor (order_of (map (node_renamed rename) nodes) roots) x.args z.args) e b.same_args)) a.same_args)
       (b.same_sides ∙ ap (λ (z : Node Call). z.sides) e ∙ sym a.same_sides)
       (b.same_place ∙ ap (λ (z : Node Call). z.place) e ∙ sym a.same_place)
 
@@ -100,7 +103,8 @@ module _ (rename : List ℕ → List ℕ) (nodes : List (Node Call)) (roots : Li
       let (i, m, at, is, a) = g.renamed k n q in
       let (j, l, au, it, b) = h.renamed k x p in
       let same : j ≡ i = same_Some j i (sym au ∙ ap (λ o. slice_get o k) same_order ∙ at) in
-      let e : l ≡ node_renamed rename m = same_Some l (node_renamed rename m) (sym it ∙ ap (slice_get (map (node_renamed rename) nodes)) same ∙ slice_get-map (node_renamed rename) nodes i ∙ ap (option_map (node_renamed rename)) is) in
+      let e : l ≡ node_renamed rename m = same_Some l (node_renamed rename m)
+      (sym it ∙ ap (slice_get (map (node_renamed rename) nodes)) same ∙ slice_get-map (node_renamed rename) nodes i ∙ ap (option_map (node_renamed rename)) is) in
       node_renamed_at m n l x a b e
 
   pub tree_renamed : there ≡ map (node_renamed rename) here
@@ -147,7 +151,8 @@ module _ {rename : List ℕ → List ℕ} (is : IsRenaming rename) where
       (λ p. any_changed (node_renamed rename) (λ n. is_parameter p.name n.call) (λ n. is_parameter (rename p.name) n.call) (λ n. parameter_kept p.name n.call) tree) ps
 
   -- ---- problems
-  problem_renamed : (s : State) (q : Asked) (p r : Problem) → IsProblemOf s.nodes (roots_in s q) p → IsProblemOf (map (node_renamed rename) s.nodes) (roots_in (state_renamed rename s) q) r → IsRenamedProblem rename p r
+  problem_renamed : (s : State) (q : Asked) (p r : Problem) → IsProblemOf s.nodes (roots_in s q) p
+      → IsProblemOf (map (node_renamed rename) s.nodes) (roots_in (state_renamed rename s) q) r → IsRenamedProblem rename p r
   problem_renamed s q p r g h =
       let trees : r.tree ≡ map (node_renamed rename) p.tree = tree_renamed rename s.nodes (positions_of (roots_in s q)) p.tree r.tree _ _ g.nodes h.nodes in
       let ends : roots_of r.objective r.constraints ≡ roots_of p.objective p.constraints = ends_same rename s.nodes (positions_of (roots_in s q)) p.tree r.tree _ _ g.nodes h.nodes in
@@ -175,11 +180,13 @@ module _ {rename : List ℕ → List ℕ} (is : IsRenaming rename) where
   pub work_renamed : (s : State) (q : Asked) (v w : Work) → IsWork s q v → IsWork (state_renamed rename s) q w → IsRenamedWork rename v w
   work_renamed s q v w g h = record {
     problem = problem_renamed s q v.problem w.problem g.problem h.problem;
-    events = h.events ∙ ap (λ l. events_or_end l (map (entries_renamed rename) s.events)) (standing_renamed is s) ∙ events_renamed (standing_setting s) s.events ∙ ap (map (entries_renamed rename)) (sym g.events);
+    events = h.events ∙ ap (λ l. events_or_end l (map (entries_renamed rename) s.events)) (standing_renamed is s) ∙ events_renamed (standing_setting s) s.events
+        ∙ ap (map (entries_renamed rename)) (sym g.events);
     last = h.last ∙ standing_renamed is s ∙ ap (entries_renamed rename) (sym g.last);
   }
 
-  pub works_renamed : (script other : Script) → script_view other ≡ lines_renamed rename (script_view script) → (v w : Work) → Elaborates (Ok v) script → Elaborates (Ok w) other → IsRenamedWork rename v w
+  pub works_renamed : (script other : Script) → script_view other ≡ lines_renamed rename (script_view script) → (v w : Work) → Elaborates (Ok v) script
+      → Elaborates (Ok w) other → IsRenamedWork rename v w
   works_renamed script other e v w (s, (q, (m, g))) (t, (r, (n, h))) =
       let same = meaning_one (meaning (script_view other)) t (state_renamed rename s) r q n (ap meaning e ∙ meaning_follows rename is (script_view script) ∙ ap (meaning_renamed rename) m) in
       work_renamed s q v w g (subst (λ (x : State). IsWork x q w) same.0 (subst (λ (y : Asked). IsWork t y w) same.1 h))

@@ -24,18 +24,35 @@ use Rattle.dcx_signature.specs.declared.table.Function.{Function}
 use Rattle.dcx_signature.specs.declared.table.Function.TheVariants as functions
 use Rattle.dcx_signature.specs.Table.{x_word, e_word}
 use Rattle.dcx_signature.specs.Arguments.{Bound, Given, value_for}
-use Rattle.dcx_operators.specs.Operators.{Pair, both_plain, both_lists, with_expression, neither, alike, both, lists_added, operands_added, added_pair, add_values, multiplied, operands_scaled, scaled_pair, scale_values, node_signed, sign_value, operands_compared, compared_pair, compare_values, beside}
+use Rattle.dcx_operators.specs.Operators.{Pair, both_plain, both_lists, with_expression, neither, alike, both, lists_added, operands_added, added_pair, add_values, multiplied}
+use Rattle.dcx_operators.specs.Operators.{operands_scaled, scaled_pair, scale_values, node_signed, sign_value, operands_compared, compared_pair, compare_values, beside}
 use Rattle.dcx_operators.specs.Indices.{Evaluated, index_node, index_plain, item_at, index_list, picks_of, with_picks, index_value}
 use Rattle.dcx_operators.specs.Attributes.{node_turned, transposed_node, transposed_plain, transposed_value, attribute_value}
 use Rattle.dcx_functions.specs.Calls.{differences, longer_than, differenced, objective_of, perform, function_called, reading_of}
 use Rattle.dcx_script_laws.specs.Trees.{HasNodesBelow, HaveNodesBelow}
 use Rattle.dcx_script_laws.proofs.CarriedNodes.{declare_variable-moves, declare_parameter-moves, called-moves, broadcast_called-moves, operands_read-moves, arguments-moves}
 use Rattle.dcx_script_laws.proofs.CarriedCalls.{compared_pair-moves, differences-moves, longer_than-moves, differenced-moves, index_node-moves, perform-moves}
-use Rattle.dcx_script_laws.proofs.There.Parts.{Later, Anything, IsNode, AllBelow, OperandBelow, ReadingBelow, ConstraintBelow, AllGivenBelow, BoundBelow, Yields, Gives, steps, err-yields, ok-yields, push-yields}
+use Rattle.dcx_script_laws.proofs.There.Parts.{Later, Anything, IsNode, AllBelow, OperandBelow, ReadingBelow, ConstraintBelow}
+use Rattle.dcx_script_laws.proofs.There.Parts.{AllGivenBelow, BoundBelow, Yields, Gives, steps, err-yields, ok-yields, push-yields}
 use Rattle.dcx_script_laws.proofs.There.Later.{later_is_carried}
-use Rattle.dcx_script_laws.proofs.There.Nodes.{growing, items-below, joined-gives, pushed-gives, called-gives, broadcast_called-gives, subtracted-gives, constrained-gives, reading-below, operand_read-gives, operand_read-any, operands_read-any, numbers_read-any, declare_variable-gives, declare_parameter-gives, make_problem-gives, arguments-gives, value_for-below, range_from-gives}
+use Rattle.dcx_script_laws.proofs.There.Nodes.{growing, items-below, joined-gives, pushed-gives, called-gives, broadcast_called-gives, subtracted-gives}
+use Rattle.dcx_script_laws.proofs.There.Nodes.{constrained-gives, reading-below, operand_read-gives, operand_read-any, operands_read-any, numbers_read-any}
+use Rattle.dcx_script_laws.proofs.There.Nodes.{declare_variable-gives, declare_parameter-gives, make_problem-gives, arguments-gives, value_for-below, range_from-gives}
 
-ruleset more = (growing, declare_variable-moves, declare_parameter-moves, called-moves, broadcast_called-moves, operands_read-moves, arguments-moves, differences-moves, longer_than-moves, differenced-moves, index_node-moves, perform-moves)
+ruleset more = (
+  growing,
+  declare_variable-moves,
+  declare_parameter-moves,
+  called-moves,
+  broadcast_called-moves,
+  operands_read-moves,
+  arguments-moves,
+  differences-moves,
+  longer_than-moves,
+  differenced-moves,
+  index_node-moves,
+  perform-moves,
+)
 
 module _ (N : ℕ) where
   -- ---- operators
@@ -127,7 +144,8 @@ module _ (N : ℕ) where
   compared_pair-gives c place neither h s fine = search steps
 
   pub compare_values-gives : (c : Comparison) (place : Place) (v w : Value) → HasNodesBelow N v → HasNodesBelow N w → Gives N (HasNodesBelow N) (compare_values c place v w)
-  compare_values-gives c place v w h k s fine = let pair = compared_pair-gives c place (beside v w) (beside-below v w h k) in search (steps, pair, compared_pair-moves Later later_is_carried c place (beside v w), more)
+  compare_values-gives c place v w h k s fine =
+      let pair = compared_pair-gives c place (beside v w) (beside-below v w h k) in search (steps, pair, compared_pair-moves Later later_is_carried c place (beside v w), more)
 
   -- ---- indices and attributes
   index_node-gives : (place : Place) (i : ℕ) (ps : List Pick) → Gives N (IsNode N) (index_node place i ps)
@@ -209,7 +227,20 @@ module _ (N : ℕ) where
   objective_of-gives : (place : Place) (sense : Sense) (bound : Bound) → BoundBelow N bound → Gives N (HasNodesBelow N) (objective_of place sense bound)
   objective_of-gives place sense bound h s fine = let read = reading_of-below e_word bound h in search (steps, operand_read-gives, pushed-gives, more) depth 9
 
-  ruleset calling = (operand_read-any, operands_read-any, numbers_read-any, push-yields, called-gives, broadcast_called-gives, differenced-gives, objective_of-gives, range_from-gives, declare_variable-gives, declare_parameter-gives, make_problem-gives)
+  ruleset calling = (
+    operand_read-any,
+    operands_read-any,
+    numbers_read-any,
+    push-yields,
+    called-gives,
+    broadcast_called-gives,
+    differenced-gives,
+    objective_of-gives,
+    range_from-gives,
+    declare_variable-gives,
+    declare_parameter-gives,
+    make_problem-gives,
+  )
 
   -- one case for each call
   perform-gives : (target : Option (List ℕ)) (f : Function) (place : Place) (bound : Bound) → BoundBelow N bound → Gives N (HasNodesBelow N) (perform target f place bound)

@@ -4,23 +4,67 @@ use Rattle.dcx_shape.specs.declared.place.Place.{Place}
 use Rattle.dcx_syntax.specs.declared.tree.Named.{Named}
 use Rattle.dcx_syntax.specs.declared.tree.Module.{Module}
 use Rattle.dcx_syntax.specs.declared.tree.Signed.{Signed}
-use Rattle.dcx_syntax.specs.Expressions.{Expr, expr, Compared, no_comparison, compared, Sum, sum, Added, no_addition, added, Term, term, Scaled, no_scaling, scaled, Factor, factor, Power, power_of, Raised, no_power, raised, Exponent, exponent, Postfix, postfix, Trailers, no_trailer, attribute, call, indexed, Args, no_args, args, MoreArgs, args_end, args_comma, more_args, Arg, by_place, by_name, Indices, no_index, more_indices, Index, at, slice, Optional, absent, present, Step, no_step, step, Primary, number_at, text_at, name_at, truth_at, none_at, unit, round, tuple, empty_list, list, comprehension, Items, no_items, items, MoreItems, items_end, items_comma, more_items}
+use Rattle.dcx_syntax.specs.Expressions.{Expr, expr, Compared, no_comparison, compared, Sum, sum, Added, no_addition, added, Term, term, Scaled, no_scaling, scaled, Factor}
+use Rattle.dcx_syntax.specs.Expressions.{factor, Power, power_of, Raised, no_power, raised, Exponent, exponent, Postfix, postfix, Trailers, no_trailer, attribute, call}
+use Rattle.dcx_syntax.specs.Expressions.{indexed, Args, no_args, args, MoreArgs, args_end, args_comma, more_args, Arg, by_place, by_name, Indices, no_index, more_indices}
+use Rattle.dcx_syntax.specs.Expressions.{Index, at, slice, Optional, absent, present, Step, no_step, step, Primary, number_at, text_at, name_at, truth_at, none_at, unit}
+use Rattle.dcx_syntax.specs.Expressions.{round, tuple, empty_list, list, comprehension, Items, no_items, items, MoreItems, items_end, items_comma, more_items}
 use Rattle.dcx_script_values.specs.Values.{Value, library, nothing, Act, done}
 use Rattle.dcx_signature.specs.Arguments.{Given}
 use Rattle.dcx_signature.specs.Firsts.{expr_place}
 use Rattle.dcx_elab.specs.Turns.{turn, turns}
-use Rattle.dcx_elab.specs.Expressions.{is_range_unless, is_range, name_called, solve_called, no_method, module_called, method_called, is_ignored, given, signed, with_item, expr_means, compared_means, chained_means, sum_means, added_means, term_means, scaled_means, factor_means, power_means, raised_means, exponent_means, postfix_means, trailers_mean, args_mean, more_args_mean, arg_means, indices_mean, index_means, optional_means, step_means, primary_means, items_mean, more_items_mean}
+use Rattle.dcx_elab.specs.Expressions.{is_range_unless, is_range, name_called, solve_called, no_method, module_called, method_called, is_ignored, given, signed, with_item, expr_means}
+use Rattle.dcx_elab.specs.Expressions.{compared_means, chained_means, sum_means, added_means, term_means, scaled_means, factor_means, power_means, raised_means, exponent_means, postfix_means}
+use Rattle.dcx_elab.specs.Expressions.{trailers_mean, args_mean, more_args_mean, arg_means, indices_mean, index_means, optional_means, step_means, primary_means, items_mean, more_items_mean}
 use Rattle.dcx_script_laws.specs.Trees.{HasNodesBelow}
 use Rattle.dcx_script_laws.proofs.Carried.{Moves, parts}
 use Rattle.dcx_script_laws.proofs.CarriedNodes.{step-moves, room-moves, solve-moves, arguments-moves, items_through-moves}
 use Rattle.dcx_script_laws.proofs.CarriedCalls.{add_values-moves, scale_values-moves, sign_value-moves, compare_values-moves, index_value-moves, attribute_value-moves, function_called-moves}
-use Rattle.dcx_script_laws.proofs.CarriedForms.{name_called-moves, method_called-moves, signed-moves, with_item-moves, turns-moves, expr-moves, compared-moves, chained-moves, added-moves, scaled-moves, raised-moves, trailers-moves, args-moves, more_args-moves, indices-moves, index-moves, optional-moves, step_part-moves, items-moves, more_items-moves}
+use Rattle.dcx_script_laws.proofs.CarriedForms.{name_called-moves, method_called-moves, signed-moves, with_item-moves, turns-moves, expr-moves}
+use Rattle.dcx_script_laws.proofs.CarriedForms.{compared-moves, chained-moves, added-moves, scaled-moves, raised-moves, trailers-moves, args-moves}
+use Rattle.dcx_script_laws.proofs.CarriedForms.{more_args-moves, indices-moves, index-moves, optional-moves, step_part-moves, items-moves, more_items-moves}
 use Rattle.dcx_script_laws.proofs.There.Parts.{later-from, Later, Anything, AllBelow, GivenBelow, AllGivenBelow, Gives, steps, look-gives, bound-below, bound-fine, restore-gives}
 use Rattle.dcx_script_laws.proofs.There.Later.{later-same, later_is_carried, restore-later}
 use Rattle.dcx_script_laws.proofs.There.Nodes.{both-below, values-below, step-gives, room-gives, solve-gives, arguments-gives, items_through-gives}
 use Rattle.dcx_script_laws.proofs.There.Calls.{add_values-gives, scale_values-gives, sign_value-gives, compare_values-gives, index_value-gives, attribute_value-gives, function_called-gives}
 
-ruleset growing = (parts, later-from, later-same, later_is_carried, restore-later, step-moves, room-moves, solve-moves, arguments-moves, items_through-moves, add_values-moves, scale_values-moves, sign_value-moves, compare_values-moves, index_value-moves, attribute_value-moves, function_called-moves, name_called-moves, method_called-moves, signed-moves, compared-moves, chained-moves, added-moves, scaled-moves, raised-moves, trailers-moves, args-moves, index-moves, with_item-moves, more_args-moves, indices-moves, optional-moves, step_part-moves, items-moves, more_items-moves)
+ruleset growing = (
+  parts,
+  later-from,
+  later-same,
+  later_is_carried,
+  restore-later,
+  step-moves,
+  room-moves,
+  solve-moves,
+  arguments-moves,
+  items_through-moves,
+  add_values-moves,
+  scale_values-moves,
+  sign_value-moves,
+  compare_values-moves,
+  index_value-moves,
+  attribute_value-moves,
+  function_called-moves,
+  name_called-moves,
+  method_called-moves,
+  signed-moves,
+  compared-moves,
+  chained-moves,
+  added-moves,
+  scaled-moves,
+  raised-moves,
+  trailers-moves,
+  args-moves,
+  index-moves,
+  with_item-moves,
+  more_args-moves,
+  indices-moves,
+  optional-moves,
+  step_part-moves,
+  items-moves,
+  more_items-moves,
+)
 
 module _ (N : ℕ) where
   -- ---- calls
@@ -62,7 +106,8 @@ module _ (N : ℕ) where
   with_item-gives : (place : Place) (vs : List Value) (m : Act Value) → Gives N (HasNodesBelow N) m → AllBelow N vs → Gives N (AllBelow N) (with_item place vs m)
   with_item-gives place vs m gives h s fine = search (gives, room-gives, one_more-below, steps, growing) depth 8
 
-  pub turn-gives : (first : Place) (name : List ℕ) (element : Act Value) (v : Value) → Gives N (HasNodesBelow N) element → Moves Later element → HasNodesBelow N v → Gives N (HasNodesBelow N) (turn first name element v)
+  pub turn-gives : (first : Place) (name : List ℕ) (element : Act Value) (v : Value) → Gives N (HasNodesBelow N) element → Moves Later element → HasNodesBelow N v
+      → Gives N (HasNodesBelow N) (turn first name element v)
   turn-gives first name element v gives moves h s fine = search (step-gives, bound-fine, bound-below, gives, moves, restore-gives, steps, growing) depth 12
 
   turns-gives : (place first : Place) (name : List ℕ) (element : Act Value) → Gives N (HasNodesBelow N) element → Moves Later element → (xs vs : List Value) → AllBelow N xs → AllBelow N vs
@@ -70,7 +115,15 @@ module _ (N : ℕ) where
   turns-gives place first name element gives moves xs [] h k s fine = search steps
   turns-gives place first name element gives moves xs (v ∷ vs) h k s fine =
       let others = λ (x : Value) (b : HasNodesBelow N x). turns-gives place first name element gives moves (xs ++ x ∷ []) vs (one_more-below xs x h b) k.1 in
-      search (turn-gives first name element v gives moves k.0, room-gives, others, λ (x : Value). turns-moves Later later_is_carried place first name element moves (xs ++ x ∷ []) vs, steps, growing) depth 10
+      search (
+        turn-gives first name element v gives moves k.0,
+        room-gives,
+        others,
+        λ (x : Value). turns-moves Later later_is_carried place first name element moves
+            (xs ++ x ∷ []) vs,
+        steps,
+        growing,
+      ) depth 10
 
   -- what stands behind a word that may be ignored
   word-gives : (ignored : Bool) (m : Act Value) → Gives N (HasNodesBelow N) m → Gives N (HasNodesBelow N) (if ignored then done nothing else m)
@@ -118,7 +171,16 @@ module _ (N : ℕ) where
     exponent-gives (exponent signs x) s fine = search (postfix-gives x None, signed-gives, steps, growing)
 
     pub postfix-gives : (x : Postfix) (target : Option (List ℕ)) → Gives N (HasNodesBelow N) (postfix_means target x)
-    postfix-gives (postfix (name_at n) (call p xs rest)) target s fine = search (is_range-any, args-gives xs, name_called-gives, trailers-gives rest, steps, args-moves Later later_is_carried xs, trailers-moves Later later_is_carried rest, growing) depth 8
+    postfix-gives (postfix (name_at n) (call p xs rest)) target s fine = search (
+      is_range-any,
+      args-gives xs,
+      name_called-gives,
+      trailers-gives rest,
+      steps,
+      args-moves Later later_is_carried xs,
+      trailers-moves Later later_is_carried rest,
+      growing,
+    ) depth 8
     postfix-gives (postfix x trailers) target s fine = search (primary-gives x, trailers-gives trailers, steps, trailers-moves Later later_is_carried trailers, growing)
 
     trailers-gives : (x : Trailers) (target : Option (List ℕ)) (place : Place) (v : Value) → HasNodesBelow N v → Gives N (HasNodesBelow N) (trailers_mean target place x v)
@@ -126,7 +188,16 @@ module _ (N : ℕ) where
     trailers-gives (attribute n (call p xs rest)) target place v h s fine = search (args-gives xs, method_called-gives, trailers-gives rest, steps, trailers-moves Later later_is_carried rest, growing)
     trailers-gives (attribute n rest) target place v h s fine = search (attribute_value-gives, trailers-gives rest, steps, trailers-moves Later later_is_carried rest, growing)
     trailers-gives (call p xs rest) target place v h s fine = search (args-gives xs, steps, growing)
-    trailers-gives (indexed p x xs rest) target place v h s fine = search (index-any x, indices-any xs, index_value-gives, trailers-gives rest, steps, indices-moves Later later_is_carried xs, trailers-moves Later later_is_carried rest, growing) depth 8
+    trailers-gives (indexed p x xs rest) target place v h s fine = search (
+      index-any x,
+      indices-any xs,
+      index_value-gives,
+      trailers-gives rest,
+      steps,
+      indices-moves Later later_is_carried xs,
+      trailers-moves Later later_is_carried rest,
+      growing,
+    ) depth 8
 
     args-gives : (x : Args) (solving : Bool) → Gives N (AllGivenBelow N) (args_mean solving x)
     args-gives no_args solving s fine = search steps
@@ -147,7 +218,8 @@ module _ (N : ℕ) where
 
     index-any : (x : Index) → Gives N (Anything N) (index_means x)
     index-any (at x) s fine = search (expr-gives x, steps, growing)
-    index-any (slice start stop by) s fine = search (optional-any start, optional-any stop, step_part-any by, steps, optional-moves Later later_is_carried stop, step_part-moves Later later_is_carried by, growing)
+    index-any (slice start stop by) s fine =
+        search (optional-any start, optional-any stop, step_part-any by, steps, optional-moves Later later_is_carried stop, step_part-moves Later later_is_carried by, growing)
 
     optional-any : (x : Optional) → Gives N (Anything N) (optional_means x)
     optional-any absent s fine = search steps
@@ -165,17 +237,37 @@ module _ (N : ℕ) where
     primary-gives (none_at place) s fine = search steps
     primary-gives (unit place) s fine = search steps
     primary-gives (round place x) s fine = search (expr-gives x)
-    primary-gives (tuple place x rest) s fine = search (with_item-gives place [] (expr_means x) (expr-gives x), items-gives rest place, values-below, steps, items-moves Later later_is_carried rest place, growing)
+    primary-gives (tuple place x rest) s fine =
+        search (with_item-gives place [] (expr_means x) (expr-gives x), items-gives rest place, values-below, steps, items-moves Later later_is_carried rest place, growing)
     primary-gives (empty_list place) s fine = search steps
-    primary-gives (list place x rest) s fine = search (with_item-gives place [] (expr_means x) (expr-gives x), more_items-gives rest place, values-below, steps, more_items-moves Later later_is_carried rest place, growing)
+    primary-gives (list place x rest) s fine = search (
+      with_item-gives place [] (expr_means x) (expr-gives x),
+      more_items-gives rest place,
+      values-below,
+      steps,
+      more_items-moves Later later_is_carried rest place,
+      growing,
+    )
     primary-gives (comprehension place x for_place n from) s fine =
-        search (expr-gives from, items_through-gives, λ (vs : List Value). turns-gives place (expr_place x) n.name (expr_means x) (expr-gives x) (expr-moves Later later_is_carried x) [] vs tt, λ (vs : List Value). turns-moves Later later_is_carried place (expr_place x) n.name (expr_means x) (expr-moves Later later_is_carried x) [] vs, values-below, steps, growing) depth 8
+        search (
+          expr-gives from,
+          items_through-gives,
+          λ (vs : List Value). turns-gives place (expr_place x) n.name (expr_means x) (expr-gives x)
+              (expr-moves Later later_is_carried x) [] vs tt,
+          λ (vs : List Value). turns-moves Later later_is_carried place (expr_place x) n.name (expr_means x)
+              (expr-moves Later later_is_carried x) [] vs,
+          values-below,
+          steps,
+          growing,
+        ) depth 8
 
     items-gives : (x : Items) (place : Place) (vs : List Value) → AllBelow N vs → Gives N (AllBelow N) (items_mean place x vs)
     items-gives no_items place vs h s fine = search steps
-    items-gives (items x rest) place vs h s fine = search (with_item-gives place vs (expr_means x) (expr-gives x), more_items-gives rest place, steps, more_items-moves Later later_is_carried rest place, growing)
+    items-gives (items x rest) place vs h s fine =
+        search (with_item-gives place vs (expr_means x) (expr-gives x), more_items-gives rest place, steps, more_items-moves Later later_is_carried rest place, growing)
 
     more_items-gives : (x : MoreItems) (place : Place) (vs : List Value) → AllBelow N vs → Gives N (AllBelow N) (more_items_mean place x vs)
     more_items-gives items_end place vs h s fine = search steps
     more_items-gives items_comma place vs h s fine = search steps
-    more_items-gives (more_items x rest) place vs h s fine = search (with_item-gives place vs (expr_means x) (expr-gives x), more_items-gives rest place, steps, more_items-moves Later later_is_carried rest place, growing)
+    more_items-gives (more_items x rest) place vs h s fine =
+        search (with_item-gives place vs (expr_means x) (expr-gives x), more_items-gives rest place, steps, more_items-moves Later later_is_carried rest place, growing)

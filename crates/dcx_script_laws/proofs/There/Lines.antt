@@ -59,7 +59,16 @@ module _ (N : ℕ) where
     line-gives (repeats place n x first rest) s fine =
         let body = line_means first >> lines_mean rest in
         let moves = one_after-later first rest in
-        search (step-gives, expr-gives, items_through-gives, each_turn-gives n.name body (one_after-gives (line_means first) (lines_mean rest) (line-gives first) (lines-give rest) (lines-later rest)) moves, λ (vs : List Value) (s t : State). each_turn-moves Later Any later_by_lines n.name tt body moves vs s t, steps, growing) depth 10
+        search (
+          step-gives,
+          expr-gives,
+          items_through-gives,
+          each_turn-gives n.name body
+              (one_after-gives (line_means first) (lines_mean rest) (line-gives first) (lines-give rest) (lines-later rest)) moves,
+          λ (vs : List Value) (s t : State). each_turn-moves Later Any later_by_lines n.name tt body moves vs s t,
+          steps,
+          growing,
+        ) depth 10
 
     pub lines-give : (ls : Lines) → Gives N (Anything N) (lines_mean ls)
     lines-give no_lines s fine = search steps

@@ -15,7 +15,7 @@ use Rattle.dcx_array.specs.Arrays.{number}
 use Rattle.dcx_tree.specs.declared.constraint.Kind.{Kind}
 use Rattle.dcx_script_values.specs.Values.{Value, Values, plain, list, range, expression, end, item, values_of, items_of, step, room, joined}
 use Rattle.dcx_script_values.specs.Nodes.{Operand, standing, constant, pushed, all_pushed, promoted, all_promoted, called, broadcast_called, subtracted, left_and_right, constrained}
-use Rattle.dcx_script_values.specs.Kinds.{Reading, operand, nested, empty, unfit, reading, list_reading, or_unfit, vector_of, list_items}
+use Rattle.dcx_script_values.specs.Kinds.{Reading, operand, nested, empty, unfit, reading, list_reading, or_unfit, vector_of}
 use Rattle.dcx_script_values.specs.Operands.{operand_read, each_read, operands_read, numbers_read}
 use Rattle.dcx_script_state.specs.declared.flags.Flags.{Flags}
 use Rattle.dcx_script_state.specs.Declarations.{declared_shape, declare_variable, first_value, set_value, set_first, declare_parameter, give, make_problem, solve}
@@ -24,11 +24,32 @@ use Rattle.dcx_signature.specs.Arguments.{Given, Bound, Matched, bound_of, param
 use Rattle.dcx_signature.specs.Turns.{range_from, vector_items, items_through}
 use Rattle.dcx_script_laws.specs.Trees.{HasNodesBelow, HaveNodesBelow}
 use Rattle.dcx_script_laws.proofs.Carried.{Moves, parts}
-use Rattle.dcx_script_laws.proofs.CarriedNodes.{step-moves, push-moves, pushed-moves, all_pushed-moves, promoted-moves, all_promoted-moves, left_and_right-moves, each_read-moves, operand_read-moves, numbers_read-moves, declared_shape-moves, first_value-moves, set_value-moves, set_first-moves, all_right-moves}
-use Rattle.dcx_script_laws.proofs.There.Parts.{Later, later-from, Anything, IsNode, AllBelow, OperandBelow, ReadingBelow, ConstraintBelow, AllGivenBelow, BoundBelow, OptionBelow, Fine, Yields, Gives, steps, err-yields, ok-yields, push-yields, push-any, fine-same, lookup-below}
+use Rattle.dcx_script_laws.proofs.CarriedNodes.{step-moves, push-moves, pushed-moves, all_pushed-moves, promoted-moves, all_promoted-moves, left_and_right-moves, each_read-moves}
+use Rattle.dcx_script_laws.proofs.CarriedNodes.{operand_read-moves, numbers_read-moves, declared_shape-moves, first_value-moves, set_value-moves, set_first-moves, all_right-moves}
+use Rattle.dcx_script_laws.proofs.There.Parts.{Later, later-from, Anything, IsNode, AllBelow, OperandBelow, ReadingBelow, ConstraintBelow, AllGivenBelow, BoundBelow}
+use Rattle.dcx_script_laws.proofs.There.Parts.{OptionBelow, Fine, Yields, Gives, steps, err-yields, ok-yields, push-yields, push-any, fine-same, lookup-below}
 use Rattle.dcx_script_laws.proofs.There.Later.{later-same, later_is_carried}
 
-pub ruleset growing = (parts, later-from, later-same, later_is_carried, step-moves, push-moves, pushed-moves, all_pushed-moves, promoted-moves, all_promoted-moves, left_and_right-moves, each_read-moves, operand_read-moves, numbers_read-moves, declared_shape-moves, first_value-moves, set_value-moves, set_first-moves)
+pub ruleset growing = (
+  parts,
+  later-from,
+  later-same,
+  later_is_carried,
+  step-moves,
+  push-moves,
+  pushed-moves,
+  all_pushed-moves,
+  promoted-moves,
+  all_promoted-moves,
+  left_and_right-moves,
+  each_read-moves,
+  operand_read-moves,
+  numbers_read-moves,
+  declared_shape-moves,
+  first_value-moves,
+  set_value-moves,
+  set_first-moves,
+)
 
 module _ (N : ℕ) where
   -- ---- lists of values
@@ -43,10 +64,6 @@ module _ (N : ℕ) where
   pub both-below : (vs ws : List Value) → AllBelow N vs → AllBelow N ws → AllBelow N (vs ++ ws)
   both-below [] ws h k = k
   both-below (v ∷ vs) ws h k = (h.0, both-below vs ws h.1 k)
-
-  pub list_items-below : (v : Value) → HasNodesBelow N v → AllBelow N (list_items v)
-  list_items-below (list vs) h = items-below vs h
-  list_items-below v h = tt
 
   -- ---- steps, room and lists
   pub step-gives : (place : Place) → Gives N (Anything N) (step place)
@@ -160,7 +177,8 @@ module _ (N : ℕ) where
   set_first-any name None s fine = search steps
   set_first-any name (Some a) s fine = search set_value-any
 
-  pub declare_parameter-gives : (place : Place) (name : List ℕ) (sides : Sides) (nonneg nonpos unoffered : Bool) (value : Option Reading) → Gives N (HasNodesBelow N) (declare_parameter place name sides nonneg nonpos unoffered value)
+  pub declare_parameter-gives : (place : Place) (name : List ℕ) (sides : Sides) (nonneg nonpos unoffered : Bool) (value : Option Reading)
+      → Gives N (HasNodesBelow N) (declare_parameter place name sides nonneg nonpos unoffered value)
   declare_parameter-gives place name sides nonneg nonpos unoffered value s fine = search (steps, declared_shape-any, first_value-any, set_first-any, push-yields, fine-same, growing) depth 12 fits 8000
 
   pub give-gives : (place : Place) (v : Value) (r : Reading) → Gives N (Anything N) (give place v r)

@@ -1,5 +1,6 @@
 -- What holds of values, whatever is carried out: the parts of which everything is made.
-use Rattle.std.proofs.Common.{◌≡◌, ℕ, ◌<◌, ◌≤◌, Bool, true, false, cond, if◌then◌else◌, List, [], ◌∷◌, ◌++◌, length, Option, Some, None, Result, Ok, Err, refl, sym, ap, subst, arith, le_refl, le_trans}
+use Rattle.std.proofs.Common.{◌≡◌, ℕ, ◌<◌, ◌≤◌, Bool, true, false, cond, if◌then◌else◌, List, [], ◌∷◌, ◌++◌, length}
+use Rattle.std.proofs.Common.{Option, Some, None, Result, Ok, Err, refl, sym, ap, subst, arith, le_refl, le_trans}
 use Rattle.std.specs.List.{AllByRecursion}
 use Rattle.std.specs.Map.{lookup, remove_entry}
 use Rattle.std.proofs.lemmas.List.{length-append}
@@ -146,7 +147,24 @@ module _ (N : ℕ) where
   pub then-bound : GoesOn BoundBelow
   then-bound = after BoundBelow
 
-  pub ruleset steps = (ok-yields, err-yields, unless-yields, or_fault-yields, or_array_fault-yields, if-yields, then-any, then-node, then-operand, then-value, then-items, then-values, then-constraint, then-given, then-all_given, then-bound)
+  pub ruleset steps = (
+    ok-yields,
+    err-yields,
+    unless-yields,
+    or_fault-yields,
+    or_array_fault-yields,
+    if-yields,
+    then-any,
+    then-node,
+    then-operand,
+    then-value,
+    then-items,
+    then-values,
+    then-constraint,
+    then-given,
+    then-all_given,
+    then-bound,
+  )
 
   -- ---- nodes
   pub push-yields : (place : Place) (call : Call) (args : List ℕ) → Gives IsNode (push place call args)

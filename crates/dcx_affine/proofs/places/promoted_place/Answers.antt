@@ -17,7 +17,8 @@ small row column cols k n m r c b w =
 place_small : (c : goal.After-cols-4) → c.stretched-row.result * c.cols-4.result + c.stretched-column.result + 1 < 2 ^ 32
 place_small c =
     let narrow : cols_of (sides_of c.args.from) ≤ 20000 = cols_few (sides_of c.args.from) c.args.from.few in
-    small c.stretched-row.result c.stretched-column.result c.cols-4.result c.args.k c.cols.result c.cols-3.result c.stretched-row.ensures.below c.stretched-column.ensures.below (omega (arith, c.requires, c.args.to.few.most)) (omega (arith, narrow, c.cols-4.ensures))
+    small c.stretched-row.result c.stretched-column.result c.cols-4.result c.args.k c.cols.result c.cols-3.result c.stretched-row.ensures.below c.stretched-column.ensures.below
+    (omega (arith, c.requires, c.args.to.few.most)) (omega (arith, narrow, c.cols-4.ensures))
 
 pub overflow_mul-result : goal.overflow_mul-result
 overflow_mul-result c = omega (arith, place_small c)

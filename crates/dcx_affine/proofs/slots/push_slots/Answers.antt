@@ -17,7 +17,8 @@ loop-place-preserved c =
     let old = c.args.slots.now.items in
     let i = c.loop-place.place in
     let slot : ℕ → Slot = λ e. record { argument = c.args.argument; place = e } in
-    c.in_ok-push.ensures.items ∙ ap (λ (xs : List Slot). xs ++ slot i ∷ []) c.loop-place.invariant ∙ append_assoc old (list_below i slot) (slot i ∷ []) ∙ ap (λ (xs : List Slot). old ++ xs) (sym (list_below-next i slot))
+    c.in_ok-push.ensures.items ∙ ap (λ (xs : List Slot). xs ++ slot i ∷ []) c.loop-place.invariant ∙ append_assoc old (list_below i slot) (slot i ∷ [])
+    ∙ ap (λ (xs : List Slot). old ++ xs) (sym (list_below-next i slot))
 
 pub returns : goal.returns
 returns c =

@@ -7,4 +7,5 @@ use Rattle.dcx_affine.specs.Strided.{stride_terms}
 use Rattle.dcx_affine.proofs.strided.all_terms.Given as goal
 
 abbrev pub invariant-loop-k : goal.invariant-loop-k
-invariant-loop-k g l = map (map linear_term) l.lists.items ≡ list_below l.k (λ k. stride_terms ((g.S.Strided.call l.op).coefficient (sides_of l.from)) ((g.S.Strided.call l.op).stride (sides_of l.from) k))
+invariant-loop-k g l = map (map linear_term) l.lists.items
+    ≡ list_below l.k (λ k. stride_terms ((g.S.Strided.call l.op).coefficient (sides_of l.from)) ((g.S.Strided.call l.op).stride (sides_of l.from) k))

@@ -7,7 +7,8 @@ use Rattle.dcx_shape.specs.Sides.{entries_of}
 use Rattle.dcx_atom.specs.declared.terms.Triple.{Triple}
 use Rattle.dcx_atom.specs.Arrays.{sides_list, list_below}
 use Rattle.dcx_atom.specs.Linear.{linear_term, AreTermsOf}
-use Rattle.dcx_affine.specs.Strided.{only, StridedCall, strided_meaning, stride_terms}
+use Rattle.dcx_atom.specs.Bounding.{only}
+use Rattle.dcx_affine.specs.Strided.{StridedCall, strided_meaning, stride_terms}
 use Rattle.dcx_affine.proofs.strided.strided_map.Goals as goal
 
 -- the terms that an argument with the sides of `from` has

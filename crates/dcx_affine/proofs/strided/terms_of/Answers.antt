@@ -18,7 +18,8 @@ pub loop-i-preserved : goal.loop-i-preserved
 loop-i-preserved c =
     let next : Triple = record { argument = 0; entry = stride_entry c.args.stride c.loop-i.i; coefficient = c.args.coefficient } in
     ap (map linear_term) c.in_ok-push.ensures.items
-    ∙ list_below-push c.loop-i.i (λ i. record { argument = 0; entry = stride_entry c.args.stride i; coefficient = value c.args.coefficient }) linear_term c.loop-i.terms.items next c.loop-i.invariant refl
+    ∙ list_below-push c.loop-i.i (λ i. record { argument = 0; entry = stride_entry c.args.stride i; coefficient = value c.args.coefficient }) linear_term
+    c.loop-i.terms.items next c.loop-i.invariant refl
 
 pub overflow_mul-i : goal.overflow_mul-i
 overflow_mul-i c =

@@ -1,3 +1,4 @@
+-- A node of the order has a number, which is where it stands in the order.
 use Rattle.std.proofs.Common.{◌∙◌, arith}
 use Rattle.std.proofs.lemmas.Option.{none-some}
 use Rattle.dcx_arena.proofs.Orders.{has_at}

@@ -1,3 +1,4 @@
+-- Each of the nodes is in the order, and its number comes behind those of the nodes before it.
 use Rattle.std.proofs.Common.{◌<◌, ◌∙◌, ◌∷◌, [], sym, ap, length, get_or, Some, arith}
 use Rattle.std.proofs.lemmas.List.{map-append}
 use Rattle.std.proofs.lemmas.Option.{slice_get-get_or}
@@ -21,4 +22,5 @@ loop-node-preserved c =
     let i = c.loop-node.node-index in
     let lt : i < length ps = let n = length-positions c.args.nodes.now in omega (arith, n, c.loop-node-test.true) in
     rw (c.in_ok-push.ensures.items, map-append (λ (a : NodeId). a.0) c.loop-node.numbers.items (c.number_of.result ∷ []))
-    (stand_more c.args.finished.now.order.items (positions c.loop-node.numbers.items) ps i c.number_of.result.0 lt c.loop-node.invariant (c.number_of.ensures ∙ ap Some (sym (position_at c.args.nodes.now i))))
+    (stand_more c.args.finished.now.order.items (positions c.loop-node.numbers.items) ps i c.number_of.result.0 lt c.loop-node.invariant
+    (c.number_of.ensures ∙ ap Some (sym (position_at c.args.nodes.now i))))

@@ -1,3 +1,4 @@
+-- The numbers so far stand for the nodes that are passed.
 use Rattle.std.proofs.Common.{take}
 use Rattle.dcx_arena.specs.Nodes.{positions}
 use Rattle.dcx_arena.specs.Gather.{StandFor}

@@ -1,3 +1,4 @@
+-- The part stays sound and renamed with each node more, and nothing is told where memory runs out.
 use Rattle.std.proofs.Common.{◌+◌, ◌∙◌, ap}
 use Rattle.std.proofs.lemmas.Result.{err_from_is_err_and}
 use Rattle.dcx_arena.proofs.gather.part_of.Goals as goal

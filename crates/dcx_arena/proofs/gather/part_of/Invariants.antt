@@ -1,3 +1,4 @@
+-- The part so far is sound, and has the nodes of the order that are passed, renamed.
 use Rattle.std.proofs.Common.{◌≡◌, length}
 use Rattle.dcx_arena.specs.Chains.{nodes_of, nodes_in, IsSound}
 use Rattle.dcx_arena.specs.Gather.{AreRenamed}

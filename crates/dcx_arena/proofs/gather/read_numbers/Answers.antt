@@ -1,3 +1,4 @@
+-- The next cell of the chain is there, and the node that it names is in the order.
 use Rattle.std.proofs.Common.{◌<◌, ◌-◌, ◌+◌, ◌∷◌, [], map, length, rules, append_assoc}
 use Rattle.std.specs.List.{slice_get}
 use Rattle.std.proofs.lemmas.List.{map-append}
@@ -26,6 +27,13 @@ loop-preserved c =
     record {
       there = n.1;
       known = λ a h. c.loop.invariant.known a (rw n.2 (tail_has _ a _ h));
-      rest = rw (c.in_ok-push.ensures.items, map-append (λ (a : NodeId). a.0) c.loop.numbers.items (c.number_of.result ∷ []), map-append (slice_get c.args.finished.now.order.items) (positions c.loop.numbers.items) (c.number_of.result.0 ∷ []), c.number_of.ensures, append_assoc)
+      rest = rw (
+        c.in_ok-push.ensures.items,
+        map-append (λ (a : NodeId). a.0) c.loop.numbers.items (c.number_of.result ∷ []),
+        map-append
+            (slice_get c.args.finished.now.order.items) (positions c.loop.numbers.items) (c.number_of.result.0 ∷ []),
+        c.number_of.ensures,
+        append_assoc,
+      )
           (rw n.2 at c.loop.invariant.rest);
     }

@@ -1,3 +1,4 @@
+-- The numbers so far, and then the nodes that are left of the chain, stand for the whole chain.
 use Rattle.std.proofs.Common.{◌≡◌, ℕ, ◌-◌, ◌++◌, map, Some, true}
 use Rattle.std.specs.List.{slice_get}
 use Rattle.dcx_arena.specs.Nodes.{positions}

@@ -1,3 +1,4 @@
+-- The laws of parts: how nodes are finished, which are reached, that each is once, and what they stand for.
 use Rattle.std.proofs.Common.{[]}
 use Rattle.std.specs.List.{flat_map}
 use Rattle.std.proofs.lemmas.Option.{none-some}

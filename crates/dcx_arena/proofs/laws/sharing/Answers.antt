@@ -1,3 +1,4 @@
+-- Each node has an expression and no other one, and no two nodes share one.
 use Rattle.dcx_arena.proofs.Unfolds.{unfold_one, one_unfolding, shared_one}
 use Rattle.dcx_arena.proofs.laws.sharing.Goals as goal
 

@@ -1,3 +1,4 @@
+-- Behind the cells that were there stands one for each argument so far.
 use Rattle.std.proofs.Common.{◌≡◌, ◌++◌, length, take}
 use Rattle.dcx_arena.specs.Nodes.{positions}
 use Rattle.dcx_arena.proofs.Cells.{cells_from}

@@ -1,3 +1,4 @@
+-- The number so far is that of a bucket, and mixed with the arguments that are left it is the call's.
 use Rattle.std.proofs.Common.{◌≡◌, ◌<◌, drop}
 use Rattle.dcx_arena.specs.Nodes.{positions}
 use Rattle.dcx_arena.specs.Chains.{bucket_for, mixed, number_of_buckets}

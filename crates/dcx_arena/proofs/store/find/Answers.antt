@@ -1,3 +1,4 @@
+-- A node that isn't the call's leads to the one before it in its bucket, and behind the last there is none.
 use Rattle.std.proofs.Common.{length, refl}
 use Rattle.std.proofs.lemmas.Option.{slice_get_read}
 use Rattle.dcx_arena.specs.Nodes.{positions, IsOf}
@@ -22,7 +23,8 @@ pub loop-at-smaller : goal.loop-at-smaller
 loop-at-smaller g c =
     let inside = rw c.in-Some.is at c.loop-at.invariant.within in
     let e = slice_get_read c.args.stored.now (length c.args.stored.now) c.in-Some.i c.index-stored-i.result refl inside.0 c.index-stored-i.is in
-    link_smaller c.loop-at.at c.index-stored-i.result.next c.in-Some.i (IsIn c.args.stored.now c.index-stored-i.result.bucket) c.in-Some.is (c.requires.kept.linked c.in-Some.i c.index-stored-i.result e).within
+    link_smaller c.loop-at.at c.index-stored-i.result.next c.in-Some.i (IsIn c.args.stored.now c.index-stored-i.result.bucket) c.in-Some.is
+    (c.requires.kept.linked c.in-Some.i c.index-stored-i.result e).within
 
 pub loop-at-preserved : goal.loop-at-preserved
 loop-at-preserved g c =
@@ -34,7 +36,8 @@ loop-at-preserved g c =
     ] in
     record {
       within = walk_within g.C.Operator.bucket_of c.args.cells.now c.args.stored.now c.args.call.now (positions c.args.args.now) c.in-Some.i c.index-stored-i.result c.requires.kept e inside.1;
-      rest = walk_rest g.C.Operator.bucket_of c.args.cells.now c.args.stored.now c.args.call.now (positions c.args.args.now) c.in-Some.i c.index-stored-i.result c.requires.kept e inside.1 differs (rw c.in-Some.is at c.loop-at.invariant.rest);
+      rest = walk_rest g.C.Operator.bucket_of c.args.cells.now c.args.stored.now c.args.call.now
+          (positions c.args.args.now) c.in-Some.i c.index-stored-i.result c.requires.kept e inside.1 differs (rw c.in-Some.is at c.loop-at.invariant.rest);
     }
 
 pub returns-clause-none : goal.returns-clause-none

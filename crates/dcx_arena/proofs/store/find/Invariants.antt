@@ -1,3 +1,4 @@
+-- The link leads to a node of the bucket, none of the call stands above it, and each turn goes further down.
 use Rattle.std.proofs.Common.{ℕ, ◌<◌, length, IfSome}
 use Rattle.dcx_arena.specs.Nodes.{positions, Holds}
 use Rattle.dcx_arena.specs.Chains.{bucket_for, nodes_of, IsIn, IsUpTo}

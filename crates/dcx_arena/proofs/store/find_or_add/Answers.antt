@@ -1,3 +1,4 @@
+-- The shapes read are those of the arguments, the head is the bucket's, and what is found or added is the call's.
 use Rattle.std.proofs.Common.{◌≡◌, ◌∙◌, ap, sym, refl, map, Some, None, option_map, arith}
 use mathlib.Core.Logic.{inl}
 use Rattle.dcx_shape.specs.Shape.{sides_of}
@@ -22,7 +23,8 @@ returns-in-Some-find-clause-pushed g c =
     let o = c.args.store.now in
     let shapes : map sides_of c.deref-2.result.now ≡ map (sides_at (nodes_in o)) (positions c.args.args.now) =
     ap (map sides_of) c.deref-2.ensures.value ∙ (rw c.deref.ensures.value at c.in_ok-read_shapes.ensures) ∙ sides_are o.cells.items o.stored.items (positions c.args.args.now) in
-    let given : Some (sides_of c.in-Some.shape) ≡ g.C.Operator.gives c.args.call (map (sides_at (nodes_in o)) (positions c.args.args.now)) = c.in-Some.ensures ∙ ap (g.C.Operator.gives c.args.call) shapes in
+    let given : Some (sides_of c.in-Some.shape) ≡ g.C.Operator.gives c.args.call (map (sides_at (nodes_in o)) (positions c.args.args.now)) =
+    c.in-Some.ensures ∙ ap (g.C.Operator.gives c.args.call) shapes in
     rw (← given) (inl (record { there = rw (c.deref-3.ensures.value, c.deref-4.ensures.value) at c.in-Some-find.ensures.some; same = refl }))
 
 pub returns-in-None-clause-pushed : goal.returns-in-None-clause-pushed
@@ -30,7 +32,8 @@ returns-in-None-clause-pushed g c =
     let o = c.args.store.now in
     let shapes : map sides_of c.deref-2.result.now ≡ map (sides_at (nodes_in o)) (positions c.args.args.now) =
     ap (map sides_of) c.deref-2.ensures.value ∙ (rw c.deref.ensures.value at c.in_ok-read_shapes.ensures) ∙ sides_are o.cells.items o.stored.items (positions c.args.args.now) in
-    let given : Some (sides_of c.in-Some.shape) ≡ g.C.Operator.gives c.args.call (map (sides_at (nodes_in o)) (positions c.args.args.now)) = c.in-Some.ensures ∙ ap (g.C.Operator.gives c.args.call) shapes in
+    let given : Some (sides_of c.in-Some.shape) ≡ g.C.Operator.gives c.args.call (map (sides_at (nodes_in o)) (positions c.args.args.now)) =
+    c.in-Some.ensures ∙ ap (g.C.Operator.gives c.args.call) shapes in
     rw (← given) c.append.ensures.pushed
 
 pub read_shapes-requires : goal.read_shapes-requires
@@ -41,13 +44,15 @@ returns-in_default-clause-pushed g c =
     let o = c.args.store.now in
     let shapes : map sides_of c.deref-2.result.now ≡ map (sides_at (nodes_in o)) (positions c.args.args.now) =
     ap (map sides_of) c.deref-2.ensures.value ∙ (rw c.deref.ensures.value at c.in_ok-read_shapes.ensures) ∙ sides_are o.cells.items o.stored.items (positions c.args.args.now) in
-    let given : None ≡ g.C.Operator.gives c.args.call (map (sides_at (nodes_in o)) (positions c.args.args.now)) = sym (ap (option_map sides_of) c.in_default.is) ∙ c.shape.ensures ∙ ap (g.C.Operator.gives c.args.call) shapes in
+    let given : None ≡ g.C.Operator.gives c.args.call (map (sides_at (nodes_in o)) (positions c.args.args.now)) =
+    sym (ap (option_map sides_of) c.in_default.is) ∙ c.shape.ensures ∙ ap (g.C.Operator.gives c.args.call) shapes in
     rw (← given) tt
 
 pub find-requires-clause-head : goal.find-requires-clause-head
 find-requires-clause-head g c =
     let o = c.args.store.now in
-    head_read o.stored.items _ o.heads.items c.ready.new.heads.items c.bucket-bucket.result _ c.index-head.result.now c.requires.sound.led c.in_ok-ready.ensures.same c.in_ok-ready.ensures.room c.bucket-bucket.ensures.value c.bucket-bucket.ensures.within c.index-head.ensures c.deref-4.ensures.value
+    head_read o.stored.items _ o.heads.items c.ready.new.heads.items c.bucket-bucket.result _ c.index-head.result.now c.requires.sound.led c.in_ok-ready.ensures.same
+    c.in_ok-ready.ensures.room c.bucket-bucket.ensures.value c.bucket-bucket.ensures.within c.index-head.ensures c.deref-4.ensures.value
 
 pub append-requires-clause-sound : goal.append-requires-clause-sound
 append-requires-clause-sound g c =

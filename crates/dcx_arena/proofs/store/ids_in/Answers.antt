@@ -1,3 +1,4 @@
+-- The next cell of the chain is there, and its node comes behind those so far.
 use Rattle.std.proofs.Common.{◌≡◌, ◌<◌, ◌+◌, ◌-◌, ◌++◌, ◌∷◌, [], arith, sym, ap, ◌∙◌, append_assoc}
 use Rattle.std.proofs.lemmas.List.{map-append}
 use Rattle.dcx_arena.specs.declared.node.NodeId.{NodeId}

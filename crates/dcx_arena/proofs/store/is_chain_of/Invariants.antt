@@ -1,3 +1,4 @@
+-- The chain names the nodes exactly where the cells that are left name those that are left.
 use Rattle.std.proofs.Common.{◌≡◌, ◌-◌, ◌↔◌, drop}
 use Rattle.dcx_arena.specs.Nodes.{positions}
 use Rattle.dcx_arena.specs.Chains.{chain, IsChain}

@@ -1,3 +1,4 @@
+-- Each turn goes one cell on, and behind i turns stands the cell that is asked for.
 use Rattle.std.proofs.Common.{◌≡◌, ◌<◌, arith}
 use Rattle.dcx_arena.specs.Chains.{chain}
 use Rattle.dcx_arena.proofs.Walks.{cell_next, cell_is, next_cell}

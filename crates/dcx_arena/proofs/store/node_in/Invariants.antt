@@ -1,3 +1,4 @@
+-- The cells that are left are those of the chain from the counter on.
 use Rattle.std.proofs.Common.{◌≡◌, ℕ, ◌+◌, ◌-◌}
 use Rattle.std.specs.List.{slice_get}
 use Rattle.dcx_arena.specs.Chains.{chain, IsChain}

@@ -1,3 +1,4 @@
+-- The shapes so far have the sides of the arguments that are passed.
 use Rattle.std.proofs.Common.{◌≡◌, map, take}
 use Rattle.dcx_shape.specs.Shape.{sides_of}
 use Rattle.dcx_arena.specs.Nodes.{positions}

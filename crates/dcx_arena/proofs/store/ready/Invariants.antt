@@ -1,3 +1,4 @@
+-- Each bucket has the head that it had, and with each head that is added fewer are wanting.
 use Rattle.std.proofs.Common.{◌≡◌, ℕ, ◌-◌, length, get_or, None}
 use Rattle.dcx_arena.specs.Chains.{number_of_buckets}
 use Rattle.dcx_arena.proofs.store.ready.Given as goal

@@ -1,3 +1,4 @@
+-- There are no more numbers than nodes, so the next one fits; a node with a number is in the order already.
 use Rattle.std.proofs.Common.{◌≡◌, ◌≤◌, ◌∙◌, sym, length, arith, rules}
 use Rattle.dcx_arena.proofs.Orders.{with_there, with_added}
 use Rattle.dcx_arena.proofs.Numbers.{few_numbered, numbered_has, unnumbered_has, numbering_push, read_none, read_some}
@@ -19,7 +20,8 @@ returns-in_ok-push-clause-numbering c =
 pub returns-in_ok-push-clause-order : goal.returns-in_ok-push-clause-order
 returns-in_ok-push-clause-order c =
     let e = read_none c.args.finished.now.numbers.items c.args.node c.index.result.now c.index.ensures c.if-is_none.ensures in
-    c.in_ok-push.ensures.items ∙ sym (with_added c.args.finished.now.order.items c.args.node (unnumbered_has c.args.finished.now.order.items c.args.finished.now.numbers.items c.args.node c.requires.numbering e))
+    c.in_ok-push.ensures.items ∙ sym (with_added c.args.finished.now.order.items c.args.node
+    (unnumbered_has c.args.finished.now.order.items c.args.finished.now.numbers.items c.args.node c.requires.numbering e))
 
 pub returns-else-is_none-clause-order : goal.returns-else-is_none-clause-order
 returns-else-is_none-clause-order c =

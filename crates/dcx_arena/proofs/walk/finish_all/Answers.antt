@@ -1,3 +1,4 @@
+-- At first nothing is finished, and then each root finishes what it reaches, before the next one.
 use Rattle.std.proofs.Common.{◌≡◌, ◌<◌, ◌+◌, None, ◌++◌, ◌∷◌, ◌∙◌, sym, refl, ap, length, get_or, drop, drop-cons, add-one, arith}
 use Rattle.std.specs.List.{flat_map}
 use Rattle.std.proofs.lemmas.List.{length-replicate}
@@ -34,9 +35,11 @@ loop-root-preserved g c =
     let lt : i < length ps = let n = length-positions c.args.roots.now in omega (arith, n, c.loop-root-test.true) in
     let post = postorder (nodes_of c.args.store.now.cells.items c.args.store.now.stored.items) in
     let d : drop i ps ≡ get_or ps i 0 ∷ drop (i + 1) ps = rw (add-one, drop-cons ps i 0) refl in
-    let e : with_all c.loop-root.finished.order.items (post (get_or ps i 0) ++ flat_map post (drop (i + 1) ps)) ≡ _ = ap (λ xs. with_all c.loop-root.finished.order.items (flat_map post xs)) (sym d) ∙ c.loop-root.invariant.order in
+    let e : with_all c.loop-root.finished.order.items (post (get_or ps i 0) ++ flat_map post (drop (i + 1) ps)) ≡ _ =
+    ap (λ xs. with_all c.loop-root.finished.order.items (flat_map post xs)) (sym d) ∙ c.loop-root.invariant.order in
     record {
       finished = c.in_ok-finish_root.ensures.finished;
-      order = ap (λ xs. with_all xs (flat_map post (drop (i + 1) ps))) (c.in_ok-finish_root.ensures.order ∙ ap (λ p. with_all c.loop-root.finished.order.items (post p)) (sym (position_at c.args.roots.now i)))
+      order = ap (λ xs. with_all xs (flat_map post (drop (i + 1) ps)))
+          (c.in_ok-finish_root.ensures.order ∙ ap (λ p. with_all c.loop-root.finished.order.items (post p)) (sym (position_at c.args.roots.now i)))
           ∙ sym (with_all-append c.loop-root.finished.order.items (post (get_or ps i 0)) (flat_map post (drop (i + 1) ps))) ∙ e;
     }

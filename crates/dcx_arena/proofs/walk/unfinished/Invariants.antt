@@ -1,3 +1,4 @@
+-- As many nodes as are counted, and none has a number.
 use Rattle.std.proofs.Common.{◌≡◌, None, replicate}
 use Rattle.dcx_arena.proofs.walk.unfinished.Given as goal
 

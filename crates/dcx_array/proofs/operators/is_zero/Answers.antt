@@ -1,4 +1,4 @@
--- Two tests of one fact.
+-- The test of a fraction for 0 and that of its value tell the same.
 use Rattle.std.proofs.lemmas.Bool.Decides.{same_from_decides}
 use Rattle.dcx_math.specs.Rational.{whole, rat_eq}
 use Rattle.dcx_math.proofs.Ratios.{IsTrue-rat_eq}

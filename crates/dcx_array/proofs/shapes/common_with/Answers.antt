@@ -24,7 +24,8 @@ returns-in_err-common c =
     ap (map sides_of) parts.1 ∙ map-append sides_of (take c.loop-shape.shape-index xs) (c.shape-item.result ∷ parts.0) in
     c.from_residual.ensures
     ∙ sym (ap (λ bs. option_and_then shape_with (common_with (Some (sides_of c.args.first)) bs)) all
-    ∙ none_after c.args.first c.loop-shape.common c.shape-item.result (map sides_of (take c.loop-shape.shape-index xs)) (map sides_of parts.0) _ c.loop-shape.invariant c.in_err-common.ensures.exists refl)
+    ∙ none_after c.args.first c.loop-shape.common c.shape-item.result (map sides_of (take c.loop-shape.shape-index xs))
+    (map sides_of parts.0) _ c.loop-shape.invariant c.in_err-common.ensures.exists refl)
 
 pub loop-shape-preserved : goal.loop-shape-preserved
 loop-shape-preserved c =

@@ -3,7 +3,7 @@ use Rattle.std.proofs.Common.{◌<◌, ◌≤◌, ap, ◌∙◌, refl, arith, le
 use Rattle.std.proofs.lemmas.List.{get_or_default}
 use Rattle.dcx_atom.specs.Formed.{zero_frac}
 use Rattle.dcx_array.specs.Operators.{negated_number, negated}
-use Rattle.dcx_array.proofs.Equals.{array_from_parts}
+use Rattle.dcx_atom.proofs.OneArray.{array_from_parts}
 use Rattle.dcx_array.proofs.GivenArrays.{negated_is, turned_more, turned_all}
 use Rattle.dcx_array.proofs.turned.negate.Goals as goal
 
@@ -16,4 +16,5 @@ loop-k-preserved c =
 pub returns : goal.returns
 returns c =
     let passed : length c.loop-k.entries.items ≤ c.loop-k.k = omega (arith, c.loop-k-test.false, c.len-k-end.ensures, c.loop-k.invariant.0) in
-    array_from_parts _ (negated c.args.a) refl (c.from_vec.ensures ∙ turned_all c.args.a c.loop-k.entries.items c.into_vec-entries.result.items c.loop-k.k c.into_vec-entries.ensures passed c.loop-k.invariant)
+    array_from_parts _ (negated c.args.a) refl
+    (c.from_vec.ensures ∙ turned_all c.args.a c.loop-k.entries.items c.into_vec-entries.result.items c.loop-k.k c.into_vec-entries.ensures passed c.loop-k.invariant)

@@ -1,4 +1,4 @@
--- The law of the lemma of its name.
+-- Answers of a node's program are leaves of its box, and an optimal one has a feasible point.
 use Rattle.dcx_branch.proofs.Leaves.{answers_are_leaves}
 use Rattle.dcx_branch.proofs.laws.answers_are_leaves.Goals as goal
 

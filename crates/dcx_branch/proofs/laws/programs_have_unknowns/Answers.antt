@@ -1,4 +1,4 @@
--- The law of the lemma of its name.
+-- Each reduced program has the unknowns of the variables.
 use Rattle.dcx_branch.proofs.Enough.{programs_have_unknowns}
 use Rattle.dcx_branch.proofs.laws.programs_have_unknowns.Goals as goal
 

@@ -13,7 +13,8 @@ index-requires c =
 pub push_variable-requires-clause-fits : goal.push_variable-requires-clause-fits
 push_variable-requires-clause-fits c =
     let vs = c.args.variables.now in
-    let (first, fits) = listed_fits vs c.in_ok-firsts.firsts.items c.variables.number c.index.result.now c.index-variables-number.result c.in_ok-firsts.ensures c.variables-test.true c.index-variables-number.is c.index.ensures in
+    let (first, fits) = listed_fits vs c.in_ok-firsts.firsts.items c.variables.number c.index.result.now c.index-variables-number.result c.in_ok-firsts.ensures c.variables-test.true
+    c.index-variables-number.is c.index.ensures in
     omega (arith, fits, c.requires.few)
 
 pub variables-preserved : goal.variables-preserved

@@ -8,8 +8,9 @@ use Rattle.dcx_branch.specs.Places.{places_of, place_if}
 use Rattle.dcx_branch.proofs.Lists.{joins, ends, places_more}
 use Rattle.dcx_branch.proofs.place.push_entries.Goals as goal
 
-entry_more : (k : ℕ) (mark : Whole) (us : List (Option ℕ)) (j : ℕ) (d : Option ℕ) (before after all : List Place) → j < length us → before ++ places_of k mark j (drop j us) ≡ all → after ≡ before ++ place_if k mark j (get_or us j d) →
-    after ++ places_of k mark (j + 1) (drop (j + 1) us) ≡ all
+entry_more : (k : ℕ) (mark : Whole) (us : List (Option ℕ)) (j : ℕ) (d : Option ℕ) (before after all : List Place) → j < length us → before ++ places_of k mark j (drop j us) ≡ all
+    → after ≡ before ++ place_if k mark j (get_or us j d)
+    → after ++ places_of k mark (j + 1) (drop (j + 1) us) ≡ all
 entry_more k mark us j d before after all lt was added =
     let u = get_or us j d in
     joins before after (place_if k mark j u) (places_of k mark (j + 1) (drop (j + 1) us)) all added
@@ -23,7 +24,8 @@ entries-smaller c = search rules
 
 pub entries-preserved : goal.entries-preserved
 entries-preserved c =
-    entry_more c.args.variable c.args.whole c.args.unknowns.now c.entries.entry _ c.entries.places.items c.push_entry.new.places.items _ c.entries-test.true c.entries.invariant c.in_ok-push_entry.ensures
+    entry_more c.args.variable c.args.whole c.args.unknowns.now c.entries.entry _ c.entries.places.items c.push_entry.new.places.items _ c.entries-test.true c.entries.invariant
+    c.in_ok-push_entry.ensures
 
 pub returns-in_err-push_entry : goal.returns-in_err-push_entry
 returns-in_err-push_entry c = let p = err_from_is_err_and c.from_residual.result c.from_residual.ensures.1 in rw p.1 tt

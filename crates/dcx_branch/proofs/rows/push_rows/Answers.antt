@@ -23,7 +23,8 @@ rows-smaller c = search rules
 
 pub rows-preserved : goal.rows-preserved
 rows-preserved c =
-    row_more c.args.from.now c.rows.row-index c.row-item.result c.rows-test.true c.row-item.is c.rows.rows.items c.push.new.self.items c.args.rows.now.items c.in_ok-form.form c.in_ok-form.ensures c.in_ok-push.ensures.items c.rows.invariant
+    row_more c.args.from.now c.rows.row-index c.row-item.result c.rows-test.true c.row-item.is c.rows.rows.items c.push.new.self.items c.args.rows.now.items c.in_ok-form.form c.in_ok-form.ensures
+    c.in_ok-push.ensures.items c.rows.invariant
 
 pub returns : goal.returns
 returns c = c.rows.invariant ∙ ap (λ xs. c.args.rows.now.items ++ xs) (take_all c.rows.row-index c.args.from.now c.rows-test.false)

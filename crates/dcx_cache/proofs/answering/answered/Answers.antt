@@ -1,3 +1,4 @@
+-- The rows that are lent are those of the program: so what is solved answers it, and each stop is one of the setting.
 use Rattle.std.proofs.Common.{sym, subst}
 use Rattle.dcx_lp_solve.specs.Solved.{IsSolved, Stops as RowsStop}
 use Rattle.dcx_graph.proofs.Mapped.{given_rows}

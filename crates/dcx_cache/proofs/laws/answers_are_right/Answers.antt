@@ -1,3 +1,4 @@
+-- The answer at a setting is right for the problem there.
 use Rattle.dcx_cache.proofs.Answered.{answers_are_right}
 use Rattle.dcx_cache.proofs.laws.answers_are_right.Goals as goal
 

@@ -1,3 +1,4 @@
+-- A limit that stops a run is bounded by the rows and columns of its program.
 use Rattle.dcx_cache.proofs.OneEnd.{limits_are_small}
 use Rattle.dcx_cache.proofs.laws.limits_are_small.Goals as goal
 

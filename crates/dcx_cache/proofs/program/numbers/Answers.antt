@@ -1,3 +1,4 @@
+-- A setting that fits has an entry for each that reducing reads.
 use Rattle.std.proofs.Common.{IsSome}
 use Rattle.dcx_linear.specs.Parameters.{entry_of}
 use Rattle.dcx_cache.proofs.Arrays.{parameters_are_given}

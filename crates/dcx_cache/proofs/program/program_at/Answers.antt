@@ -1,3 +1,4 @@
+-- The map that is kept lists entries of the setting alone, and fixed there it is the session's program.
 use Rattle.std.proofs.Common.{option_copied, subst}
 use Rattle.dcx_cache.specs.Programs.{IsMapOf}
 use Rattle.dcx_cache.specs.Sessions.{KeepsMap}

@@ -27,7 +27,8 @@ returns-in-Ok-Some c =
     let same = given_rows q c.rows.result.now.kinds c.rows.result.now.rows c.rows.result.now.objective c.rows.ensures.kinds c.rows.ensures.rows c.rows.ensures.objective in
     let at = subst (λ (o : Option Solved). SolvesWarm c.args.limit c.args.columns.now rows o) c.in-Ok-Some.field-0-is (c.in-Ok-Some.ensures {u = tt}) in
     let is = subst (λ r. SolvesWarm c.args.limit c.args.columns.now r (Some c.in-Ok-Some.solved)) same at in
-    let known = known_of q c.rows.result.now.kinds c.rows.result.now.rows c.rows.result.now.objective c.rows.ensures.kinds c.rows.ensures.rows c.rows.ensures.objective c.rows.result.now.rows_known c.rows.result.now.objective_known in
+    let known = known_of q c.rows.result.now.kinds c.rows.result.now.rows c.rows.result.now.objective c.rows.ensures.kinds c.rows.ensures.rows c.rows.ensures.objective c.rows.result.now.rows_known
+    c.rows.result.now.objective_known in
     reads_result p s c.args.limit c.args.columns.now q c.in-Ok-Some.solved c.requires.mapped c.requires.fits c.requires.program known is c.read_back.result c.read_back.ensures
 
 pub returns-in-Ok-None : goal.returns-in-Ok-None

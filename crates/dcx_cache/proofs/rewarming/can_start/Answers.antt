@@ -5,4 +5,5 @@ use Rattle.dcx_cache.proofs.WarmRuns.{starts}
 use Rattle.dcx_cache.proofs.rewarming.can_start.Goals as goal
 
 pub returns : goal.returns
-returns c = starts c.are_plain.result (first_tableau c.args.program.now).plain c.plain_of-plain.result c.args.columns.now c.as_slice-2.result.now c.requires (search rules) c.as_slice-2.ensures c.are_plain.ensures
+returns c = starts c.are_plain.result (first_tableau c.args.program.now).plain c.plain_of-plain.result c.args.columns.now c.as_slice-2.result.now c.requires
+    (search rules) c.as_slice-2.ensures c.are_plain.ensures

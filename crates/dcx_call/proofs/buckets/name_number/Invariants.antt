@@ -1,3 +1,4 @@
+-- The number so far, mixed with the bytes that are left, is that of the whole name.
 use Rattle.std.proofs.Common.{◌≡◌, drop}
 use Rattle.dcx_call.specs.Buckets.{all_mixed}
 use Rattle.dcx_call.proofs.buckets.name_number.Given as goal

@@ -1,3 +1,4 @@
+-- The number so far, mixed with the fractions that are left, is that of all fractions.
 use Rattle.std.proofs.Common.{◌≡◌, drop}
 use Rattle.dcx_call.specs.Buckets.{fractions_mixed}
 use Rattle.dcx_call.proofs.buckets.numbers_number.Given as goal

@@ -1,3 +1,4 @@
+-- The number so far, mixed with the places that are left, is that of all places.
 use Rattle.std.proofs.Common.{◌≡◌, drop}
 use Rattle.dcx_call.specs.Buckets.{all_mixed}
 use Rattle.dcx_call.proofs.buckets.places_number.Given as goal

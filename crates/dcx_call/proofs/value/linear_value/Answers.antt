@@ -30,7 +30,8 @@ returns-in_err-entries-clause-stop c =
     let shape = shape_found l args c.in-Ok.shapes.items c.deref.result.now c.shape.result c.unwrap-shape.result c.in-Ok.ensures c.deref.ensures.value c.shape.ensures c.unwrap-shape.ensures in
     let terms = terms_found l args c.in-Ok.shapes.items c.deref-2.result.now c.unwrap-shape.result c.in-Ok-map.terms c.in-Ok.ensures c.deref-2.ensures.value shape c.in-Ok-map.ensures in
     let stop = subst (λ ts. IsStop (listed l args ts) c.size.result c.in_err-entries.field-0.0) c.as_slice.ensures c.in_err-entries.ensures.stop in
-    rw (r.1, r.2) (fact_some (λ s. (setting point : Pairs) → IsValueStop (calls.Linear l) setting point args (entries_of s) c.in_err-entries.field-0.0) ((linear_meaning l).shape (array_sides args)) (sides_of c.unwrap-shape.result) shape
+    rw (r.1, r.2) (fact_some (λ s. (setting point : Pairs) → IsValueStop (calls.Linear l) setting point args (entries_of s) c.in_err-entries.field-0.0)
+    ((linear_meaning l).shape (array_sides args)) (sides_of c.unwrap-shape.result) shape
     (linear_stops l args (entries_of (sides_of c.unwrap-shape.result)) c.in-Ok-map.terms c.in_err-entries.field-0.0 terms
     (subst (λ n. IsStop (listed l args c.in-Ok-map.terms) n c.in_err-entries.field-0.0) c.size.ensures.value stop)))
 

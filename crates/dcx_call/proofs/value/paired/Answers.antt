@@ -11,7 +11,8 @@ pub returns-in-MatTimes-clause-ok : goal.returns-in-MatTimes-clause-ok
 returns-in-MatTimes-clause-ok c =
     let l = c.args.left.now in
     let r = c.args.right.now in
-    subst (λ p. IfOk c.multiply_all-in-MatTimes.result (AreFormed (λ j. pairing_formed p (pairs_at p (sides_of l.shape) (sides_of r.shape) j) (number_at l.entries) (number_at r.entries) j) c.args.size))
+    subst (λ p. IfOk c.multiply_all-in-MatTimes.result
+    (AreFormed (λ j. pairing_formed p (pairs_at p (sides_of l.shape) (sides_of r.shape) j) (number_at l.entries) (number_at r.entries) j) c.args.size))
     (sym c.in-MatTimes.is) c.multiply_all-in-MatTimes.ensures.ok
 
 pub returns-in-MatTimes-clause-stop : goal.returns-in-MatTimes-clause-stop

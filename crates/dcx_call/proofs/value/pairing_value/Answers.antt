@@ -32,7 +32,8 @@ returns-in_err-entries-clause-stop c =
     let told : Forming = λ j. pairing_formed p (pairs_at p (sides_of l.shape) (sides_of r.shape) j) (number_at l.entries) (number_at r.entries) j in
     let shape : sides_of_two p (array_sides args) ≡ Some (sides_of c.unwrap-shape.result) =
     two_sides p args l r c.requires c.index-args-0.is c.index-args-1.is ∙ sym c.shape.ensures ∙ ap (option_map sides_of) c.unwrap-shape.ensures in
-    rw (e.1, e.2) (fact_some (λ s. (setting point : Pairs) → IsValueStop (calls.Pairing p) setting point args (entries_of s) c.in_err-entries.field-0.0) (sides_of_two p (array_sides args)) (sides_of c.unwrap-shape.result) shape
+    rw (e.1, e.2) (fact_some (λ s. (setting point : Pairs) → IsValueStop (calls.Pairing p) setting point args (entries_of s) c.in_err-entries.field-0.0)
+    (sides_of_two p (array_sides args)) (sides_of c.unwrap-shape.result) shape
     (pairing_stops p args l r c.requires c.index-args-0.is c.index-args-1.is (entries_of (sides_of c.unwrap-shape.result)) c.in_err-entries.field-0.0
     (subst (λ n. IsStop told n c.in_err-entries.field-0.0) c.size.ensures.value c.in_err-entries.ensures.stop)))
 

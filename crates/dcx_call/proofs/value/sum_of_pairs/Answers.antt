@@ -16,7 +16,8 @@ loop-pair-preserved c =
     let h : Pair → ℚ × ℚ = λ p. (number_at c.args.left.now p.left, number_at c.args.right.now p.right) in
     let x = get_or c.args.pairs.now c.loop-pair.pair-index (record { left = 0; right = 0 }) in
     next_sum h c.args.pairs.now c.loop-pair.pair-index x c.number_at.result c.number_at-in-loop-pair.result c.loop-pair.sum c.add_product.result c.loop-pair-test.true
-    (own_item c.args.pairs.now c.loop-pair.pair-index (record { left = 0; right = 0 }) c.loop-pair-test.true) c.number_at.ensures.exact c.number_at-in-loop-pair.ensures.exact c.loop-pair.invariant c.add_product.ensures
+    (own_item c.args.pairs.now c.loop-pair.pair-index (record { left = 0; right = 0 }) c.loop-pair-test.true) c.number_at.ensures.exact c.number_at-in-loop-pair.ensures.exact
+    c.loop-pair.invariant c.add_product.ensures
     ∙ c.in_ok-sum.was
 
 pub returns-in_err-sum : goal.returns-in_err-sum
@@ -26,5 +27,6 @@ returns-in_err-sum c =
     let x = get_or c.args.pairs.now c.loop-pair.pair-index (record { left = 0; right = 0 }) in
     rw (r.1, r.2) (sym (next_passes h c.args.pairs.now c.loop-pair.pair-index _
     (next_sum h c.args.pairs.now c.loop-pair.pair-index x c.number_at.result c.number_at-in-loop-pair.result c.loop-pair.sum c.add_product.result c.loop-pair-test.true
-    (own_item c.args.pairs.now c.loop-pair.pair-index (record { left = 0; right = 0 }) c.loop-pair-test.true) c.number_at.ensures.exact c.number_at-in-loop-pair.ensures.exact c.loop-pair.invariant c.add_product.ensures
+    (own_item c.args.pairs.now c.loop-pair.pair-index (record { left = 0; right = 0 }) c.loop-pair-test.true) c.number_at.ensures.exact c.number_at-in-loop-pair.ensures.exact
+    c.loop-pair.invariant c.add_product.ensures
     ∙ c.in_err-sum.was)))

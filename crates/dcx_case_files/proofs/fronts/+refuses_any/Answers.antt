@@ -10,4 +10,5 @@ returns-else-branch t c =
     let numbers = c.args.numbers.now in
     let size = length-drop 1 numbers in
     let rest : take (length numbers - 1) (drop 1 numbers) ≡ drop 1 numbers = take_all (length numbers - 1) (drop 1 numbers) (omega (arith, size)) in
-    none_first (λ n. BeginsWith (refusal_front n) c.args.report.now) numbers c.in_ok-refuses-in-len1-up.field-0 c.refuses_any.result c.in-len1-up.len_at_least c.in_ok-refuses-in-len1-up.ensures c.if-branch.false _ rest c.refuses_any.ensures
+    none_first (λ n. BeginsWith (refusal_front n) c.args.report.now) numbers c.in_ok-refuses-in-len1-up.field-0 c.refuses_any.result c.in-len1-up.len_at_least c.in_ok-refuses-in-len1-up.ensures
+    c.if-branch.false _ rest c.refuses_any.ensures

@@ -1,3 +1,4 @@
+-- The name and the parts of the counter of the run are those of the blank that it is given.
 use Rattle.dcx_cases.proofs.running.status_with.Given as goal
 
 abbrev pub ghosts-run_with : goal.ghosts-run_with

@@ -26,7 +26,8 @@ returns-in_err-check_entries c =
     let x = c.variable-item.result in
     let same = ap length c.as_slice-variable-items.ensures in
     let below = c.loop-k-test.true in
-    let at : slice_get p.variables k ≡ Some x = subst (λ (vs : List Variable). slice_get vs k ≡ Some x) c.as_slice-variable-items.ensures (slice_get_read xs (length xs) k x refl below c.variable-item.is) in
+    let at : slice_get p.variables k ≡ Some x =
+    subst (λ (vs : List Variable). slice_get vs k ≡ Some x) c.as_slice-variable-items.ensures (slice_get_read xs (length xs) k x refl below c.variable-item.is) in
     rw (r.1, r.2)
     (first_fails (length p.variables) (λ m. variable_check p.tree reached m (slice_get p.variables m)) k c.loop-k.invariant _ (omega (arith, below, same))
     (variable_fails p reached k x c.coefficients_of-coefficients.result.now at (c.coefficients_of-coefficients.ensures ∙ c.in_ok-places.ensures x.name) _ c.in_err-check_entries.ensures))
@@ -38,6 +39,7 @@ loop-k-preserved c =
     let xs = c.as_slice-variable-items.result.now in
     let k = c.loop-k.k in
     let x = c.variable-item.result in
-    let at : slice_get p.variables k ≡ Some x = subst (λ (vs : List Variable). slice_get vs k ≡ Some x) c.as_slice-variable-items.ensures (slice_get_read xs (length xs) k x refl c.loop-k-test.true c.variable-item.is) in
+    let at : slice_get p.variables k ≡ Some x =
+    subst (λ (vs : List Variable). slice_get vs k ≡ Some x) c.as_slice-variable-items.ensures (slice_get_read xs (length xs) k x refl c.loop-k-test.true c.variable-item.is) in
     one_more (length p.variables) (λ m. variable_check p.tree reached m (slice_get p.variables m)) k c.loop-k.invariant
     (variable_passes p reached k x c.coefficients_of-coefficients.result.now at (c.coefficients_of-coefficients.ensures ∙ c.in_ok-places.ensures x.name) c.in_ok-check_entries.ensures)

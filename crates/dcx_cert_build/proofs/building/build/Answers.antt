@@ -25,7 +25,8 @@ returns-in-Optimal-clause-of_problem c =
     let noted = rows_noted p (setting_of p c.args.setting.now) q a c.requires.answered in
     let x = answers.Optimal c.in-Optimal.value c.in-Optimal.point c.in-Optimal.duals in
     let read = subst (IsRead p q.kinds a) c.in-Optimal.is c.requires.read in
-    if_ok_weaker c.optimal.result (IsBuilt p c.args.setting.now q.origins a x) (IsCertOf (problem_outline p)) (λ cert h. cert_of p c.args.setting.now c.requires.given q c.requires.laid_out a noted q.kinds x cert read h) c.optimal.ensures.built
+    if_ok_weaker c.optimal.result (IsBuilt p c.args.setting.now q.origins a x) (IsCertOf (problem_outline p))
+    (λ cert h. cert_of p c.args.setting.now c.requires.given q c.requires.laid_out a noted q.kinds x cert read h) c.optimal.ensures.built
 
 pub returns-in-Infeasible-clause-of_problem : goal.returns-in-Infeasible-clause-of_problem
 returns-in-Infeasible-clause-of_problem c =
@@ -35,7 +36,8 @@ returns-in-Infeasible-clause-of_problem c =
     let noted = rows_noted p (setting_of p c.args.setting.now) q a c.requires.answered in
     let x = answers.Infeasible c.in-Infeasible.duals c.in-Infeasible.gap in
     let read = subst (IsRead p q.kinds a) c.in-Infeasible.is c.requires.read in
-    if_ok_weaker c.infeasible.result (IsBuilt p c.args.setting.now q.origins a x) (IsCertOf (problem_outline p)) (λ cert h. cert_of p c.args.setting.now c.requires.given q c.requires.laid_out a noted q.kinds x cert read h) c.infeasible.ensures.built
+    if_ok_weaker c.infeasible.result (IsBuilt p c.args.setting.now q.origins a x) (IsCertOf (problem_outline p))
+    (λ cert h. cert_of p c.args.setting.now c.requires.given q c.requires.laid_out a noted q.kinds x cert read h) c.infeasible.ensures.built
 
 pub returns-in_ok-unbounded-in-Unbounded-clause-of_problem : goal.returns-in_ok-unbounded-in-Unbounded-clause-of_problem
 returns-in_ok-unbounded-in-Unbounded-clause-of_problem c =

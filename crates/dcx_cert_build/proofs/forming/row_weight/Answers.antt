@@ -20,18 +20,21 @@ any_shown [] i = refl
 any_shown (a ∷ atoms) i = ap (λ b. nat_eq a.node.0 i || b) (any_shown atoms i)
 
 -- a row of a graph
-by_listing : (atoms : List AtomRows) (status : LpStatus) (o : Origin) (node : NodeId) (e k : ℕ) (note : RowNote) (b : Bool) → o ≡ origins.Graph node e k → b ≡ list_any (λ a. nat_eq a.node.0 node.0) atoms →
-    (if b then weight_of node (graph_multiplier status note) else Ok None) ≡ row_weight (map rows_shown atoms) status o note
+by_listing : (atoms : List AtomRows) (status : LpStatus) (o : Origin) (node : NodeId) (e k : ℕ) (note : RowNote) (b : Bool) → o ≡ origins.Graph node e k
+    → b ≡ list_any (λ a. nat_eq a.node.0 node.0) atoms
+    → (if b then weight_of node (graph_multiplier status note) else Ok None) ≡ row_weight (map rows_shown atoms) status o note
 by_listing atoms status o node e k note b is listed =
     ap (λ c. if c then weight_of node (graph_multiplier status note) else Ok None) (listed ∙ any_shown atoms node.0) ∙ ap (λ x. row_weight (map rows_shown atoms) status x note) (sym is)
 
 listed_weight : (atoms : List AtomRows) (status : LpStatus) (o : Origin) (node : NodeId) (e k : ℕ) (note : RowNote) (b : Bool) (m : Result Frac Passes) (r : Result (Option RowWeight) Passes) →
-    o ≡ origins.Graph node e k → b ≡ list_any (λ a. nat_eq a.node.0 node.0) atoms → b ≡ true → m ≡ graph_multiplier status note → r ≡ weight_of node m → r ≡ row_weight (map rows_shown atoms) status o note
+    o ≡ origins.Graph node e k → b ≡ list_any (λ a. nat_eq a.node.0 node.0) atoms → b ≡ true → m ≡ graph_multiplier status note → r ≡ weight_of node m
+    → r ≡ row_weight (map rows_shown atoms) status o note
 listed_weight atoms status o node e k note b m r is listed so formed made =
     made ∙ ap (weight_of node) formed ∙ ap (λ c. if c then weight_of node (graph_multiplier status note) else Ok None) (sym so) ∙ by_listing atoms status o node e k note b is listed
 
-unlisted_weight : (atoms : List AtomRows) (status : LpStatus) (o : Origin) (node : NodeId) (e k : ℕ) (note : RowNote) (b : Bool) → o ≡ origins.Graph node e k → b ≡ list_any (λ a. nat_eq a.node.0 node.0) atoms → b ≡ false →
-    Ok None ≡ row_weight (map rows_shown atoms) status o note
+unlisted_weight : (atoms : List AtomRows) (status : LpStatus) (o : Origin) (node : NodeId) (e k : ℕ) (note : RowNote) (b : Bool) → o ≡ origins.Graph node e k
+    → b ≡ list_any (λ a. nat_eq a.node.0 node.0) atoms → b ≡ false
+    → Ok None ≡ row_weight (map rows_shown atoms) status o note
 unlisted_weight atoms status o node e k note b is listed so =
     ap (λ c. if c then weight_of node (graph_multiplier status note) else Ok None) (sym so) ∙ by_listing atoms status o node e k note b is listed
 
@@ -42,4 +45,5 @@ returns-then-is_listed c =
 
 pub returns-else-is_listed : goal.returns-else-is_listed
 returns-else-is_listed c =
-    unlisted_weight c.args.atoms.now c.args.status c.args.origin c.in-Graph.node c.in-Graph.entry c.in-Graph.row c.args.note.now c.is_listed.result c.in-Graph.is c.is_listed.ensures c.if-is_listed.false
+    unlisted_weight c.args.atoms.now c.args.status c.args.origin c.in-Graph.node c.in-Graph.entry c.in-Graph.row c.args.note.now c.is_listed.result c.in-Graph.is c.is_listed.ensures
+    c.if-is_listed.false

@@ -7,8 +7,9 @@ use Rattle.dcx_cert_build.specs.declared.forming.RowWeight.{RowWeight}
 use Rattle.dcx_cert_build.specs.Weights.{numbers_for, node_numbers, atom_numbers}
 use Rattle.dcx_cert_build.proofs.weights.atom_weights.Goals as goal
 
-atom_more : (rows : List (Option RowWeight)) (atoms : List AtomRows) (i : ℕ) (d : AtomRows) (before after : List NodeWeights) → i < length atoms → map node_numbers before ≡ map (atom_numbers rows) (take i atoms) →
-    after ≡ before ++ record { node = (get_or atoms i d).node; numbers = numbers_for rows (get_or atoms i d).node.0 } ∷ [] → map node_numbers after ≡ map (atom_numbers rows) (take (i + 1) atoms)
+atom_more : (rows : List (Option RowWeight)) (atoms : List AtomRows) (i : ℕ) (d : AtomRows) (before after : List NodeWeights) → i < length atoms
+    → map node_numbers before ≡ map (atom_numbers rows) (take i atoms)
+    → after ≡ before ++ record { node = (get_or atoms i d).node; numbers = numbers_for rows (get_or atoms i d).node.0 } ∷ [] → map node_numbers after ≡ map (atom_numbers rows) (take (i + 1) atoms)
 atom_more rows atoms i d before after lt was added =
     let w : NodeWeights = record { node = (get_or atoms i d).node; numbers = numbers_for rows (get_or atoms i d).node.0 } in
     ap (map node_numbers) added

@@ -14,7 +14,8 @@ use Rattle.dcx_cert_build.specs.Built.{StopsBuilding}
 use Rattle.dcx_cert_build.proofs.Formed.{weights_are}
 use Rattle.dcx_cert_build.proofs.weights.weights_of.Goals as goal
 
-stops_building : (p : Problem) (from : List Origin) (a : LpAnswer) → ¬ (a.status ≡ status.Unbounded) → (stop : MultiplierStop) → StopsAt stop (passing_from 0 (row_weights (problem_outline p).atoms a.status from a.rows)) → StopsBuilding p from a (answer_stop stop)
+stops_building : (p : Problem) (from : List Origin) (a : LpAnswer) → ¬ (a.status ≡ status.Unbounded) → (stop : MultiplierStop)
+    → StopsAt stop (passing_from 0 (row_weights (problem_outline p).atoms a.status from a.rows)) → StopsBuilding p from a (answer_stop stop)
 stops_building p from a formed (stops.Wide row passes) h = record { formed = formed; row = row; passes = passes; first = h; here = refl }
 stops_building p from a formed stops.Memory h = tt
 

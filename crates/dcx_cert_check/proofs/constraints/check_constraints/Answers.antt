@@ -22,7 +22,8 @@ constraints-preserved c =
     let check = constraint_holds p c.args.setting.now c.args.point.now in
     let x = c.index-constraints-k.result in
     let at : slice_get p.constraints c.constraints.k ≡ Some x =
-    subst (λ (cs : List Constraint). slice_get cs c.constraints.k ≡ Some x) c.as_slice-constraints.ensures (slice_get_read xs (length xs) c.constraints.k x refl c.constraints-test.true c.index-constraints-k.is) in (
+    subst (λ (cs : List Constraint). slice_get cs c.constraints.k ≡ Some x) c.as_slice-constraints.ensures
+    (slice_get_read xs (length xs) c.constraints.k x refl c.constraints-test.true c.index-constraints-k.is) in (
       one_more (at_place p.constraints check) c.constraints.k (at_passes p.constraints check c.constraints.k x at c.in_ok-check_constraint.ensures.checked) c.constraints.invariant.0,
       c.check_constraint.ensures.kept,
       below_more p c.constraints.k x at c.constraints.values c.check_constraint.new.values c.constraints.invariant.2 c.check_constraint.ensures.stays c.in_ok-check_constraint.ensures.below,
@@ -39,7 +40,8 @@ returns-in_err-check_constraint-clause-checked c =
     let below = c.constraints-test.true in
     let at : slice_get p.constraints c.constraints.k ≡ Some x =
     subst (λ (cs : List Constraint). slice_get cs c.constraints.k ≡ Some x) c.as_slice-constraints.ensures (slice_get_read xs (length xs) c.constraints.k x refl below c.index-constraints-k.is) in
-    rw (r.1, r.2) (first_fails (at_place p.constraints check) (length p.constraints) c.constraints.k _ (omega (arith, below, same)) c.constraints.invariant.0 (at_fails p.constraints check c.constraints.k x _ at c.in_err-check_constraint.ensures.checked))
+    rw (r.1, r.2) (first_fails (at_place p.constraints check) (length p.constraints) c.constraints.k _ (omega (arith, below, same)) c.constraints.invariant.0
+    (at_fails p.constraints check c.constraints.k x _ at c.in_err-check_constraint.ensures.checked))
 
 pub returns-clause-checked : goal.returns-clause-checked
 returns-clause-checked c =

@@ -11,4 +11,5 @@ returns-in-None c = (checks_sound.point c.args.problem.now c.args.point.now).1 (
 pub returns-in-Some : goal.returns-in-Some
 returns-in-Some c =
     let first = c.in-Some.ensures.first in
-    inr (outside_fails c.args.problem.now.variables c.args.point.now (λ k j x. faults.Domain k j x) c.in-Some.outside first c.number_outside.result (c.number_outside.ensures first.variable first.there))
+    inr (outside_fails c.args.problem.now.variables c.args.point.now (λ k j x. faults.Domain k j x) c.in-Some.outside first c.number_outside.result
+    (c.number_outside.ensures first.variable first.there))

@@ -1,4 +1,4 @@
--- One more passes, or is the first that fails.
+-- One more constraint's multipliers have their signs, or are the first that don't.
 use Rattle.std.proofs.Common.{◌≡◌, length, Some, Result, Ok, Err, refl}
 use Rattle.std.specs.List.{slice_get}
 use Rattle.std.proofs.lemmas.Option.{slice_get_read}
@@ -14,7 +14,9 @@ constraints-preserved c =
     let xs = c.args.constraints.now in
     let x = c.index-constraints-k.result in
     let at : slice_get xs c.constraints.k ≡ Some x = slice_get_read xs (length xs) c.constraints.k x refl c.constraints-test.true c.index-constraints-k.is in
-    one_more (at_place xs (multipliers_signed c.args.duals.now)) c.constraints.k (at_passes xs (multipliers_signed c.args.duals.now) c.constraints.k x at (looked_up c.args.duals.now c.constraints.k x _ c.array_at.ensures (Ok c.in_ok-check_multipliers.field-0) c.in_ok-check_multipliers.ensures)) c.constraints.invariant
+    one_more (at_place xs (multipliers_signed c.args.duals.now)) c.constraints.k
+    (at_passes xs (multipliers_signed c.args.duals.now) c.constraints.k x at (looked_up c.args.duals.now c.constraints.k x _ c.array_at.ensures
+    (Ok c.in_ok-check_multipliers.field-0) c.in_ok-check_multipliers.ensures)) c.constraints.invariant
 
 pub returns-in_err-check_multipliers : goal.returns-in_err-check_multipliers
 returns-in_err-check_multipliers c =
@@ -23,7 +25,8 @@ returns-in_err-check_multipliers c =
     let x = c.index-constraints-k.result in
     let at : slice_get xs c.constraints.k ≡ Some x = slice_get_read xs (length xs) c.constraints.k x refl c.constraints-test.true c.index-constraints-k.is in
     let stopped : Result (Unit {0}) CertFault = Err c.in_err-check_multipliers.field-0.0 in
-    rw (r.1, r.2) (first_fails (at_place xs (multipliers_signed c.args.duals.now)) (length xs) c.constraints.k _ c.constraints-test.true c.constraints.invariant (at_fails xs (multipliers_signed c.args.duals.now) c.constraints.k x _ at (looked_up c.args.duals.now c.constraints.k x _ c.array_at.ensures stopped c.in_err-check_multipliers.ensures)))
+    rw (r.1, r.2) (first_fails (at_place xs (multipliers_signed c.args.duals.now)) (length xs) c.constraints.k _ c.constraints-test.true c.constraints.invariant
+    (at_fails xs (multipliers_signed c.args.duals.now) c.constraints.k x _ at (looked_up c.args.duals.now c.constraints.k x _ c.array_at.ensures stopped c.in_err-check_multipliers.ensures)))
 
 pub returns : goal.returns
 returns c = all_passed (at_place c.args.constraints.now (multipliers_signed c.args.duals.now)) (length c.args.constraints.now) c.constraints.k c.constraints-test.false c.constraints.invariant

@@ -23,11 +23,13 @@ returns-in_err-check_multiplier c =
     let size = c.size-entry-end.ensures.value in
     let below = c.entries-test.true in
     rw (r.1, r.2)
-    (first_fails (λ j. multiplier_signed kind c.args.number j (number_if (option_copied c.args.multipliers) j)) (entries_of (sides_of c.args.constraint.now.shape)) c.entries.entry _ (omega (arith, below, size)) c.entries.invariant
+    (first_fails (λ j. multiplier_signed kind c.args.number j (number_if (option_copied c.args.multipliers) j))
+    (entries_of (sides_of c.args.constraint.now.shape)) c.entries.entry _ (omega (arith, below, size)) c.entries.invariant
     (same_multiplier_fails kind c.args.number c.entries.entry _ _ _ c.number_in.ensures c.in_err-check_multiplier.ensures))
 
 pub returns : goal.returns
 returns c =
     let size = c.size-entry-end.ensures.value in
     let past = c.entries-test.false in
-    all_passed (λ j. multiplier_signed c.args.constraint.now.kind c.args.number j (number_if (option_copied c.args.multipliers) j)) (entries_of (sides_of c.args.constraint.now.shape)) c.entries.entry (omega (arith, size, past)) c.entries.invariant
+    all_passed (λ j. multiplier_signed c.args.constraint.now.kind c.args.number j (number_if (option_copied c.args.multipliers) j))
+    (entries_of (sides_of c.args.constraint.now.shape)) c.entries.entry (omega (arith, size, past)) c.entries.invariant

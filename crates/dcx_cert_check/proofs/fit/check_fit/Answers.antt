@@ -2,9 +2,10 @@
 use Rattle.std.proofs.lemmas.Result.{err_from_is_err_and}
 use Rattle.dcx_cert_values.specs.Forming.{divisors}
 use Rattle.dcx_cert_check.specs.SingleChecks.{parameters_fit}
-use Rattle.dcx_cert_check.proofs.Steps.{first_stops, second_counts, on_ok}
+use Rattle.dcx_cert_check.proofs.Steps.{second_counts, on_ok}
 use Rattle.dcx_cert_check.proofs.Given.{arrays_given}
 use Rattle.dcx_cert_check.proofs.fit.check_fit.Goals as goal
+use Rattle.dcx_cert_values.proofs.Weaker.{first_failed}
 
 pub divisors-requires-clause-parameters : goal.divisors-requires-clause-parameters
 divisors-requires-clause-parameters c = arrays_given.parameters c.args.problem.now c.args.setting.now c.in_ok-check_parameters.ensures
@@ -12,7 +13,7 @@ divisors-requires-clause-parameters c = arrays_given.parameters c.args.problem.n
 pub returns-in_err-check_parameters-clause-checked : goal.returns-in_err-check_parameters-clause-checked
 returns-in_err-check_parameters-clause-checked c =
     let r = err_from_is_err_and c.from_residual.result c.from_residual.ensures.1 in
-    rw (r.1, r.2) (first_stops (parameters_fit c.args.problem.now c.args.setting.now) (divisors c.args.problem.now c.args.setting.now) _ c.in_err-check_parameters.ensures)
+    rw (r.1, r.2) (first_failed (parameters_fit c.args.problem.now c.args.setting.now) (divisors c.args.problem.now c.args.setting.now) _ c.in_err-check_parameters.ensures)
 
 pub returns-clause-checked : goal.returns-clause-checked
 returns-clause-checked c =

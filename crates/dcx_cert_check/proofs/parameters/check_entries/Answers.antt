@@ -21,11 +21,13 @@ returns-in_err-check_entry c =
     let size = c.size-entry-end.ensures.value in
     let below = c.entries-test.true in
     rw (r.1, r.2)
-    (first_fails (λ j. entry_is c.args.number j (number_if (option_copied c.args.told) j) (number_if (option_copied c.args.setting) j)) (entries_of (sides_of c.args.shape)) c.entries.entry _ (omega (arith, below, size)) c.entries.invariant
+    (first_fails (λ j. entry_is c.args.number j (number_if (option_copied c.args.told) j) (number_if (option_copied c.args.setting) j))
+    (entries_of (sides_of c.args.shape)) c.entries.entry _ (omega (arith, below, size)) c.entries.invariant
     (same_entry_fails c.args.number c.entries.entry _ _ _ _ _ c.number_in.ensures c.number_in-in-entries.ensures c.in_err-check_entry.ensures))
 
 pub returns : goal.returns
 returns c =
     let size = c.size-entry-end.ensures.value in
     let past = c.entries-test.false in
-    all_passed (λ j. entry_is c.args.number j (number_if (option_copied c.args.told) j) (number_if (option_copied c.args.setting) j)) (entries_of (sides_of c.args.shape)) c.entries.entry (omega (arith, size, past)) c.entries.invariant
+    all_passed (λ j. entry_is c.args.number j (number_if (option_copied c.args.told) j) (number_if (option_copied c.args.setting) j)) (entries_of (sides_of c.args.shape)) c.entries.entry
+    (omega (arith, size, past)) c.entries.invariant

@@ -1,4 +1,4 @@
--- One more passes, or is the first that fails.
+-- One more parameter's values are those of the setting, or are the first that aren't.
 use Rattle.std.proofs.Common.{◌≡◌, length, Some, refl}
 use Rattle.std.specs.List.{slice_get}
 use Rattle.std.proofs.lemmas.Option.{slice_get_read}
@@ -12,7 +12,8 @@ parameters-preserved c =
     let xs = c.args.parameters.now in
     let x = c.index-parameters-k.result in
     let at : slice_get xs c.parameters.k ≡ Some x = slice_get_read xs (length xs) c.parameters.k x refl c.parameters-test.true c.index-parameters-k.is in
-    one_more (at_place xs (parameter_is c.args.told.now c.args.setting.now)) c.parameters.k (at_passes xs (parameter_is c.args.told.now c.args.setting.now) c.parameters.k x at c.in_ok-check_parameter.ensures) c.parameters.invariant
+    one_more (at_place xs (parameter_is c.args.told.now c.args.setting.now)) c.parameters.k
+    (at_passes xs (parameter_is c.args.told.now c.args.setting.now) c.parameters.k x at c.in_ok-check_parameter.ensures) c.parameters.invariant
 
 pub returns-in_err-check_parameter : goal.returns-in_err-check_parameter
 returns-in_err-check_parameter c =
@@ -20,7 +21,8 @@ returns-in_err-check_parameter c =
     let xs = c.args.parameters.now in
     let x = c.index-parameters-k.result in
     let at : slice_get xs c.parameters.k ≡ Some x = slice_get_read xs (length xs) c.parameters.k x refl c.parameters-test.true c.index-parameters-k.is in
-    rw (r.1, r.2) (first_fails (at_place xs (parameter_is c.args.told.now c.args.setting.now)) (length xs) c.parameters.k _ c.parameters-test.true c.parameters.invariant (at_fails xs (parameter_is c.args.told.now c.args.setting.now) c.parameters.k x _ at c.in_err-check_parameter.ensures))
+    rw (r.1, r.2) (first_fails (at_place xs (parameter_is c.args.told.now c.args.setting.now)) (length xs) c.parameters.k _ c.parameters-test.true c.parameters.invariant
+    (at_fails xs (parameter_is c.args.told.now c.args.setting.now) c.parameters.k x _ at c.in_err-check_parameter.ensures))
 
 pub returns : goal.returns
 returns c = all_passed (at_place c.args.parameters.now (parameter_is c.args.told.now c.args.setting.now)) (length c.args.parameters.now) c.parameters.k c.parameters-test.false c.parameters.invariant

@@ -1,4 +1,4 @@
--- Those so far pass.
+-- The values that are told of the parameters so far are those of the setting.
 use Rattle.dcx_cert_check.specs.SingleChecks.{parameter_is}
 use Rattle.dcx_cert_check.proofs.Steps.{PassBelow, at_place}
 use Rattle.dcx_cert_check.proofs.parameters.check_told.Given as goal

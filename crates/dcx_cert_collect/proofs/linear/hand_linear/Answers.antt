@@ -17,7 +17,8 @@ loop-j-preserved c =
     let f = λ (j : ℕ). shares (frac_in c.args.coefficients.now j) (get_or c.args.terms.now j []) in
     let b : c.loop-j.j < length c.args.terms.now = omega (arith, c.loop-j-test.true, c.requires.terms) in
     entry-next c.args.table.now.items c.loop-j.table.items f c.loop-j.j (shares c.index-coefficients-j.result c.as_slice.result.now)
-    (ap₂ shares (within_list c.args.coefficients.now c.loop-j.j zero_frac _ c.loop-j-test.true c.index-coefficients-j.is) (c.as_slice.ensures ∙ within_list c.args.terms.now c.loop-j.j [] _ b c.index-terms-j.is))
+    (ap₂ shares (within_list c.args.coefficients.now c.loop-j.j zero_frac _ c.loop-j-test.true c.index-coefficients-j.is)
+    (c.as_slice.ensures ∙ within_list c.args.terms.now c.loop-j.j [] _ b c.index-terms-j.is))
     c.loop-j.invariant ∙ c.in_ok-hand_terms.ensures.ok
 
 pub returns-in_err-hand_terms-clause-passes : goal.returns-in_err-hand_terms-clause-passes
@@ -28,5 +29,6 @@ returns-in_err-hand_terms-clause-passes c =
     let b : c.loop-j.j < length c.args.terms.now = omega (arith, c.loop-j-test.true, c.requires.terms) in
     rw (r.1, r.2) (joined-within-some c.args.table.now.items f (c.loop-j.j + 1) (length c.args.coefficients.now) c.in_err-hand_terms.field-0.0 (omega (arith, c.loop-j-test.true))
     (entry-next c.args.table.now.items c.loop-j.table.items f c.loop-j.j (shares c.index-coefficients-j.result c.as_slice.result.now)
-    (ap₂ shares (within_list c.args.coefficients.now c.loop-j.j zero_frac _ c.loop-j-test.true c.index-coefficients-j.is) (c.as_slice.ensures ∙ within_list c.args.terms.now c.loop-j.j [] _ b c.index-terms-j.is))
+    (ap₂ shares (within_list c.args.coefficients.now c.loop-j.j zero_frac _ c.loop-j-test.true c.index-coefficients-j.is)
+    (c.as_slice.ensures ∙ within_list c.args.terms.now c.loop-j.j [] _ b c.index-terms-j.is))
     c.loop-j.invariant ∙ c.in_err-hand_terms.ensures.passes))

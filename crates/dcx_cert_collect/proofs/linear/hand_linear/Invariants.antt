@@ -9,4 +9,5 @@ use Rattle.dcx_cert_collect.proofs.linear.hand_linear.Given as goal
 
 abbrev pub invariant-loop-j : goal.invariant-loop-j
 invariant-loop-j l =
-    with_shares l.initial.table.items (joined_below l.j (λ j. map (term_share l.places.tree.now (positions l.places.args.now) (frac_in l.coefficients j)) (map linear_term (get_or l.terms j [])))) ≡ Ok l.table.items
+    with_shares l.initial.table.items (joined_below l.j (λ j. map (term_share l.places.tree.now (positions l.places.args.now) (frac_in l.coefficients j)) (map linear_term (get_or l.terms j []))))
+    ≡ Ok l.table.items

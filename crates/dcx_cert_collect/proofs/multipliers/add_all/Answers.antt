@@ -13,7 +13,8 @@ returns-in_err-add_objective-clause-passes c =
     let r = err_from_is_err_and c.from_residual.result c.from_residual.ensures.1 in
     let p = c.args.problem.now in
     rw (r.1, r.2) (shares-stopped c.args.table.now.items (objective_shares c.args.with_objective p)
-    (joined_below (length p.constraints) (λ k. constraint_shares p.tree (slice_get p.constraints k) (slice_get c.args.duals.now k))) c.in_err-add_objective.field-0.0 c.in_err-add_objective.ensures.passes)
+    (joined_below (length p.constraints) (λ k. constraint_shares p.tree (slice_get p.constraints k) (slice_get c.args.duals.now k))) c.in_err-add_objective.field-0.0
+    c.in_err-add_objective.ensures.passes)
 
 pub returns-clause-ok : goal.returns-clause-ok
 returns-clause-ok c =

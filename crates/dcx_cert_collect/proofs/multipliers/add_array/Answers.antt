@@ -11,14 +11,16 @@ use Rattle.dcx_cert_collect.proofs.multipliers.add_array.Goals as goal
 
 pub loop-e-preserved : goal.loop-e-preserved
 loop-e-preserved c =
-    number_next c.args.tree.now c.args.node.0 (frac_in c.args.array.now.entries) c.args.table.now.items c.loop-e.table.items c.loop-e.e c.place_of.result c.entry_of-number.result c.place_of.ensures c.entry_of-number.ensures
+    number_next c.args.tree.now c.args.node.0 (frac_in c.args.array.now.entries) c.args.table.now.items c.loop-e.table.items c.loop-e.e c.place_of.result c.entry_of-number.result c.place_of.ensures
+    c.entry_of-number.ensures
     c.loop-e.invariant ∙ c.in_ok-add_share.ensures.ok
 
 pub returns-in_err-add_share-clause-passes : goal.returns-in_err-add_share-clause-passes
 returns-in_err-add_share-clause-passes c =
     let r = err_from_is_err_and c.from_residual.result c.from_residual.ensures.1 in
     let number = frac_in c.args.array.now.entries in
-    rw (r.1, r.2) (below-within-some c.args.table.now.items (λ e. share_of (place_of c.args.tree.now (Some c.args.node.0) e) (Ok (number e))) (c.loop-e.e + 1) (entries_of (sides_of c.args.array.now.shape))
+    rw (r.1, r.2) (below-within-some c.args.table.now.items (λ e. share_of (place_of c.args.tree.now (Some c.args.node.0) e) (Ok (number e))) (c.loop-e.e + 1)
+    (entries_of (sides_of c.args.array.now.shape))
     c.in_err-add_share.field-0.0 (omega (arith, c.loop-e-test.true, c.size-e-end.ensures.value))
     (number_next c.args.tree.now c.args.node.0 number c.args.table.now.items c.loop-e.table.items c.loop-e.e c.place_of.result c.entry_of-number.result c.place_of.ensures c.entry_of-number.ensures
     c.loop-e.invariant ∙ c.in_err-add_share.ensures.passes))

@@ -16,12 +16,14 @@ pub returns-clause-ok : goal.returns-clause-ok
 returns-clause-ok c =
     let nodes = c.args.tree.now in
     subst (λ r. OnOk c.add_negated.result (r ≡ Ok c.add_negated.new.table.items))
-    (sym (shares-after c.args.table.now.items c.add_array.new.table.items (array_shares nodes c.args.constraint.now.left.0 c.args.array.now) (negated_shares nodes c.args.constraint.now.right.0 c.args.array.now) c.in_ok-add_array.ensures.ok))
+    (sym (shares-after c.args.table.now.items c.add_array.new.table.items (array_shares nodes c.args.constraint.now.left.0 c.args.array.now)
+    (negated_shares nodes c.args.constraint.now.right.0 c.args.array.now) c.in_ok-add_array.ensures.ok))
     c.add_negated.ensures.ok
 
 pub returns-clause-passes : goal.returns-clause-passes
 returns-clause-passes c =
     let nodes = c.args.tree.now in
     subst (λ r. IfErr c.add_negated.result (λ p. r ≡ Err p))
-    (sym (shares-after c.args.table.now.items c.add_array.new.table.items (array_shares nodes c.args.constraint.now.left.0 c.args.array.now) (negated_shares nodes c.args.constraint.now.right.0 c.args.array.now) c.in_ok-add_array.ensures.ok))
+    (sym (shares-after c.args.table.now.items c.add_array.new.table.items (array_shares nodes c.args.constraint.now.left.0 c.args.array.now)
+    (negated_shares nodes c.args.constraint.now.right.0 c.args.array.now) c.in_ok-add_array.ensures.ok))
     c.add_negated.ensures.passes

@@ -8,11 +8,13 @@ use Rattle.dcx_cert_collect.proofs.multipliers.add_constraints.Goals as goal
 
 pub add_constraint-requires-clause-left : goal.add_constraint-requires-clause-left
 add_constraint-requires-clause-left c =
-    (c.requires.constraints.left c.loop-k.k c.index-constraints-k.result (slice_get-get_or c.args.constraints.now c.loop-k.k c.index-constraints-k.result c.loop-k-test.true ∙ ap Some (sym c.index-constraints-k.is))).there
+    (c.requires.constraints.left c.loop-k.k c.index-constraints-k.result
+    (slice_get-get_or c.args.constraints.now c.loop-k.k c.index-constraints-k.result c.loop-k-test.true ∙ ap Some (sym c.index-constraints-k.is))).there
 
 pub add_constraint-requires-clause-right : goal.add_constraint-requires-clause-right
 add_constraint-requires-clause-right c =
-    (c.requires.constraints.right c.loop-k.k c.index-constraints-k.result (slice_get-get_or c.args.constraints.now c.loop-k.k c.index-constraints-k.result c.loop-k-test.true ∙ ap Some (sym c.index-constraints-k.is))).there
+    (c.requires.constraints.right c.loop-k.k c.index-constraints-k.result
+    (slice_get-get_or c.args.constraints.now c.loop-k.k c.index-constraints-k.result c.loop-k-test.true ∙ ap Some (sym c.index-constraints-k.is))).there
 
 pub loop-k-preserved : goal.loop-k-preserved
 loop-k-preserved c =

@@ -9,4 +9,5 @@ use Rattle.dcx_cert_collect.specs.Starts.{place_of}
 use Rattle.dcx_cert_collect.proofs.multipliers.add_negated.Given as goal
 
 abbrev pub invariant-loop-e : goal.invariant-loop-e
-invariant-loop-e l = with_shares l.initial.table.items (list_below l.e (λ e. share_of (place_of l.tree (Some l.node.0) e) (Ok (frac_at (neg_ℚ (value (frac_in l.array.entries e))))))) ≡ Ok l.table.items
+invariant-loop-e l = with_shares l.initial.table.items (list_below l.e (λ e. share_of (place_of l.tree (Some l.node.0) e) (Ok (frac_at (neg_ℚ (value (frac_in l.array.entries e)))))))
+    ≡ Ok l.table.items

@@ -1,4 +1,4 @@
--- What the call hands on.
+-- What a nonlinear call hands on by its slopes, or the slope that stops it.
 use Rattle.std.proofs.Common.{◌≡◌, ◌∙◌, sym, length, subst}
 use Rattle.std.proofs.lemmas.List.{length-map}
 use Rattle.dcx_shape.specs.Shape.{sides_of}
@@ -21,7 +21,8 @@ returns-in-Ok-clause-ok c =
     let same : length (positions ids) ≡ length ss = length-map ids (λ i. i.0) ∙ sym c.requires.shapes ∙ sym (length-map c.args.shapes.now sides_of) in
     let are = sized (m.shape ss) (length cs) (λ n. AreSlopesOf m ss n cs ws c.in-Ok.slopes) c.requires.shape c.in-Ok.ensures.ok in
     handed_ok c.hand_slopes.result c.args.table.now.items _ _ _
-    (atom_told c.args.places.now.tree.now c.args.node.0 (positions ids) m ss cs ws c.in-Ok.slopes c.as_slice.result.now same c.as_slice.ensures are) c.hand_slopes.ensures.ok c.or_passes.result c.or_passes.ensures
+    (atom_told c.args.places.now.tree.now c.args.node.0 (positions ids) m ss cs ws c.in-Ok.slopes c.as_slice.result.now same c.as_slice.ensures are) c.hand_slopes.ensures.ok c.or_passes.result
+    c.or_passes.ensures
 
 pub returns-in-Ok-clause-stop : goal.returns-in-Ok-clause-stop
 returns-in-Ok-clause-stop c =
@@ -33,7 +34,8 @@ returns-in-Ok-clause-stop c =
     let same : length (positions ids) ≡ length ss = length-map ids (λ i. i.0) ∙ sym c.requires.shapes ∙ sym (length-map c.args.shapes.now sides_of) in
     let are = sized (m.shape ss) (length cs) (λ n. AreSlopesOf m ss n cs ws c.in-Ok.slopes) c.requires.shape c.in-Ok.ensures.ok in
     handed_stop c.hand_slopes.result c.args.table.now.items _ _
-    (atom_told c.args.places.now.tree.now c.args.node.0 (positions ids) m ss cs ws c.in-Ok.slopes c.as_slice.result.now same c.as_slice.ensures are) c.hand_slopes.ensures.passes c.or_passes.result c.or_passes.ensures
+    (atom_told c.args.places.now.tree.now c.args.node.0 (positions ids) m ss cs ws c.in-Ok.slopes c.as_slice.result.now same c.as_slice.ensures are) c.hand_slopes.ensures.passes c.or_passes.result
+    c.or_passes.ensures
 
 pub returns-in-Err-clause-stop : goal.returns-in-Err-clause-stop
 returns-in-Err-clause-stop c =

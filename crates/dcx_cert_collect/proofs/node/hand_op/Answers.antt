@@ -1,4 +1,4 @@
--- What the call hands on.
+-- What a linear call hands on by its terms.
 use Rattle.std.proofs.Common.{length}
 use Rattle.dcx_atom.specs.Arrays.{sides_list}
 use Rattle.dcx_atom.specs.Linear.{AreTermsOf}

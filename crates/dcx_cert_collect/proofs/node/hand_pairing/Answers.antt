@@ -1,4 +1,4 @@
--- What the call hands on.
+-- What a product or a quotient hands on by its pairs, which are those of its two shapes.
 use Rattle.std.proofs.Common.{◌≡◌, ◌∙◌, ◌<◌, sym, ap, ap₂, length, arith, is_some, get_or, subst, IsSome}
 use Rattle.dcx_shape.specs.Shape.{sides_of}
 use Rattle.dcx_shape.specs.Sides.{entries_of}
@@ -21,7 +21,8 @@ pairs-requires c =
     let one_in : 1 < length shapes = omega (arith, two) in
     subst (λ (a : _). IsSome (paired_sides p a (sides_of c.index-shapes-1.result))) (shape_sides shapes 0 c.index-shapes-0.result zero_in c.index-shapes-0.is)
     (subst (λ (b : _). IsSome (paired_sides p (sides_at ss 0) b)) (shape_sides shapes 1 c.index-shapes-1.result one_in c.index-shapes-1.is)
-    (some_of (paired_sides p (sides_at ss 0) (sides_at ss 1)) (λ s. length c.args.coefficients.now ≡ entries_of s) (paired_of p ss (λ s. length c.args.coefficients.now ≡ entries_of s) c.requires.shape)))
+    (some_of (paired_sides p (sides_at ss 0) (sides_at ss 1)) (λ s. length c.args.coefficients.now ≡ entries_of s)
+    (paired_of p ss (λ s. length c.args.coefficients.now ≡ entries_of s) c.requires.shape)))
 
 pub hand_pairs-requires-clause-pairs : goal.hand_pairs-requires-clause-pairs
 hand_pairs-requires-clause-pairs c =

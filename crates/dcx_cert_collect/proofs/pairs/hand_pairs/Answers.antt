@@ -16,7 +16,8 @@ loop-j-preserved c =
     let f = λ (j : ℕ). shares (frac_in c.args.coefficients.now j) (get_or c.args.pairs.now j []) in
     let b : c.loop-j.j < length c.args.pairs.now = omega (arith, c.loop-j-test.true, c.requires.pairs) in
     entry-next c.args.table.now.items c.loop-j.table.items f c.loop-j.j (shares c.index-coefficients-j.result c.as_slice.result.now)
-    (ap₂ shares (within_list c.args.coefficients.now c.loop-j.j zero_frac _ c.loop-j-test.true c.index-coefficients-j.is) (c.as_slice.ensures ∙ within_list c.args.pairs.now c.loop-j.j [] _ b c.index-pairs-j.is))
+    (ap₂ shares (within_list c.args.coefficients.now c.loop-j.j zero_frac _ c.loop-j-test.true c.index-coefficients-j.is)
+    (c.as_slice.ensures ∙ within_list c.args.pairs.now c.loop-j.j [] _ b c.index-pairs-j.is))
     c.loop-j.invariant ∙ c.in_ok-hand_entry.ensures.ok
 
 pub returns-in_err-hand_entry-clause-passes : goal.returns-in_err-hand_entry-clause-passes
@@ -27,5 +28,6 @@ returns-in_err-hand_entry-clause-passes c =
     let b : c.loop-j.j < length c.args.pairs.now = omega (arith, c.loop-j-test.true, c.requires.pairs) in
     rw (r.1, r.2) (joined-within-some c.args.table.now.items f (c.loop-j.j + 1) (length c.args.coefficients.now) c.in_err-hand_entry.field-0.0 (omega (arith, c.loop-j-test.true))
     (entry-next c.args.table.now.items c.loop-j.table.items f c.loop-j.j (shares c.index-coefficients-j.result c.as_slice.result.now)
-    (ap₂ shares (within_list c.args.coefficients.now c.loop-j.j zero_frac _ c.loop-j-test.true c.index-coefficients-j.is) (c.as_slice.ensures ∙ within_list c.args.pairs.now c.loop-j.j [] _ b c.index-pairs-j.is))
+    (ap₂ shares (within_list c.args.coefficients.now c.loop-j.j zero_frac _ c.loop-j-test.true c.index-coefficients-j.is)
+    (c.as_slice.ensures ∙ within_list c.args.pairs.now c.loop-j.j [] _ b c.index-pairs-j.is))
     c.loop-j.invariant ∙ c.in_err-hand_entry.ensures.passes))

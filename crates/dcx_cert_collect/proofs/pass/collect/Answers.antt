@@ -22,7 +22,8 @@ loop-k-preserved g c =
       c.in_ok-pass_one.ensures.below ∙ ap (start_of nodes) (omega (arith, c.nodes-count.ensures.count, c.loop-k-test.true)),
       pass_next nodes c.args.given.now.values.now (g.W.CallWeights.weights c.args.weights.now) n k m start (kept_of c.loop-k.state) (kept_of c.pass_one.new.state)
           (omega (arith, c.nodes-count.ensures.count, c.loop-k-test.true)) c.loop-k.invariant.1 c.in_ok-pass_one.ensures.ok,
-      one_more (λ i. array_at c.args.given.now.values.now i ≡ None → HasFractions nodes i (g.W.CallWeights.weights c.args.weights.now i)) n k m (omega (arith, c.nodes-count.ensures.count, c.loop-k-test.true))
+      one_more (λ i. array_at c.args.given.now.values.now i ≡ None → HasFractions nodes i (g.W.CallWeights.weights c.args.weights.now i)) n k m
+          (omega (arith, c.nodes-count.ensures.count, c.loop-k-test.true))
           c.in_ok-pass_one.ensures.fractions c.loop-k.invariant.2,
     )
 
@@ -36,7 +37,8 @@ returns-in_err-pass_one-clause-stop g c =
     let k = c.loop-k.k in
     let m = c.nodes-count.result - 1 - k in
     let start : Kept = record { below = c.args.table.items; reached = c.new.result.items; total = c.zero.result } in
-    rw (r.1, r.2) (subst (λ s. IsOrMemory (pass_down nodes values weights n s) c.in_err-pass_one.field-0.0) (kept_same c.args.table.items c.new.result.items c.zero.result c.new.ensures.items c.zero.ensures)
+    rw (r.1, r.2) (subst (λ s. IsOrMemory (pass_down nodes values weights n s) c.in_err-pass_one.field-0.0)
+    (kept_same c.args.table.items c.new.result.items c.zero.result c.new.ensures.items c.zero.ensures)
     (pass_stops nodes values weights n k m start (kept_of c.loop-k.state) c.in_err-pass_one.field-0.0
     (omega (arith, c.nodes-count.ensures.count, c.loop-k-test.true)) c.loop-k.invariant.1 c.in_err-pass_one.ensures.stop))
 

@@ -23,14 +23,16 @@ pub pass_node-requires-clause-coefficients : goal.pass_node-requires-clause-coef
 pass_node-requires-clause-coefficients g c =
     let nodes = c.args.given.now.tree.now in
     let i = c.args.node.0 in
-    own_count nodes c.args.state.now.below.items c.in-Ok.own.items i _ c.requires.there (start_is nodes c.args.given.now.starts.now i c.requires.given.starts c.requires.there) c.requires.below c.in-Ok.ensures.tail
+    own_count nodes c.args.state.now.below.items c.in-Ok.own.items i _ c.requires.there
+    (start_is nodes c.args.given.now.starts.now i c.requires.given.starts c.requires.there) c.requires.below c.in-Ok.ensures.tail
 
 pub returns-in-Ok-clause-ok : goal.returns-in-Ok-clause-ok
 returns-in-Ok-clause-ok g c =
     let nodes = c.args.given.now.tree.now in
     let i = c.args.node.0 in
     subst (λ r. OnOk c.pass_node.result (r ≡ Ok (kept_of c.pass_node.new.state)))
-    (step_told nodes c.args.given.now.values.now (g.W.CallWeights.weights c.args.weights.now) c.of_node.result.now i (get_or c.args.given.now.starts.now i 0) (kept_of c.args.state.now) c.split_off.new.self.items c.in-Ok.own.items
+    (step_told nodes c.args.given.now.values.now (g.W.CallWeights.weights c.args.weights.now) c.of_node.result.now i (get_or c.args.given.now.starts.now i 0)
+    (kept_of c.args.state.now) c.split_off.new.self.items c.in-Ok.own.items
     c.of_node.ensures (start_is nodes c.args.given.now.starts.now i c.requires.given.starts c.requires.there) c.in-Ok.ensures.items c.in-Ok.ensures.tail)
     c.pass_node.ensures.ok
 
@@ -49,6 +51,7 @@ returns-in-Ok-clause-stop g c =
     let nodes = c.args.given.now.tree.now in
     let i = c.args.node.0 in
     subst (λ r. IfErr c.pass_node.result (IsOrMemory r))
-    (step_told nodes c.args.given.now.values.now (g.W.CallWeights.weights c.args.weights.now) c.of_node.result.now i (get_or c.args.given.now.starts.now i 0) (kept_of c.args.state.now) c.split_off.new.self.items c.in-Ok.own.items
+    (step_told nodes c.args.given.now.values.now (g.W.CallWeights.weights c.args.weights.now) c.of_node.result.now i (get_or c.args.given.now.starts.now i 0)
+    (kept_of c.args.state.now) c.split_off.new.self.items c.in-Ok.own.items
     c.of_node.ensures (start_is nodes c.args.given.now.starts.now i c.requires.given.starts c.requires.there) c.in-Ok.ensures.items c.in-Ok.ensures.tail)
     c.pass_node.ensures.stop

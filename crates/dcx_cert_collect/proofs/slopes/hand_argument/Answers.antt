@@ -18,7 +18,8 @@ loop-e-preserved c =
 pub returns-in_err-add_share-clause-passes : goal.returns-in_err-add_share-clause-passes
 returns-in_err-add_share-clause-passes c =
     let r = err_from_is_err_and c.from_residual.result c.from_residual.ensures.1 in
-    rw (r.1, r.2) (below-within-some c.args.table.now.items (λ e. share_to c.args.places.now.tree.now (positions c.args.places.now.args.now) c.args.argument e (Ok (frac_in c.args.slopes.now e))) (c.loop-e.e + 1)
+    rw (r.1, r.2) (below-within-some c.args.table.now.items (λ e. share_to c.args.places.now.tree.now (positions c.args.places.now.args.now) c.args.argument e (Ok (frac_in c.args.slopes.now e)))
+    (c.loop-e.e + 1)
     (length c.args.slopes.now) c.in_err-add_share.field-0.0 (omega (arith, c.loop-e-test.true))
     (slope_next c.args.places.now.tree.now c.args.places.now.args.now c.args.argument (frac_in c.args.slopes.now) c.args.table.now.items c.loop-e.table.items c.loop-e.e
     c.place.result c.index-slopes-e.result c.place.ensures (within_list c.args.slopes.now c.loop-e.e zero_frac _ c.loop-e-test.true c.index-slopes-e.is) c.loop-e.invariant

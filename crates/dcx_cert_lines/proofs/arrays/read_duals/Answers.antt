@@ -13,10 +13,12 @@ pub returns-in_err-read_dual-clause-misfit : goal.returns-in_err-read_dual-claus
 returns-in_err-read_dual-clause-misfit c =
     let shape = c.shape-item.result in
     let number = c.loop-shape.number + 1 in
-    let here : IfErr c.from_residual.result (IfMisfit (IsStopped (dual_template (number, shape) ∷ []) c.loop-shape.cursor.rest.now c.loop-shape.cursor.line c.read_dual.new.cursor.line)) = search rules in
+    let here : IfErr c.from_residual.result (IfMisfit (IsStopped (dual_template (number, shape) ∷ []) c.loop-shape.cursor.rest.now c.loop-shape.cursor.line c.read_dual.new.cursor.line)) =
+    search rules in
     stop_map (IsStopped (dual_template (number, shape) ∷ []) c.loop-shape.cursor.rest.now c.loop-shape.cursor.line c.read_dual.new.cursor.line)
     (IsStopped (duals_from 1 c.args.shapes.now) c.args.cursor.now.rest.now c.args.cursor.now.line c.read_dual.new.cursor.line)
-    (λ s. duals_stop c.args.shapes.now number c.loop-shape.shape-index shape c.loop-shape.duals.items c.args.cursor.now.rest.now c.args.cursor.now.line c.loop-shape.cursor.rest.now c.loop-shape.cursor.line c.read_dual.new.cursor.line (ap (λ n. n + 1) c.loop-shape.invariant.counted) (omega arith) c.shape-item.is c.loop-shape.invariant.shown c.loop-shape.invariant.read s)
+    (λ s. duals_stop c.args.shapes.now number c.loop-shape.shape-index shape c.loop-shape.duals.items c.args.cursor.now.rest.now c.args.cursor.now.line c.loop-shape.cursor.rest.now
+    c.loop-shape.cursor.line c.read_dual.new.cursor.line (ap (λ n. n + 1) c.loop-shape.invariant.counted) (omega arith) c.shape-item.is c.loop-shape.invariant.shown c.loop-shape.invariant.read s)
     c.from_residual.result here
 
 pub loop-shape-preserved : goal.loop-shape-preserved
@@ -32,7 +34,8 @@ loop-shape-preserved c =
     record {
       counted = numbered;
       shown = duals_shown c.args.shapes.now c.loop-shape.shape-index shape ds c.push.new.self.items d (omega arith) c.shape-item.is shown c.in_ok-read_dual.ensures.shape put;
-      read = duals_read number c.loop-shape.shape-index ds c.push.new.self.items d c.args.cursor.now.rest.now c.args.cursor.now.line c.loop-shape.cursor.rest.now c.loop-shape.cursor.line c.read_dual.new.cursor.rest.now c.read_dual.new.cursor.line numbered count put c.loop-shape.invariant.read c.in_ok-read_dual.ensures.read;
+      read = duals_read number c.loop-shape.shape-index ds c.push.new.self.items d c.args.cursor.now.rest.now c.args.cursor.now.line c.loop-shape.cursor.rest.now c.loop-shape.cursor.line
+          c.read_dual.new.cursor.rest.now c.read_dual.new.cursor.line numbered count put c.loop-shape.invariant.read c.in_ok-read_dual.ensures.read;
     }
 
 pub loop-shape-smaller : goal.loop-shape-smaller

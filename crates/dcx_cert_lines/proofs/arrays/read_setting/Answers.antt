@@ -18,10 +18,12 @@ returns-in_err-read_parameter-clause-misfit c =
     let x = shown c.named-item.result in
     let slots = map shown c.args.parameters.now in
     let at = mapped_at shown c.args.parameters.now c.loop-named.named-index c.named-item.result (omega arith) c.named-item.is in
-    let here : IfErr c.from_residual.result (IfMisfit (IsStopped (named_template (codes "param") x ∷ []) c.loop-named.cursor.rest.now c.loop-named.cursor.line c.read_parameter.new.cursor.line)) = search rules in
+    let here : IfErr c.from_residual.result (IfMisfit (IsStopped (named_template (codes "param") x ∷ []) c.loop-named.cursor.rest.now c.loop-named.cursor.line c.read_parameter.new.cursor.line)) =
+    search rules in
     stop_map (IsStopped (named_template (codes "param") x ∷ []) c.loop-named.cursor.rest.now c.loop-named.cursor.line c.read_parameter.new.cursor.line)
     (IsStopped (map (named_template (codes "param")) slots) c.args.cursor.now.rest.now c.args.cursor.now.line c.read_parameter.new.cursor.line)
-    (λ s. stop_at (codes "param") slots c.loop-named.named-index x c.loop-named.setting c.args.cursor.now.rest.now c.args.cursor.now.line c.loop-named.cursor.rest.now c.loop-named.cursor.line c.read_parameter.new.cursor.line at.0 at.1 c.loop-named.invariant.shown c.loop-named.invariant.read s)
+    (λ s. stop_at (codes "param") slots c.loop-named.named-index x c.loop-named.setting c.args.cursor.now.rest.now c.args.cursor.now.line c.loop-named.cursor.rest.now c.loop-named.cursor.line
+    c.read_parameter.new.cursor.line at.0 at.1 c.loop-named.invariant.shown c.loop-named.invariant.read s)
     c.from_residual.result here
 
 pub loop-named-preserved : goal.loop-named-preserved
@@ -32,7 +34,8 @@ loop-named-preserved c =
     let next = c.in_ok-read_parameter.ensures.read in
     record {
       shown = more_shown slots c.loop-named.named-index x c.loop-named.setting c.read_parameter.new.setting next.array at.0 at.1 c.loop-named.invariant.shown next.shape next.put;
-      read = more_read (codes "param") x c.loop-named.setting c.read_parameter.new.setting c.args.cursor.now.rest.now c.args.cursor.now.line c.loop-named.cursor.rest.now c.loop-named.cursor.line c.read_parameter.new.cursor.rest.now c.read_parameter.new.cursor.line c.loop-named.invariant.read next;
+      read = more_read (codes "param") x c.loop-named.setting c.read_parameter.new.setting c.args.cursor.now.rest.now c.args.cursor.now.line c.loop-named.cursor.rest.now c.loop-named.cursor.line
+          c.read_parameter.new.cursor.rest.now c.read_parameter.new.cursor.line c.loop-named.invariant.read next;
     }
 
 pub loop-named-smaller : goal.loop-named-smaller

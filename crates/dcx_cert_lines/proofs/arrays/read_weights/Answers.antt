@@ -19,7 +19,8 @@ returns-in_err-read_node-clause-misfit c =
     let here : IfErr c.from_residual.result (IfMisfit (IsStopped (node_template x ∷ []) c.loop-atom.cursor.rest.now c.loop-atom.cursor.line c.read_node.new.cursor.line)) = search rules in
     stop_map (IsStopped (node_template x ∷ []) c.loop-atom.cursor.rest.now c.loop-atom.cursor.line c.read_node.new.cursor.line)
     (IsStopped (map node_template atoms) c.args.cursor.now.rest.now c.args.cursor.now.line c.read_node.new.cursor.line)
-    (λ s. weights_stop atoms c.loop-atom.atom-index x c.loop-atom.weights.items c.args.cursor.now.rest.now c.args.cursor.now.line c.loop-atom.cursor.rest.now c.loop-atom.cursor.line c.read_node.new.cursor.line at.0 at.1 c.loop-atom.invariant.shown c.loop-atom.invariant.read s)
+    (λ s. weights_stop atoms c.loop-atom.atom-index x c.loop-atom.weights.items c.args.cursor.now.rest.now c.args.cursor.now.line c.loop-atom.cursor.rest.now c.loop-atom.cursor.line
+    c.read_node.new.cursor.line at.0 at.1 c.loop-atom.invariant.shown c.loop-atom.invariant.read s)
     c.from_residual.result here
 
 pub loop-atom-preserved : goal.loop-atom-preserved
@@ -32,7 +33,8 @@ loop-atom-preserved c =
     let put : c.push.new.self.items ≡ c.loop-atom.weights.items ++ w ∷ [] = c.in_ok-push.ensures.items in
     record {
       shown = weights_shown atoms c.loop-atom.atom-index x c.loop-atom.weights.items c.push.new.self.items w at.0 at.1 c.loop-atom.invariant.shown c.in_ok-read_node.ensures.shown put;
-      read = weights_read c.loop-atom.weights.items c.push.new.self.items w c.args.cursor.now.rest.now c.args.cursor.now.line c.loop-atom.cursor.rest.now c.loop-atom.cursor.line c.read_node.new.cursor.rest.now c.read_node.new.cursor.line put c.loop-atom.invariant.read c.in_ok-read_node.ensures.read;
+      read = weights_read c.loop-atom.weights.items c.push.new.self.items w c.args.cursor.now.rest.now c.args.cursor.now.line c.loop-atom.cursor.rest.now c.loop-atom.cursor.line
+          c.read_node.new.cursor.rest.now c.read_node.new.cursor.line put c.loop-atom.invariant.read c.in_ok-read_node.ensures.read;
     }
 
 pub loop-atom-smaller : goal.loop-atom-smaller

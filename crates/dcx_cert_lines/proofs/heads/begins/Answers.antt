@@ -11,5 +11,6 @@ unfolding head_line
 returns c =
     let front = c.deref.ensures.value ∙ c.in_ok-put_head.ensures {u = tt} ∙ ap (λ t. t ++ head_front c.args.kind c.args.number) c.new-front.ensures.items in
     subst
-    (λ (f : List ℕ). IfOk c.reads.result (λ b. MatchBool b (IsRead (filled f [] ∷ []) c.args.cursor.now.rest.now c.args.cursor.now.line c.reads.new.cursor.rest.now c.reads.new.cursor.line) (IsSame c.args.cursor.now.rest.now c.args.cursor.now.line c.reads.new.cursor.rest.now c.reads.new.cursor.line × HasNoLine (plain_template f) c.args.cursor.now.rest.now)))
+    (λ (f : List ℕ). IfOk c.reads.result (λ b. MatchBool b (IsRead (filled f [] ∷ []) c.args.cursor.now.rest.now c.args.cursor.now.line c.reads.new.cursor.rest.now c.reads.new.cursor.line)
+    (IsSame c.args.cursor.now.rest.now c.args.cursor.now.line c.reads.new.cursor.rest.now c.reads.new.cursor.line × HasNoLine (plain_template f) c.args.cursor.now.rest.now)))
     front c.reads.ensures

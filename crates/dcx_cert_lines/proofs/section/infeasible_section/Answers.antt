@@ -27,5 +27,8 @@ returns-in-Ok-clause-format c =
 pub returns-in-Ok-clause-read : goal.returns-in-Ok-clause-read
 returns-in-Ok-clause-read c =
     let parts = c.read_infeasible.new.parts in
-    let read = subst (λ r. IfOk r (λ gap. IsRead (section_body (infeasible_of gap parts)) c.args.cursor.now.rest.now c.args.cursor.now.line c.read_infeasible.new.cursor.rest.now c.read_infeasible.new.cursor.line)) c.in-Ok.is c.read_infeasible.ensures.read in
-    subst (λ (s : Section). IsRead (section_body s) c.args.cursor.now.rest.now c.args.cursor.now.line c.read_infeasible.new.cursor.rest.now c.read_infeasible.new.cursor.line) (sym c.made_infeasible.ensures) read
+    let read = subst (λ r. IfOk r
+    (λ gap. IsRead (section_body (infeasible_of gap parts)) c.args.cursor.now.rest.now c.args.cursor.now.line c.read_infeasible.new.cursor.rest.now c.read_infeasible.new.cursor.line)) c.in-Ok.is
+    c.read_infeasible.ensures.read in
+    subst (λ (s : Section). IsRead (section_body s) c.args.cursor.now.rest.now c.args.cursor.now.line c.read_infeasible.new.cursor.rest.now c.read_infeasible.new.cursor.line)
+    (sym c.made_infeasible.ensures) read

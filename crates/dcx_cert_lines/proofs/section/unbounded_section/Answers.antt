@@ -27,5 +27,8 @@ returns-in-Ok-clause-format c =
 pub returns-in-Ok-clause-read : goal.returns-in-Ok-clause-read
 returns-in-Ok-clause-read c =
     let parts = c.read_unbounded.new.parts in
-    let read = subst (λ r. IfOk r (λ p. IsRead (section_body (unbounded_of p.0 p.1 parts)) c.args.cursor.now.rest.now c.args.cursor.now.line c.read_unbounded.new.cursor.rest.now c.read_unbounded.new.cursor.line)) c.in-Ok.is c.read_unbounded.ensures.read in
-    subst (λ (s : Section). IsRead (section_body s) c.args.cursor.now.rest.now c.args.cursor.now.line c.read_unbounded.new.cursor.rest.now c.read_unbounded.new.cursor.line) (sym c.made_unbounded.ensures) read
+    let read = subst (λ r. IfOk r
+    (λ p. IsRead (section_body (unbounded_of p.0 p.1 parts)) c.args.cursor.now.rest.now c.args.cursor.now.line c.read_unbounded.new.cursor.rest.now c.read_unbounded.new.cursor.line)) c.in-Ok.is
+    c.read_unbounded.ensures.read in
+    subst (λ (s : Section). IsRead (section_body s) c.args.cursor.now.rest.now c.args.cursor.now.line c.read_unbounded.new.cursor.rest.now c.read_unbounded.new.cursor.line)
+    (sym c.made_unbounded.ensures) read

@@ -21,17 +21,20 @@ sections-preserved c =
     let put : c.push.new.self.items ≡ list ++ s ∷ [] = c.in_ok-push.ensures.items in
     record {
       counted = omega (arith, ap length put, length-append list (s ∷ []), counted);
-      read = one_more c.args.format c.args.outline.now list c.push.new.self.items s (c.from.result + 1) c.args.cursor.now.rest.now c.args.cursor.now.line c.sections.cursor.rest.now c.sections.cursor.line c.read_section.new.cursor.rest.now c.read_section.new.cursor.line
+      read = one_more c.args.format c.args.outline.now list c.push.new.self.items s
+          (c.from.result + 1) c.args.cursor.now.rest.now c.args.cursor.now.line c.sections.cursor.rest.now c.sections.cursor.line c.read_section.new.cursor.rest.now c.read_section.new.cursor.line
           c.sections.invariant.read c.in_ok-read_section.ensures.shown c.in_ok-read_section.ensures.format (omega (arith, counted, c.from.ensures)) put c.in_ok-read_section.ensures.read;
     }
 
 pub returns-in_err-read_section-clause-misfit : goal.returns-in_err-read_section-clause-misfit
 returns-in_err-read_section-clause-misfit c =
     let counted = c.sections.invariant.counted in
-    let here : IfErr c.from_residual.result (IfMisfit (IsSectionStop c.args.format c.args.outline.now (c.from.result + 1) c.sections.cursor.rest.now c.sections.cursor.line c.read_section.new.cursor.line)) = search rules in
+    let here : IfErr c.from_residual.result
+    (IfMisfit (IsSectionStop c.args.format c.args.outline.now (c.from.result + 1) c.sections.cursor.rest.now c.sections.cursor.line c.read_section.new.cursor.line)) = search rules in
     stop_map (IsSectionStop c.args.format c.args.outline.now (c.from.result + 1) c.sections.cursor.rest.now c.sections.cursor.line c.read_section.new.cursor.line)
     (IsListStop c.args.format c.args.outline.now c.args.count c.args.cursor.now.rest.now c.args.cursor.now.line c.read_section.new.cursor.line)
-    (λ s. next_stops c.args.format c.args.outline.now c.args.count c.sections.list.items (c.from.result + 1) c.args.cursor.now.rest.now c.args.cursor.now.line c.sections.cursor.rest.now c.sections.cursor.line c.read_section.new.cursor.line
+    (λ s. next_stops c.args.format c.args.outline.now c.args.count c.sections.list.items
+    (c.from.result + 1) c.args.cursor.now.rest.now c.args.cursor.now.line c.sections.cursor.rest.now c.sections.cursor.line c.read_section.new.cursor.line
     c.sections.invariant.read (omega (arith, counted, c.sections-test.true)) (omega (arith, counted, c.from.ensures)) s)
     c.from_residual.result here
 

@@ -1,4 +1,4 @@
--- One more node.
+-- One more node is shown if it is an atom with a variable below it.
 use Rattle.std.proofs.Common.{map, arith}
 use Rattle.dcx_cert_sections.specs.Outlines.{rows_shown}
 use Rattle.dcx_cert_outline.proofs.Rows.{atoms_more}

@@ -1,4 +1,4 @@
--- Those so far are shown.
+-- The parameters so far are shown by their names and shapes.
 use Rattle.std.proofs.Common.{◌≡◌, map, take}
 use Rattle.dcx_cert_sections.specs.Outlines.{shown}
 use Rattle.dcx_cert_outline.proofs.drawing.parameters_of.Given as goal

@@ -1,4 +1,4 @@
--- The shapes so far.
+-- The shapes are those of the constraints so far.
 use Rattle.std.proofs.Common.{◌≡◌, map, take}
 use Rattle.dcx_cert_outline.proofs.drawing.shapes_of.Given as goal
 

@@ -1,4 +1,4 @@
--- One more argument.
+-- One more argument has its array: it is there, and known where it is needed.
 use Rattle.std.proofs.Common.{◌∙◌, ◌+◌, ◌∷◌, [], Bool, length, get_or, slice_get, sym, ap, subst, arith, length-append}
 use Rattle.std.proofs.lemmas.Option.{none-some}
 use Rattle.dcx_arena.specs.Nodes.{positions}

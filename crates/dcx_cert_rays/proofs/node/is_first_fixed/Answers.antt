@@ -1,4 +1,4 @@
--- The first mark.
+-- The mark of the first argument tells whether it has a variable below it.
 use Rattle.dcx_cert_rays.proofs.Tables.{first_marked}
 use Rattle.dcx_cert_rays.proofs.node.is_first_fixed.Goals as goal
 

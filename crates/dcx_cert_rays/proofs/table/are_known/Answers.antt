@@ -14,4 +14,5 @@ loop-node-preserved c =
     (λ b. c.is_known.ensures c.if-not-is_known.false)
 
 pub returns : goal.returns
-returns c = λ t. all_known c.args.along.now.problem.now c.args.along.now.setting.now c.args.along.now.ray.now c.args.arrays.now c.args.nodes.now c.loop-node.node-index c.loop-node-test.false c.loop-node.invariant
+returns c = λ t. all_known c.args.along.now.problem.now c.args.along.now.setting.now c.args.along.now.ray.now c.args.arrays.now c.args.nodes.now c.loop-node.node-index c.loop-node-test.false
+    c.loop-node.invariant

@@ -51,7 +51,8 @@ loop-i-preserved c =
     elim c.if-index.branch [
       | then-index+in_ok-form_one w ↦
           subst (λ (xs : List (Option Array)). IsBelow p a.setting.now a.ray.now roots (c.loop-i.i + 1) xs) (ap (λ v. v.items) (sym w.arrays-is))
-          (below_more p a.setting.now a.ray.now roots c.loop-i.i c.loop-i.arrays.items w.form_one.new.arrays.items c.loop-i.invariant w.in_ok-form_one.ensures.kept w.in_ok-form_one.ensures.stays (λ r. w.in_ok-form_one.ensures.known))
+          (below_more p a.setting.now a.ray.now roots c.loop-i.i c.loop-i.arrays.items w.form_one.new.arrays.items c.loop-i.invariant w.in_ok-form_one.ensures.kept w.in_ok-form_one.ensures.stays
+          (λ r. w.in_ok-form_one.ensures.known))
       | else-index w ↦
           subst (λ (xs : List (Option Array)). IsBelow p a.setting.now a.ray.now roots (c.loop-i.i + 1) xs) (ap (λ v. v.items) (sym w.arrays-is))
           (below_more p a.setting.now a.ray.now roots c.loop-i.i c.loop-i.arrays.items c.loop-i.arrays.items c.loop-i.invariant c.loop-i.invariant.kept (λ k h. h)
@@ -61,7 +62,8 @@ loop-i-preserved c =
 pub returns-clause-known : goal.returns-clause-known
 returns-clause-known c =
     let a = c.args.along.now in
-    below_roots a.problem.now a.setting.now a.ray.now (positions c.args.roots.now) c.loop-i.i c.loop-i.arrays.items (omega (arith, c.loop-i-test.false, c.nodes-i-end.ensures.count)) c.requires.roots c.loop-i.invariant
+    below_roots a.problem.now a.setting.now a.ray.now (positions c.args.roots.now) c.loop-i.i c.loop-i.arrays.items
+    (omega (arith, c.loop-i-test.false, c.nodes-i-end.ensures.count)) c.requires.roots c.loop-i.invariant
 
 pub returns-clause-checked : goal.returns-clause-checked
 returns-clause-checked c =

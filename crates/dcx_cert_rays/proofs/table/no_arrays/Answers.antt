@@ -1,4 +1,4 @@
--- One more place.
+-- One more place of the table has no array.
 use Rattle.std.proofs.Common.{◌≡◌, ◌∙◌, ◌++◌, ◌∷◌, [], None, replicate, refl, ap, arith}
 use Rattle.dcx_cert_rays.proofs.Tables.{replicate_more}
 use Rattle.dcx_cert_rays.proofs.table.no_arrays.Goals as goal

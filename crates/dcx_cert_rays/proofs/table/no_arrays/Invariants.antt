@@ -1,4 +1,4 @@
--- So many places.
+-- There are so many places without an array as there were turns.
 use Rattle.std.proofs.Common.{◌≡◌, None, replicate}
 use Rattle.dcx_cert_rays.proofs.table.no_arrays.Given as goal
 

@@ -8,7 +8,8 @@ use Rattle.dcx_cert_runs.proofs.building.certificate.Goals as goal
 
 pub returns-in_ok-list-in-Ok-clause-mapped : goal.returns-in_ok-list-in-Ok-clause-mapped
 returns-in_ok-list-in-Ok-clause-mapped g c =
-    counts_mapped c.args.problem c.in-Ok.session.problem c.in-Ok.session.cached c.args.steps.now c.begin.new.steps c.sections-found.new.steps c.in-Ok.ensures.problem c.in-Ok.ensures.counted c.in-Ok.ensures.cached
+    counts_mapped c.args.problem c.in-Ok.session.problem c.in-Ok.session.cached c.args.steps.now c.begin.new.steps c.sections-found.new.steps c.in-Ok.ensures.problem c.in-Ok.ensures.counted
+    c.in-Ok.ensures.cached
     c.in_ok-list-in-Ok.ensures.counted
 
 pub returns-in_ok-list-in-Ok-clause-few : goal.returns-in_ok-list-in-Ok-clause-few
@@ -21,7 +22,8 @@ returns-in_err-list-in-Ok-clause-few g c =
 
 pub returns-in_ok-list-in-Ok-clause-anew : goal.returns-in_ok-list-in-Ok-clause-anew
 returns-in_ok-list-in-Ok-clause-anew g c =
-    counts_anew c.args.problem c.in-Ok.session.problem (length c.args.settings.now) c.args.steps.now c.begin.new.steps c.sections-found.new.steps c.in-Ok.ensures.problem c.begin.ensures.few c.in_ok-list-in-Ok.ensures.few
+    counts_anew c.args.problem c.in-Ok.session.problem (length c.args.settings.now) c.args.steps.now c.begin.new.steps c.sections-found.new.steps c.in-Ok.ensures.problem c.begin.ensures.few
+    c.in_ok-list-in-Ok.ensures.few
 
 pub returns-in_ok-list-in-Ok-clause-certificate : goal.returns-in_ok-list-in-Ok-clause-certificate
 returns-in_ok-list-in-Ok-clause-certificate g c = record {

@@ -17,8 +17,10 @@ loop-setting-preserved g c =
     let told = subst (λ (z : Problem). IsToldAt z c.args.limit c.setting-item.result c.in_ok-told.told.section c.in_ok-told.told.stopped) before.same c.in_ok-told.ensures.section in
     record {
       sections = subst (λ (z : List Section). AreSectionsAt p c.args.limit (take (c.loop-setting.setting-index + 1) c.args.settings.now) z) (sym c.in_ok-push.ensures.items)
-          (sections_step p c.args.limit c.args.settings.now c.loop-setting.setting-index c.setting-item.result (omega arith) c.setting-item.is c.loop-setting.list.items c.in_ok-told.told.section before.sections told.is_section);
-      flag = flag_step p c.args.limit c.args.settings.now c.loop-setting.setting-index c.setting-item.result (omega arith) c.setting-item.is c.loop-setting.stopped c.in_ok-told.told.stopped c.either-stopped.result before.flag told.flag c.either-stopped.ensures;
+          (sections_step p c.args.limit c.args.settings.now c.loop-setting.setting-index c.setting-item.result
+          (omega arith) c.setting-item.is c.loop-setting.list.items c.in_ok-told.told.section before.sections told.is_section);
+      flag = flag_step p c.args.limit c.args.settings.now c.loop-setting.setting-index c.setting-item.result
+          (omega arith) c.setting-item.is c.loop-setting.stopped c.in_ok-told.told.stopped c.either-stopped.result before.flag told.flag c.either-stopped.ensures;
       same = c.section.ensures.same ∙ before.same;
       counted = λ h. c.section.ensures.counted (subst (λ (z : Problem). HasMap z) (sym before.same) h) ∙ before.counted h;
       few = steps_more c.loop-setting.setting-index (length p.tree) c.args.steps.now c.loop-setting.steps c.section.new.steps before.few

@@ -14,8 +14,10 @@ pub loop-i-preserved : goal.loop-i-preserved
 loop-i-preserved c =
     let p = c.args.problem.now in
     record {
-      passed = below_next (λ s x. (section_check p s x).passes) c.args.settings.now c.args.list.now c.loop-i.i c.index-settings-i.result c.index-list-i.result c.index-settings-i.is c.index-list-i.is c.loop-i.invariant.passed c.in_default.ensures.checked;
-      shown = below_next (IsSectionShown p) c.args.settings.now c.args.list.now c.loop-i.i c.index-settings-i.result c.index-list-i.result c.index-settings-i.is c.index-list-i.is c.loop-i.invariant.shown c.in_default.ensures.shown;
+      passed = below_next (λ s x. (section_check p s x).passes) c.args.settings.now c.args.list.now c.loop-i.i c.index-settings-i.result c.index-list-i.result c.index-settings-i.is
+          c.index-list-i.is c.loop-i.invariant.passed c.in_default.ensures.checked;
+      shown = below_next (IsSectionShown p) c.args.settings.now c.args.list.now c.loop-i.i c.index-settings-i.result c.index-list-i.result c.index-settings-i.is c.index-list-i.is
+          c.loop-i.invariant.shown c.in_default.ensures.shown;
     }
 
 pub loop-i-init : goal.loop-i-init
@@ -42,10 +44,12 @@ returns-in-Err-clause-refused c =
     let s = c.index-settings-i.result in
     let x = c.index-list-i.result in
     let fails = subst (λ (r : Result (Unit {0}) CertFault). Checked (section_check p s x) r) c.in-Err.is c.check_section.ensures.checked in
-    refused_at p settings list i (i + 1) s x c.in-Err.fault refl (slice_get_read settings (length settings) i s refl (omega arith) c.index-settings-i.is) (slice_get_read list (length list) i x refl (omega arith) c.index-list-i.is) c.loop-i.invariant.passed fails
+    refused_at p settings list i (i + 1) s x c.in-Err.fault refl (slice_get_read settings (length settings) i s refl (omega arith) c.index-settings-i.is)
+    (slice_get_read list (length list) i x refl (omega arith) c.index-list-i.is) c.loop-i.invariant.passed fails
 
 pub returns-clause-passed : goal.returns-clause-passed
-returns-clause-passed c = record { count = c.requires.count; each = all_below (λ s x. (section_check c.args.problem.now s x).passes) c.args.settings.now c.args.list.now c.loop-i.i (omega arith) c.loop-i.invariant.passed }
+returns-clause-passed c =
+    record { count = c.requires.count; each = all_below (λ s x. (section_check c.args.problem.now s x).passes) c.args.settings.now c.args.list.now c.loop-i.i (omega arith) c.loop-i.invariant.passed }
 
 pub returns-clause-shown : goal.returns-clause-shown
 returns-clause-shown c = record { count = c.requires.count; each = all_below (IsSectionShown c.args.problem.now) c.args.settings.now c.args.list.now c.loop-i.i (omega arith) c.loop-i.invariant.shown }

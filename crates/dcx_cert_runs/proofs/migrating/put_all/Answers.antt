@@ -18,26 +18,30 @@ loop-section-init c =
 pub loop-section-preserved : goal.loop-section-preserved
 loop-section-preserved c =
     let xs = c.into_vec-section-items.result.items in
-    let turn = YieldsList-turn (YieldsList-from_vec {s = c.into_iter-section-iterator.result} xs (search rules) (search rules)) c.loop-section.yielded c.loop-section.section-iterator c.loop-section.yielded_by c.next.result c.next.new.self c.in-Some.section c.in-Some.is c.next.ensures.steps in
+    let turn = YieldsList-turn (YieldsList-from_vec {s = c.into_iter-section-iterator.result} xs (search rules) (search rules)) c.loop-section.yielded c.loop-section.section-iterator
+    c.loop-section.yielded_by c.next.result c.next.new.self c.in-Some.section c.in-Some.is c.next.ensures.steps in
     let before = c.loop-section.invariant in
     let at : c.len-i.result ≡ length c.loop-section.yielded = omega (arith, before.count) in
     rw length_push
     (subst (λ zs. AreMade (with_values c.args.problem.now) c.args.settings.now c.args.sections.list zs (length c.loop-section.yielded + 1)) (sym c.in_ok-push.ensures.items)
-    (made_step (with_values c.args.problem.now) c.args.settings.now c.args.sections.list c.loop-section.list.items (length c.loop-section.yielded) c.index-settings-i.result c.in-Some.section c.in_ok-with.with before
+    (made_step (with_values c.args.problem.now) c.args.settings.now c.args.sections.list c.loop-section.list.items
+    (length c.loop-section.yielded) c.index-settings-i.result c.in-Some.section c.in_ok-with.with before
     (c.index-settings-i.is ∙ ap (λ k. get_or c.args.settings.now k c.index-settings-i.result) at)
     (turn.1 ∙ ap (λ l. get_or l (length c.loop-section.yielded) c.in-Some.section) c.into_vec-section-items.ensures) c.in_ok-with.ensures))
 
 pub bounds-settings-i : goal.bounds-settings-i
 bounds-settings-i c =
     let xs = c.into_vec-section-items.result.items in
-    let turn = YieldsList-turn (YieldsList-from_vec {s = c.into_iter-section-iterator.result} xs (search rules) (search rules)) c.loop-section.yielded c.loop-section.section-iterator c.loop-section.yielded_by c.next.result c.next.new.self c.in-Some.section c.in-Some.is c.next.ensures.steps in
+    let turn = YieldsList-turn (YieldsList-from_vec {s = c.into_iter-section-iterator.result} xs (search rules) (search rules)) c.loop-section.yielded c.loop-section.section-iterator
+    c.loop-section.yielded_by c.next.result c.next.new.self c.in-Some.section c.in-Some.is c.next.ensures.steps in
     let same = ap length c.into_vec-section-items.ensures in
     omega (arith, c.loop-section.invariant.count, turn.0, same, c.requires.count)
 
 pub returns : goal.returns
 returns c =
     let xs = c.into_vec-section-items.result.items in
-    let end = YieldsList-end (YieldsList-from_vec {s = c.into_iter-section-iterator.result} xs (search rules) (search rules)) c.loop-section.yielded c.loop-section.section-iterator c.loop-section.yielded_by c.next.result c.next.new.self c.in-None.is c.next.ensures.steps in
+    let end = YieldsList-end (YieldsList-from_vec {s = c.into_iter-section-iterator.result} xs (search rules) (search rules)) c.loop-section.yielded c.loop-section.section-iterator
+    c.loop-section.yielded_by c.next.result c.next.new.self c.in-None.is c.next.ensures.steps in
     let all : length c.loop-section.yielded ≡ length c.args.sections.list = end.1 ∙ ap length c.into_vec-section-items.ensures in
     migrated c.args.problem.now c.args.settings.now c.args.sections (record { format = Two; list = c.loop-section.list.items }) refl
     (subst (AreMade (with_values c.args.problem.now) c.args.settings.now c.args.sections.list c.loop-section.list.items) all c.loop-section.invariant)

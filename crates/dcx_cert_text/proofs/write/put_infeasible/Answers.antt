@@ -16,4 +16,5 @@ returns c =
     let shown = flat_map dual_line (enumerate_from 1 c.args.duals.now) ++ (flat_map node_line c.args.weights.now ++ end_line) in
     let so_far = c.in_ok-put_number_line.ensures {u = tt} ∙ ap (λ o. o ++ gap) (c.in_ok-put_params.ensures {u = tt}) in
     IfOk-equal _ _ _ _ c.put_shown.ensures
-    (ap (λ o. o ++ shown) so_far ∙ three c.args.out.now.items params gap shown ∙ ap (λ t. c.args.out.now.items ++ t) (sym (infeasible_text c.args.duals.now c.args.gap c.args.weights.now c.args.params.now)))
+    (ap (λ o. o ++ shown) so_far ∙ three c.args.out.now.items params gap shown
+    ∙ ap (λ t. c.args.out.now.items ++ t) (sym (infeasible_text c.args.duals.now c.args.gap c.args.weights.now c.args.params.now)))

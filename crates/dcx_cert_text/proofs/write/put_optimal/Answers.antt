@@ -17,4 +17,5 @@ returns c =
     let shown = flat_map dual_line (enumerate_from 1 c.args.duals.now) ++ (flat_map node_line c.args.weights.now ++ end_line) in
     let so_far = c.in_ok-put_named_lines.ensures {u = tt} ∙ ap (λ o. o ++ point) (c.in_ok-put_number_line.ensures {u = tt} ∙ ap (λ o. o ++ value) (c.in_ok-put_params.ensures {u = tt})) in
     IfOk-equal _ _ _ _ c.put_shown.ensures
-    (ap (λ o. o ++ shown) so_far ∙ four c.args.out.now.items params value point shown ∙ ap (λ t. c.args.out.now.items ++ t) (sym (optimal_text c.args.value c.args.point.now c.args.duals.now c.args.weights.now c.args.params.now)))
+    (ap (λ o. o ++ shown) so_far ∙ four c.args.out.now.items params value point shown
+    ∙ ap (λ t. c.args.out.now.items ++ t) (sym (optimal_text c.args.value c.args.point.now c.args.duals.now c.args.weights.now c.args.params.now)))

@@ -6,7 +6,8 @@ use Rattle.dcx_cert_text.proofs.write.value_at.Goals as goal
 
 pub returns-in_err-array : goal.returns-in_err-array
 returns-in_err-array c =
-    absurd (not_missing c.args.setting.now c.args.i c.in_ok-name.name.now c.len.ensures.distinct (sym (c.in_ok-name.ensures {u = tt})) (sym c.get.ensures ∙ ap option_copied (c.in_err-array.was {u = tt})))
+    absurd (not_missing c.args.setting.now c.args.i c.in_ok-name.name.now c.len.ensures.distinct (sym (c.in_ok-name.ensures {u = tt}))
+    (sym c.get.ensures ∙ ap option_copied (c.in_err-array.was {u = tt})))
 
 pub returns : goal.returns
 returns c =

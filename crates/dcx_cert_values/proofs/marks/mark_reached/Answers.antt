@@ -42,9 +42,11 @@ loop-lowest-preserved c =
     record {
       count = c.loop-lowest.invariant.count;
       most = omega (arith, c.loop-lowest.invariant.most);
-      down = down_over c.args.tree.now c.requires.nodes c.args.arrays.now c.args.marks.now.items c.args.end n c.loop-lowest.at c.loop-lowest.lowest marks (omega (arith, c.loop-lowest-test.true)) free c.loop-lowest.invariant.down;
+      down = down_over c.args.tree.now c.requires.nodes c.args.arrays.now c.args.marks.now.items c.args.end n c.loop-lowest.at c.loop-lowest.lowest marks
+          (omega (arith, c.loop-lowest-test.true)) free c.loop-lowest.invariant.down;
     }
 
 pub returns-clause-marked : goal.returns-clause-marked
 returns-clause-marked c =
-    down_all c.args.tree.now c.requires.nodes c.args.arrays.now c.args.marks.now.items c.args.end c.loop-lowest.at c.loop-lowest.lowest c.loop-lowest.marks.items (omega (arith, c.loop-lowest-test.false)) c.loop-lowest.invariant.down
+    down_all c.args.tree.now c.requires.nodes c.args.arrays.now c.args.marks.now.items c.args.end c.loop-lowest.at c.loop-lowest.lowest c.loop-lowest.marks.items
+    (omega (arith, c.loop-lowest-test.false)) c.loop-lowest.invariant.down

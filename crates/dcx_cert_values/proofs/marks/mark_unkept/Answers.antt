@@ -29,10 +29,12 @@ loop-id-preserved c =
     elim c.if-not-is_kept.branch [
       | then-not-is_kept+then-id-lowest w ↦
           subst (λ low. At c.if-not-is_kept.marks.items low) (sym w.lowest-is) (subst (λ xs. At xs id) (sym (ap items w.marks-is))
-          (unkept_step arrays ids old now k c.loop-id.lowest c.loop-id-test.true c.requires.room c.loop-id.invariant (c.is_kept.ensures.none w.if-not-is_kept.true) id (let t = w.if-id-lowest.true in omega (arith, t)) (omega arith)))
+          (unkept_step arrays ids old now k c.loop-id.lowest c.loop-id-test.true c.requires.room c.loop-id.invariant (c.is_kept.ensures.none w.if-not-is_kept.true) id
+          (let t = w.if-id-lowest.true in omega (arith, t)) (omega arith)))
       | then-not-is_kept+else-id-lowest w ↦
           subst (λ low. At c.if-not-is_kept.marks.items low) (sym w.lowest-is) (subst (λ xs. At xs c.loop-id.lowest) (sym (ap items w.marks-is))
-          (unkept_step arrays ids old now k c.loop-id.lowest c.loop-id-test.true c.requires.room c.loop-id.invariant (c.is_kept.ensures.none w.if-not-is_kept.true) c.loop-id.lowest (omega arith) (let t = w.if-id-lowest.false in omega (arith, t))))
+          (unkept_step arrays ids old now k c.loop-id.lowest c.loop-id-test.true c.requires.room c.loop-id.invariant (c.is_kept.ensures.none w.if-not-is_kept.true) c.loop-id.lowest (omega arith)
+          (let t = w.if-id-lowest.false in omega (arith, t))))
       | else-not-is_kept w ↦
           subst (λ low. At c.if-not-is_kept.marks.items low) (sym w.lowest-is) (subst (λ xs. At xs c.loop-id.lowest) (sym (ap items w.marks-is))
           (kept_step arrays ids old now k c.loop-id.lowest c.loop-id-test.true c.requires.room c.loop-id.invariant (c.is_kept.ensures.kept w.if-not-is_kept.false)))

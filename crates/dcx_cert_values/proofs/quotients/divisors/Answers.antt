@@ -56,14 +56,16 @@ returns-in_err-step-clause-checked c =
     let r = err_from_is_err_and c.from_residual-in_err-step.result c.from_residual-in_err-step.ensures.1 in
     let lt : c.loop-i.i < length c.args.problem.now.tree = omega (arith, c.loop-i-test.true, c.nodes-i-end.ensures.count) in
     rw (r.1, r.2)
-    (first_failing c.args.problem.now c.args.setting.now c.in_ok-marks.marks.items c.args.values.now c.loop-i.invariant.below c.loop-i.i c.loop-i.values c.loop-i.invariant.passed _ lt c.in_err-step.ensures.checked)
+    (first_failing c.args.problem.now c.args.setting.now c.in_ok-marks.marks.items c.args.values.now c.loop-i.invariant.below c.loop-i.i c.loop-i.values c.loop-i.invariant.passed _ lt
+    c.in_err-step.ensures.checked)
 
 pub loop-i-preserved : goal.loop-i-preserved
 loop-i-preserved c =
     let i = c.loop-i.i in
     record {
       below = c.loop-i.invariant.below;
-      passed = passed_more c.args.problem.now c.args.setting.now c.in_ok-marks.marks.items c.args.values.now c.loop-i.invariant.below i c.loop-i.values c.loop-i.invariant.passed c.step.new.values c.step.ensures.values c.step.ensures.stays
+      passed = passed_more c.args.problem.now c.args.setting.now c.in_ok-marks.marks.items c.args.values.now c.loop-i.invariant.below i c.loop-i.values c.loop-i.invariant.passed c.step.new.values
+          c.step.ensures.values c.step.ensures.stays
           (λ m. c.in_ok-step.ensures.kept (c.is_marked-is_below.ensures ∙ ap (λ (xs : List Bool). get_or xs i false) c.deref.ensures.value ∙ m)) c.in_ok-step.ensures.checked;
     }
 

@@ -10,4 +10,5 @@ pub returns-in-Some : goal.returns-in-Some
 returns-in-Some c =
     let d = c.in-Some.divisor.0 in
     tested c.args.problem.now c.args.setting.now c.args.values.now c.requires.values c.args.node.0 d c.size.result c.kept_value.result.now c.test_divisor.result (sym c.in-Some.ensures)
-    (subst (λ (xs : List (Option Array)). array_at xs d ≡ Some c.kept_value.result.now) c.as_slice.ensures c.kept_value.ensures) (c.size.ensures.value ∙ ap entries_of c.shape.ensures) c.test_divisor.ensures
+    (subst (λ (xs : List (Option Array)). array_at xs d ≡ Some c.kept_value.result.now) c.as_slice.ensures c.kept_value.ensures)
+    (c.size.ensures.value ∙ ap entries_of c.shape.ensures) c.test_divisor.ensures

@@ -7,6 +7,7 @@ use Rattle.dcx_tab.specs.Pivot.{turned, eliminated, IsRowFormed}
 use Rattle.dcx_tab.proofs.LineSteps.{turned-positive}
 use Rattle.dcx_tab.proofs.Pivots.{turns}
 use Rattle.dcx_links.specs.Matrix.{Matrix, listed, number_at, row_of}
+use Rattle.dcx_chained.specs.NewRow.{AreListed}
 use Rattle.dcx_chained.specs.Narrow.{IsNarrow}
 use Rattle.dcx_chained.proofs.Counts.{some_count, some_count-less}
 use Rattle.dcx_chained.proofs.RowReads.{length-row_of, entry-row_of, number_of_row}
@@ -22,12 +23,6 @@ rows-init c = record { height = refl; width = refl; pivot = refl; rows = λ i lt
 
 pub other_row-requires : goal.other_row-requires
 other_row-requires c = let w = c.rows.invariant.width in let h = c.requires.column in omega (arith, w, h)
-
-pub clear_row-is_narrow-requires-clause-pivot_row : goal.clear_row-is_narrow-requires-clause-pivot_row
-clear_row-is_narrow-requires-clause-pivot_row c = let w = c.rows.invariant.height in let h = c.requires.pivot_row in omega (arith, w, h)
-
-pub clear_row-is_narrow-requires-clause-column : goal.clear_row-is_narrow-requires-clause-column
-clear_row-is_narrow-requires-clause-column c = let w = c.rows.invariant.width in let h = c.requires.column in omega (arith, w, h)
 
 pub clear_row-is_narrow-requires-clause-some : goal.clear_row-is_narrow-requires-clause-some
 clear_row-is_narrow-requires-clause-some c = subst (λ (w : Row). entry w c.args.column ≢ pos 0) (sym c.rows.invariant.pivot) c.requires.some
@@ -70,10 +65,17 @@ clear_row-is_narrow-requires-clause-factors c =
     let f : SFits w128 c.get-pivot.result = search rules in
     let g : SFits w128 c.in-Some.met.value = search rules in
     let p : entry (row_of c.rows.links c.args.r) c.args.column ≡ c.get-pivot.result = ap (λ (w : Row). entry w c.args.column) v.pivot ∙ entry-row_of m c.args.r c.args.column c.requires.column ∙ sym c.get-pivot.ensures in
-    (simp to_z-of_z at c.factors_of-factors.ensures) c.args.column (row_of c.rows.links c.args.r) (row_of c.rows.links c.in-Some.met.at) p n.met
+    (simp to_z-of_z at c.factors_of-factors.ensures.clears) c.args.column (row_of c.rows.links c.args.r) (row_of c.rows.links c.in-Some.met.at) p n.met
 
-pub clear_row-is_narrow-requires-clause-room : goal.clear_row-is_narrow-requires-clause-room
-clear_row-is_narrow-requires-clause-room c = let w = c.rows.invariant.width in let h = c.requires.room in let l = c.rows.auto.entries in omega (arith, w, h, l)
+pub clear_row-is_narrow-requires-clause-factor : goal.clear_row-is_narrow-requires-clause-factor
+clear_row-is_narrow-requires-clause-factor c = c.factors_of-factors.ensures.some
+
+pub clear_row-is_narrow-requires-clause-listed : goal.clear_row-is_narrow-requires-clause-listed
+clear_row-is_narrow-requires-clause-listed c =
+    let v = c.rows.invariant in
+    let es = c.list_row-count.new.to in
+    let n = c.list_row-count.result in
+    subst (λ (w : Row). AreListed w c.rows.links.width es n) (sym v.pivot) (subst (λ k. AreListed (row_of c.args.links.now c.args.r) k es n) (sym v.width) c.list_row-count.ensures.listed)
 
 pub clear_row-is_narrow-requires-clause-formed : goal.clear_row-is_narrow-requires-clause-formed
 clear_row-is_narrow-requires-clause-formed c =

@@ -1,4 +1,4 @@
--- A list of pivots has one answer.
+-- Both tableaus answer a list of pivots alike: there is one answer to it.
 use Rattle.dcx_tab.specs.Views.{table_of as dense_table}
 use Rattle.dcx_chained.specs.Tables.{table_of as chained_table}
 use Rattle.dcx_chained.proofs.Agreements.{one_list}

@@ -58,7 +58,7 @@ wide_in_row-requires-clause-factors c =
     let g : SFits w128 c.in-Some.met.value = search rules in
     let p : entry (row_of m c.args.r) c.args.column ≡ c.get-pivot.result = entry-row_of m c.args.r c.args.column c.requires.column ∙ sym c.get-pivot.ensures in
     let a = met_is m c.args.column c.rows.walk c.in-Some.met v.numbers c.requires.column s.0 in
-    (simp to_z-of_z at c.factors_of-factors.ensures) c.args.column (row_of m c.args.r) (row_of m c.in-Some.met.at) p a
+    (simp to_z-of_z at c.factors_of-factors.ensures.clears) c.args.column (row_of m c.args.r) (row_of m c.in-Some.met.at) p a
 
 pub wide_in_row-requires-clause-row : goal.wide_in_row-requires-clause-row
 wide_in_row-requires-clause-row c =

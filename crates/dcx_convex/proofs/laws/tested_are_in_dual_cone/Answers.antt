@@ -1,4 +1,4 @@
--- The test is right.
+-- What may reach a variable is in the dual cone of its attribute.
 use Rattle.dcx_convex.proofs.LawsHold.{tested_are_in_dual_cone}
 use Rattle.dcx_convex.proofs.laws.tested_are_in_dual_cone.Goals as goal
 

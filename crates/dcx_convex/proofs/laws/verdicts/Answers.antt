@@ -1,4 +1,4 @@
--- The rules compute.
+-- The rules give each example its verdict.
 use Rattle.dcx_convex.proofs.LawsHold.{verdicts}
 use Rattle.dcx_convex.proofs.laws.verdicts.Goals as goal
 

@@ -15,7 +15,11 @@ returns-in-Some-clause-first c = record {
 }
 
 pub returns-in-Some-clause-inside : goal.returns-in-Some-clause-inside
-returns-in-Some-clause-inside c = ((λ e. absurd (true≢false e)), (λ h. absurd (true≢false (c.in-Some.ensures.inside.1 (subst (λ (v : Variable). IsInside v c.args.point.now) (sym c.index-variables-k.is) (h c.loop-k.k c.index-variables-k.result c.loop-k-test.true))))))
+returns-in-Some-clause-inside c = (
+  (λ e. absurd (true≢false e)),
+  (λ h. absurd (true≢false (c.in-Some.ensures.inside.1
+      (subst (λ (v : Variable). IsInside v c.args.point.now) (sym c.index-variables-k.is) (h c.loop-k.k c.index-variables-k.result c.loop-k-test.true))))),
+)
 
 pub loop-k-preserved : goal.loop-k-preserved
 loop-k-preserved c =

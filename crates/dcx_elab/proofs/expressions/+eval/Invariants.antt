@@ -20,7 +20,8 @@ invariant-additions-loop-added l =
 
 abbrev pub invariant-scalings-loop-scaled : goal.invariant-scalings-loop-scaled
 invariant-scalings-loop-scaled l =
-    scaled_means (chained (map scaled_view l.fn.rest) no_scaling) (meant l.fn.first) l.fn.state ≡ scaled_means (chained (map scaled_view (drop l.scaled-index l.rest)) no_scaling) (meant l.value) l.state
+    scaled_means (chained (map scaled_view l.fn.rest) no_scaling) (meant l.fn.first) l.fn.state
+    ≡ scaled_means (chained (map scaled_view (drop l.scaled-index l.rest)) no_scaling) (meant l.value) l.state
 
 abbrev pub invariant-trailers-loop-at : goal.invariant-trailers-loop-at
 invariant-trailers-loop-at l =
@@ -32,11 +33,13 @@ decreases-trailers-loop-at l = length l.all - l.at
 
 abbrev pub invariant-arguments_given-loop-arg : goal.invariant-arguments_given-loop-arg
 invariant-arguments_given-loop-arg l =
-    (comma : Bool) → args_mean l.solving (args_of (map arg_view l.fn.args) comma) l.fn.state ≡ go_on (map given_seen l.given.items) (more_args_mean l.solving (args_from l.args l.arg-index comma) l.state)
+    (comma : Bool) → args_mean l.solving (args_of (map arg_view l.fn.args) comma) l.fn.state
+    ≡ go_on (map given_seen l.given.items) (more_args_mean l.solving (args_from l.args l.arg-index comma) l.state)
 
 abbrev pub invariant-indices_given-loop-index : goal.invariant-indices_given-loop-index
 invariant-indices_given-loop-index l =
-    and_then (indices_mean (indices_of (map index_view l.fn.others)) l.fn.state) (λ is. done (evaluated l.fn.first ∷ is)) ≡ go_on (map evaluated l.indices.items) (indices_mean (indices_from l.others l.index-index) l.state)
+    and_then (indices_mean (indices_of (map index_view l.fn.others)) l.fn.state) (λ is. done (evaluated l.fn.first ∷ is))
+    ≡ go_on (map evaluated l.indices.items) (indices_mean (indices_from l.others l.index-index) l.state)
 
 abbrev pub invariant-items-loop-tree : goal.invariant-items-loop-tree
 invariant-items-loop-tree l =

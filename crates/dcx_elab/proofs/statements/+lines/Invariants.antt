@@ -11,4 +11,6 @@ invariant-lines-loop-tree l = lines_mean (lines_from l.fn.trees 0) l.fn.state �
 
 abbrev pub invariant-line-loop-k : goal.invariant-line-loop-k
 invariant-line-loop-k l =
-    (line_means (line_view l.fn.tree) l.fn.state ≡ turns_from l.name.name (line_view l.first.value) (lines_of (map line_view l.rest.items)) (through_seen l.initial.through) l.k l.state) × (l.through ≡ l.initial.through)
+    (line_means (line_view l.fn.tree) l.fn.state
+    ≡ turns_from l.name.name (line_view l.first.value) (lines_of (map line_view l.rest.items)) (through_seen l.initial.through) l.k l.state)
+    × (l.through ≡ l.initial.through)

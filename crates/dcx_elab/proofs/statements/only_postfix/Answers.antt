@@ -7,19 +7,22 @@ pub returns-then-not-is_empty : goal.returns-then-not-is_empty
 returns-then-not-is_empty c =
     let e = c.args.tree.now in
     let some = none-vec (compared_of e) c.is_empty.result c.is_empty.ensures ∙ c.if-not-is_empty.true in
-    sym (no-postfix e (and_then_false (has_none (signs_of e)) _ (and_then_false (has_none (raised_of e).items) _ (and_then_false (has_none (scaled_of e).items) _ (and_then_false (has_none (added_of e).items) _ some)))))
+    sym (no-postfix e (and_then_false (has_none (signs_of e)) _
+    (and_then_false (has_none (raised_of e).items) _ (and_then_false (has_none (scaled_of e).items) _ (and_then_false (has_none (added_of e).items) _ some)))))
 
 pub returns-then-not-is_empty-2 : goal.returns-then-not-is_empty-2
 returns-then-not-is_empty-2 c =
     let e = c.args.tree.now in
     let some = none-vec (added_of e) c.is_empty-2.result c.is_empty-2.ensures ∙ c.if-not-is_empty-2.true in
-    sym (no-postfix e (and_then_false (has_none (signs_of e)) _ (and_then_false (has_none (raised_of e).items) _ (and_then_false (has_none (scaled_of e).items) _ (ap (λ b. b && has_none (compared_of e).items) some)))))
+    sym (no-postfix e (and_then_false (has_none (signs_of e)) _
+    (and_then_false (has_none (raised_of e).items) _ (and_then_false (has_none (scaled_of e).items) _ (ap (λ b. b && has_none (compared_of e).items) some)))))
 
 pub returns-then-not-is_empty-3 : goal.returns-then-not-is_empty-3
 returns-then-not-is_empty-3 c =
     let e = c.args.tree.now in
     let some = none-vec (scaled_of e) c.is_empty-3.result c.is_empty-3.ensures ∙ c.if-not-is_empty-3.true in
-    sym (no-postfix e (and_then_false (has_none (signs_of e)) _ (and_then_false (has_none (raised_of e).items) _ (ap (λ b. b && (has_none (added_of e).items && has_none (compared_of e).items)) some))))
+    sym (no-postfix e (and_then_false (has_none (signs_of e)) _
+    (and_then_false (has_none (raised_of e).items) _ (ap (λ b. b && (has_none (added_of e).items && has_none (compared_of e).items)) some))))
 
 pub returns-then-not-is_empty-5 : goal.returns-then-not-is_empty-5
 returns-then-not-is_empty-5 c =

@@ -18,5 +18,14 @@ returns c =
     let asking = c.in_ok-asking.ensures in
     let s = c.lines.new.state in
     let ls = script_view c.args.script.now in
-    let means : lines_mean ls c.new-state.result ≡ Ok (tt, s) = subst (λ (xs : List code_line.Line). lines_mean (lines_of (map line_view xs)) c.new-state.result ≡ Ok (tt, s)) c.deref.ensures.value c.in_ok-lines.ensures in
-    (s, (asking.0, (asked-means ls s asking.0 (ap (lines_mean ls) (sym c.new-state.ensures) ∙ means) asking.1, record { problem = asking.2.problem; events = c.from_vec.ensures ∙ asking.2.events; last = asking.2.last })))
+    let means : lines_mean ls c.new-state.result ≡ Ok (tt, s) =
+    subst (λ (xs : List code_line.Line). lines_mean (lines_of (map line_view xs)) c.new-state.result ≡ Ok (tt, s)) c.deref.ensures.value c.in_ok-lines.ensures in (
+      s,
+      (
+        asking.0,
+        (
+          asked-means ls s asking.0 (ap (lines_mean ls) (sym c.new-state.ensures) ∙ means) asking.1,
+          record { problem = asking.2.problem; events = c.from_vec.ensures ∙ asking.2.events; last = asking.2.last },
+        ),
+      ),
+    )

@@ -13,7 +13,8 @@ returns c =
     let place = c.args.place in
     let args = c.args.args.now in
     let x = c.index-args-0.result in
-    let here = entry_is args 0 place x c.as_slice.result.now c.index-as_slice-place.result c.requires.places c.requires.some c.index-args-0.is (c.as_slice.ensures ∙ ap (λ (z : Array). z.entries) (sym c.index-args-0.is)) c.index-as_slice-place.is in
+    let here = entry_is args 0 place x c.as_slice.result.now c.index-as_slice-place.result c.requires.places c.requires.some c.index-args-0.is
+    (c.as_slice.ensures ∙ ap (λ (z : Array). z.entries) (sym c.index-args-0.is)) c.index-as_slice-place.is in
     c.farthest.ensures
     ∙ ap (λ zs. extreme_from c.args.bend (value c.index-as_slice-place.result) (map (λ z. number_at z.entries place) zs)) c.others.ensures
     ∙ ap (λ y. extreme_from c.args.bend y (map (λ z. number_at z.entries place) (drop 1 args))) here

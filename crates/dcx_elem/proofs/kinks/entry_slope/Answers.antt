@@ -17,7 +17,8 @@ returns-in_err-check_total-clause-stop c =
     let p = err_from_is_err_and c.from_residual.result c.from_residual.ensures.1 in
     let ws = c.args.weights.now in
     let same : map value ws ≡ list_below (kink_rows c.args.kink) (number_at ws) = sym (list_below-numbers ws) ∙ ap (λ n. list_below n (number_at ws)) c.requires in
-    rw (p.1, p.2) (sym (first_stop-stopped c.args.entry (total_steps Nonneg (value c.args.coefficient) (list_below (kink_rows c.args.kink) (number_at ws))) (form (kink_slope c.args.kink (number_at ws)) ∷ []) _
+    rw (p.1, p.2) (sym (first_stop-stopped c.args.entry (total_steps Nonneg (value c.args.coefficient) (list_below (kink_rows c.args.kink) (number_at ws)))
+    (form (kink_slope c.args.kink (number_at ws)) ∷ []) _
     (ap (λ xs. first_stop c.args.entry (total_steps Nonneg (value c.args.coefficient) xs)) (sym same) ∙ sym c.in_err-check_total.ensures)))
 
 pub returns-in-Err-clause-stop : goal.returns-in-Err-clause-stop

@@ -10,6 +10,7 @@ use Rattle.dcx_elem.proofs.kinks.kink_slopes.Given as goal
 
 abbrev pub invariant-loop-entry : goal.invariant-loop-entry
 invariant-loop-entry l = record {
-  stops : (k : ℕ) → k < l.entry → entry_stop (kink_meaning l.kink) (sides_of l.fn.shape ∷ []) (number_at l.coefficients) (weights_of (kink_meaning l.kink) (sides_of l.fn.shape ∷ []) l.weights) k ≡ None;
+  stops : (k : ℕ) → k < l.entry
+      → entry_stop (kink_meaning l.kink) (sides_of l.fn.shape ∷ []) (number_at l.coefficients) (weights_of (kink_meaning l.kink) (sides_of l.fn.shape ∷ []) l.weights) k ≡ None;
   slopes : map value l.slopes.items ≡ list_below l.entry (λ e. exact (kink_slope l.kink (weights_of (kink_meaning l.kink) (sides_of l.fn.shape ∷ []) l.weights e)));
 }

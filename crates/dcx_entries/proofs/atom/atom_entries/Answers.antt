@@ -1,3 +1,4 @@
+-- Each entry takes its own rows from those that are left, and is formed or stops as the graph's meaning says.
 use Rattle.std.proofs.Common.{◌≡◌, ◌+◌, ◌≤◌, [], Ok, Err, take, drop, length, get_or, slice_index_or, sym, ap, ◌∙◌, subst, arith}
 use Rattle.std.specs.List.{All}
 use Rattle.std.proofs.lemmas.List.Elements.{All-take, All-drop}
@@ -16,7 +17,8 @@ entries-init g c =
       zero = c.new-sum.ensures;
       there = subst (λ rs. All (RowIsThere c.args.first) rs) (sym c.as_slice-rows.ensures) c.requires.there;
       left = λ m sides is. subst (λ rs. AreLeft (m.rows sides) 0 c.args.size rs) (sym c.as_slice-rows.ensures) (all_left (m.rows sides) c.args.size c.args.graph.now.rows is.rows);
-      formed = λ m sides is. subst (λ es. FormsEach (AtomGives t.of_number t.number_of t.sum_gives t.change_gives (args_of t.of_number c.args.args.now) c.args.first m sides) 0 (Ok es)) (sym c.new-entries.ensures.items)
+      formed = λ m sides is. subst (λ es. FormsEach (AtomGives t.of_number t.number_of t.sum_gives t.change_gives (args_of t.of_number c.args.args.now) c.args.first m sides) 0 (Ok es))
+          (sym c.new-entries.ensures.items)
           (each_none (AtomGives t.of_number t.number_of t.sum_gives t.change_gives (args_of t.of_number c.args.args.now) c.args.first m sides));
     }
 
@@ -24,12 +26,14 @@ pub returns-in-Err : goal.returns-in-Err
 returns-in-Err g c m sides is =
     let t = g.C.Coef in
     let many : length c.as_slice-results.result.now ≡ c.args.size = ap length c.as_slice-results.ensures ∙ c.requires.size in
-    let at = ap (λ l. slice_index_or l c.entries.j []) (sym c.as_slice-results.ensures) ∙ at_index c.as_slice-results.result.now c.entries.j c.index-results-j.result [] (omega (arith, many)) c.index-results-j.is ∙ sym c.as_slice.ensures in
+    let at = ap (λ l. slice_index_or l c.entries.j []) (sym c.as_slice-results.ensures)
+    ∙ at_index c.as_slice-results.result.now c.entries.j c.index-results-j.result [] (omega (arith, many)) c.index-results-j.is ∙ sym c.as_slice.ensures in
     let own = c.split_at.ensures.front ∙ ap (λ n. take n c.entries.rows.now) c.own_rows.ensures in
     subst (λ s. OnStop s (λ e. FormsEach (AtomGives t.of_number t.number_of t.sum_gives t.change_gives (args_of t.of_number c.args.args.now) c.args.first m sides) c.args.size (Err e)))
     (sym c.stop_at.ensures)
     (atom_stops t.of_number t.number_of t.sum_gives t.change_gives (args_of t.of_number c.args.args.now) c.args.first m sides c.args.size c.args.graph.now is c.requires.size c.entries.j (omega arith)
-    c.entries.rows.now (c.entries.invariant.left m sides is) c.as_slice.result.now at c.split_at.result.0.now own c.entries.entries.items c.in-Err.stop (c.entries.invariant.formed m sides is) c.in-Err.ensures.entry)
+    c.entries.rows.now (c.entries.invariant.left m sides is) c.as_slice.result.now at c.split_at.result.0.now own c.entries.entries.items c.in-Err.stop
+    (c.entries.invariant.formed m sides is) c.in-Err.ensures.entry)
 
 pub split_at-requires : goal.split_at-requires
 split_at-requires g c = subst (λ n. n ≤ length c.entries.rows.now) (sym c.own_rows.ensures) (own_count_le c.entries.j c.entries.rows.now)
@@ -51,7 +55,8 @@ pub entries-preserved : goal.entries-preserved
 entries-preserved g c =
     let t = g.C.Coef in
     let many : length c.as_slice-results.result.now ≡ c.args.size = ap length c.as_slice-results.ensures ∙ c.requires.size in
-    let at = ap (λ l. slice_index_or l c.entries.j []) (sym c.as_slice-results.ensures) ∙ at_index c.as_slice-results.result.now c.entries.j c.index-results-j.result [] (omega (arith, many)) c.index-results-j.is ∙ sym c.as_slice.ensures in
+    let at = ap (λ l. slice_index_or l c.entries.j []) (sym c.as_slice-results.ensures)
+    ∙ at_index c.as_slice-results.result.now c.entries.j c.index-results-j.result [] (omega (arith, many)) c.index-results-j.is ∙ sym c.as_slice.ensures in
     let own = c.split_at.ensures.front ∙ ap (λ n. take n c.entries.rows.now) c.own_rows.ensures in
     record {
       zero = c.in-Ok.ensures.zero;
@@ -61,8 +66,10 @@ entries-preserved g c =
           (own_then_left (m.rows sides) c.entries.j c.args.size c.entries.rows.now (omega arith) (c.entries.invariant.left m sides is)).left;
       formed = λ m sides is. subst (λ es. FormsEach (AtomGives t.of_number t.number_of t.sum_gives t.change_gives (args_of t.of_number c.args.args.now) c.args.first m sides) (c.entries.j + 1) (Ok es))
           (sym c.in_ok-push_entry-in-Ok.ensures.ok)
-          (atom_more t.of_number t.number_of t.sum_gives t.change_gives (args_of t.of_number c.args.args.now) c.args.first m sides c.args.size c.args.graph.now is c.requires.size c.entries.j (omega arith)
-          c.entries.rows.now (c.entries.invariant.left m sides is) c.as_slice.result.now at c.split_at.result.0.now own c.entries.entries.items c.in-Ok.entry (c.entries.invariant.formed m sides is) c.in-Ok.ensures.entry);
+          (atom_more t.of_number t.number_of t.sum_gives t.change_gives (args_of t.of_number c.args.args.now) c.args.first m sides c.args.size c.args.graph.now is c.requires.size c.entries.j
+          (omega arith)
+          c.entries.rows.now (c.entries.invariant.left m sides is) c.as_slice.result.now at c.split_at.result.0.now own c.entries.entries.items c.in-Ok.entry
+          (c.entries.invariant.formed m sides is) c.in-Ok.ensures.entry);
     }
 
 pub returns : goal.returns
@@ -70,4 +77,5 @@ returns g c m sides is =
     let t = g.C.Coef in
     let all : c.entries.j ≡ c.args.size = omega (arith, c.entries.auto.j-end) in
     subst (λ es. FormsEach (AtomGives t.of_number t.number_of t.sum_gives t.change_gives (args_of t.of_number c.args.args.now) c.args.first m sides) c.args.size (Ok es)) (sym c.from_vec.ensures)
-    (subst (λ n. FormsEach (AtomGives t.of_number t.number_of t.sum_gives t.change_gives (args_of t.of_number c.args.args.now) c.args.first m sides) n (Ok c.entries.entries.items)) all (c.entries.invariant.formed m sides is))
+    (subst (λ n. FormsEach (AtomGives t.of_number t.number_of t.sum_gives t.change_gives (args_of t.of_number c.args.args.now) c.args.first m sides) n (Ok c.entries.entries.items)) all
+    (c.entries.invariant.formed m sides is))

@@ -20,5 +20,6 @@ invariant-entries g l =
       there : All (RowIsThere l.first) l.rows;
       left : (m : Meaning) (sides : List Sides) → IsGraphOf m sides l.size l.graph → AreLeft (m.rows sides) l.j l.size l.rows;
       formed : (m : Meaning) (sides : List Sides) → IsGraphOf m sides l.size l.graph →
-          FormsEach (λ j. AtEntry j (AtomEntry t.of_number t.number_of t.sum_gives t.change_gives (map (aux_part t.of_number l.first) (m.result sides j)) (map (λ row. map (row_part t.of_number (args_of t.of_number l.args) l.first) row) (m.rows sides j)))) l.j (Ok l.entries.items);
+          FormsEach (λ j. AtEntry j (AtomEntry t.of_number t.number_of t.sum_gives t.change_gives (map (aux_part t.of_number l.first) (m.result sides j))
+          (map (λ row. map (row_part t.of_number (args_of t.of_number l.args) l.first) row) (m.rows sides j)))) l.j (Ok l.entries.items);
     }

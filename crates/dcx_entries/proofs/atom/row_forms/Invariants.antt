@@ -12,5 +12,6 @@ invariant-rows g l =
     let t = g.C.Coef in
     record {
       zero : l.sum ≡ zero_form t.of_number;
-      formed : FormsEach (λ k. sums_parts t.of_number t.number_of t.sum_gives t.change_gives (slice_index_or (map (λ r. map (row_part t.of_number (args_of t.of_number l.args) l.first) (map row_term r.terms)) l.rows) k [])) l.row-index (Ok l.forms.items);
+      formed : FormsEach (λ k. sums_parts t.of_number t.number_of t.sum_gives t.change_gives
+          (slice_index_or (map (λ r. map (row_part t.of_number (args_of t.of_number l.args) l.first) (map row_term r.terms)) l.rows) k [])) l.row-index (Ok l.forms.items);
     }

@@ -1,3 +1,4 @@
+-- The form of an entry starts from 0 and adds its terms, and so it is worth their sum.
 use Rattle.std.proofs.Common.{Ok, map, refl, ap, ◌∙◌}
 use Rattle.dcx_atom.specs.Formed.{zero_frac}
 use Rattle.dcx_atom.specs.Linear.{linear_term}

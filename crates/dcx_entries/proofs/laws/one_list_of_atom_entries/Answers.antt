@@ -1,3 +1,4 @@
+-- An atom's entries have one list of forms and rows, or one stop.
 use Rattle.dcx_entries.proofs.OneAnswer.{one_atom_entries}
 use Rattle.dcx_entries.proofs.laws.one_list_of_atom_entries.Goals as goal
 

@@ -1,3 +1,4 @@
+-- A linear call's entries have one list of forms, or one stop.
 use Rattle.dcx_entries.proofs.OneAnswer.{one_linear_entries}
 use Rattle.dcx_entries.proofs.laws.one_list_of_linear_entries.Goals as goal
 

@@ -1,3 +1,4 @@
+-- The entries of a product or a quotient have one list of forms, or one stop.
 use Rattle.dcx_entries.proofs.OneAnswer.{one_pair_entries}
 use Rattle.dcx_entries.proofs.laws.one_list_of_pair_entries.Goals as goal
 

@@ -12,5 +12,6 @@ invariant-entries g l =
     let t = g.C.Coef in
     record {
       zero : l.sum ≡ zero_form t.of_number;
-      formed : FormsEach (λ j. AtEntry j (LinearEntry t.of_number t.number_of t.sum_gives t.change_gives (map (term_part (args_of t.of_number l.args)) (map linear_term (slice_index_or l.terms j []))))) l.j (Ok l.entries.items);
+      formed : FormsEach (λ j. AtEntry j (LinearEntry t.of_number t.number_of t.sum_gives t.change_gives
+          (map (term_part (args_of t.of_number l.args)) (map linear_term (slice_index_or l.terms j []))))) l.j (Ok l.entries.items);
     }

@@ -1,3 +1,4 @@
+-- The entry is the sum of its terms from 0 on, with no rows.
 use Rattle.std.proofs.Common.{Ok, map, ap, ◌∙◌, subst}
 use Rattle.dcx_atom.specs.Linear.{linear_term}
 use Rattle.dcx_linear.specs.Parts.{adds_parts}
@@ -10,6 +11,7 @@ pub returns-clause-entry : goal.returns-clause-entry
 returns-clause-entry g c =
     let t = g.C.Coef in (
       c.add_terms.new.sum,
-      subst (λ f. adds_parts t.number_of t.sum_gives t.change_gives (map (term_part (args_of t.of_number c.args.args.now)) (map linear_term c.args.terms.now)) f (Ok c.add_terms.new.sum)) c.requires c.in_ok-add_terms.ensures,
+      subst (λ f. adds_parts t.number_of t.sum_gives t.change_gives (map (term_part (args_of t.of_number c.args.args.now)) (map linear_term c.args.terms.now)) f (Ok c.add_terms.new.sum)) c.requires
+          c.in_ok-add_terms.ensures,
       ap Ok (c.alone.ensures ∙ ap (λ f. alone f) c.in_ok-form.ensures.taken),
     )

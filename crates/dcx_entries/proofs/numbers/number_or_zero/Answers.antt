@@ -1,3 +1,4 @@
+-- Where the coefficient is no number the result is the fraction 0.
 use Rattle.std.proofs.Common.{unwrap_or, sym, ap, ◌∙◌}
 use Rattle.dcx_atom.specs.Formed.{zero_frac}
 use Rattle.dcx_atom.proofs.FormedSums.{zero_frac-unique}

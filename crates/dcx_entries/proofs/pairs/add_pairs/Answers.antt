@@ -1,3 +1,4 @@
+-- The sum has the pairs passed: one more is added, or it is the first that stops.
 use Rattle.std.proofs.Common.{Err, get_or, arith}
 use Rattle.std.proofs.lemmas.Result.{err_from_is_err_and}
 use Rattle.dcx_linear.specs.Stops.{OnPass-weaker}
@@ -29,4 +30,5 @@ pairs-preserved g c =
 pub returns : goal.returns
 returns g c =
     let t = g.C.Coef in
-    ends (adds_pair t.number_of t.sum_gives t.change_gives c.args.scaling (args_of t.of_number c.args.args.now)) c.args.sum.now c.args.pairs.now c.pairs.pair-index c.pairs.sum (omega arith) c.pairs.invariant
+    ends (adds_pair t.number_of t.sum_gives t.change_gives c.args.scaling (args_of t.of_number c.args.args.now)) c.args.sum.now c.args.pairs.now c.pairs.pair-index c.pairs.sum
+    (omega arith) c.pairs.invariant

@@ -1,3 +1,4 @@
+-- The divisor is tested by its value.
 use Rattle.std.proofs.Common.{pos, sym, ap, ◌∙◌}
 use Rattle.dcx_math.specs.Rational.{whole}
 use Rattle.dcx_math.proofs.Ratios.{IsTrue-rat_eq}

@@ -1,3 +1,4 @@
+-- The entries so far are formed of their pairs: one more is formed, or it is the first that stops.
 use Rattle.std.proofs.Common.{◌≡◌, ◌+◌, [], Ok, sym, ◌∙◌, subst, arith}
 use Rattle.std.specs.List.{All}
 use Rattle.std.proofs.lemmas.Result.{err_from_is_err_and}
@@ -38,5 +39,7 @@ pub returns : goal.returns
 returns g c =
     let t = g.C.Coef in
     let all : c.entries.j ≡ c.args.size = omega (arith, c.entries.auto.j-end) in
-    subst (λ es. FormsEach (PairGives t.of_number t.number_of t.sum_gives t.change_gives c.args.scaling (args_of t.of_number c.args.args.now) c.args.pairs.now) c.args.size (Ok es)) (sym c.from_vec.ensures)
-    (subst (λ n. FormsEach (PairGives t.of_number t.number_of t.sum_gives t.change_gives c.args.scaling (args_of t.of_number c.args.args.now) c.args.pairs.now) n (Ok c.entries.entries.items)) all c.entries.invariant.formed)
+    subst (λ es. FormsEach (PairGives t.of_number t.number_of t.sum_gives t.change_gives c.args.scaling (args_of t.of_number c.args.args.now) c.args.pairs.now) c.args.size (Ok es))
+    (sym c.from_vec.ensures)
+    (subst (λ n. FormsEach (PairGives t.of_number t.number_of t.sum_gives t.change_gives c.args.scaling (args_of t.of_number c.args.args.now) c.args.pairs.now) n
+    (Ok c.entries.entries.items)) all c.entries.invariant.formed)

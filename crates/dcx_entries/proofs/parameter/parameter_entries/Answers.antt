@@ -1,3 +1,4 @@
+-- One more entry is the parameter's coefficient, as a form without unknowns.
 use Rattle.std.proofs.Common.{◌≡◌, ◌+◌, Ok, sym, ap, ◌∙◌, subst, arith}
 use Rattle.dcx_entries.specs.Forming.{FormsEach}
 use Rattle.dcx_entries.specs.Entries.{ParameterEntry, alone}

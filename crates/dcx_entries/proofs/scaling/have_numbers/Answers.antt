@@ -1,3 +1,4 @@
+-- Numbers are told as forms of numbers, and a list of forms is tested form by form.
 use Rattle.std.proofs.Common.{◌≡◌, true, sym, ap, ◌∙◌, subst}
 use Rattle.std.specs.List.{list_all}
 use Rattle.dcx_entries.specs.Nodes.{has_numbers}

@@ -1,3 +1,4 @@
+-- The form that is made is the one form of the unknown.
 use Rattle.std.proofs.Common.{subst}
 use Rattle.dcx_linear.specs.declared.change.Change.TheVariants.{Scale}
 use Rattle.dcx_linear.specs.Stops.{GivesBy}

@@ -1,3 +1,4 @@
+-- The form that is made of an unknown is its one form.
 use Rattle.std.proofs.Common.{◌≡◌, sym, ap, ◌∙◌}
 use Rattle.dcx_linear.specs.Forms.{IsUnknownForm}
 use Rattle.dcx_entries.specs.Parts.{form_of_unknown}

@@ -1,3 +1,4 @@
+-- A name that the parameter at this position has is one that some parameter has.
 use Rattle.std.proofs.Common.{sym, ◌∙◌}
 use Rattle.dcx_fit.proofs.Names.{found_at}
 use Rattle.dcx_fit.proofs.parameters.is_known.Goals as goal

@@ -6,7 +6,8 @@ use Rattle.dcx_fold.proofs.chosen.largest_value.Goals as goal
 pub returns-in_err-sum-clause-stop : goal.returns-in_err-sum-clause-stop
 returns-in_err-sum-clause-stop c =
     let p = err_from_is_err_and c.from_residual.result c.from_residual.ensures.1 in
-    rw (p.1, p.2) (largest_value_stop c.args.largest.bend c.args.largest.k c.args.args.now c.index-args-0.result c.as_slice.result.now _ c.requires c.index-args-0.is c.as_slice.ensures c.in_err-sum.ensures.stop)
+    rw (p.1, p.2) (largest_value_stop c.args.largest.bend c.args.largest.k c.args.args.now c.index-args-0.result c.as_slice.result.now _ c.requires c.index-args-0.is
+    c.as_slice.ensures c.in_err-sum.ensures.stop)
 
 pub returns-in-Ok-clause-ok : goal.returns-in-Ok-clause-ok
 returns-in-Ok-clause-ok c =

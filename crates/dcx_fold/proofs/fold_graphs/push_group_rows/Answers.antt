@@ -19,12 +19,14 @@ unknown-unknown-requires c =
 
 pub overflow_mul-place : goal.overflow_mul-place
 overflow_mul-place c =
-    let h = small_place c.args.folding.axis (sides_of c.args.from) c.args.entry c.loop-i.i c.folded_count-count.result c.stride-stride.result c.args.from.few c.stride-stride.ensures c.folded_count-count.ensures.count c.requires c.loop-i-test.true in
+    let h = small_place c.args.folding.axis (sides_of c.args.from) c.args.entry c.loop-i.i c.folded_count-count.result c.stride-stride.result c.args.from.few
+    c.stride-stride.ensures c.folded_count-count.ensures.count c.requires c.loop-i-test.true in
     omega (arith, h)
 
 pub overflow_add-place : goal.overflow_add-place
 overflow_add-place c =
-    let h = small_place c.args.folding.axis (sides_of c.args.from) c.args.entry c.loop-i.i c.folded_count-count.result c.stride-stride.result c.args.from.few c.stride-stride.ensures c.folded_count-count.ensures.count c.requires c.loop-i-test.true in
+    let h = small_place c.args.folding.axis (sides_of c.args.from) c.args.entry c.loop-i.i c.folded_count-count.result c.stride-stride.result c.args.from.few
+    c.stride-stride.ensures c.folded_count-count.ensures.count c.requires c.loop-i-test.true in
     omega (arith, h)
 
 pub loop-i-preserved : goal.loop-i-preserved
@@ -35,7 +37,8 @@ loop-i-preserved c =
     let stride = c.stride-stride.result in
     one_more_member (λ (row : Row). record { entry = k; row = row }) (λ (i : ℕ). rows_of_member fold (unknown_of fold count k i) (stride_entry stride i))
     (map placed_row c.loop-i.rows.items) (map placed_row c.args.rows.now.items) (map placed_row c.push_member_rows.new.rows.items) c.loop-i.i c.loop-i.invariant
-    (c.in_ok-push_member_rows.ensures ∙ ap (λ u. map placed_row c.loop-i.rows.items ++ map (λ (row : Row). record { entry = k; row = row }) (rows_of_member fold u (stride_entry stride c.loop-i.i))) c.unknown-unknown.ensures)
+    (c.in_ok-push_member_rows.ensures ∙ ap (λ u. map placed_row c.loop-i.rows.items
+    ++ map (λ (row : Row). record { entry = k; row = row }) (rows_of_member fold u (stride_entry stride c.loop-i.i))) c.unknown-unknown.ensures)
 
 pub returns : goal.returns
 returns c =

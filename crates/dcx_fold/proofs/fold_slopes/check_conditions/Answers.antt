@@ -17,7 +17,8 @@ returns-in-Max c =
     let ws = c.args.weights.now in
     let n = c.requires ∙ ap (λ p. c.args.members * member_rows p) c.in-Max.is in
     let same : map value ws ≡ list_below (c.args.members * 1) (number_at ws) = sym (list_below-numbers ws) ∙ ap (λ k. list_below k (number_at ws)) n in
-    rw c.in-Max.is (c.check_sum.ensures ∙ ap (λ xs. step_stop c.args.entry (test (total_condition Free (value c.args.coefficient) xs))) same ∙ one_condition c.args.entry (total_condition Free (value c.args.coefficient) (list_below (c.args.members * 1) (number_at ws))))
+    rw c.in-Max.is (c.check_sum.ensures ∙ ap (λ xs. step_stop c.args.entry (test (total_condition Free (value c.args.coefficient) xs))) same
+    ∙ one_condition c.args.entry (total_condition Free (value c.args.coefficient) (list_below (c.args.members * 1) (number_at ws))))
 
 pub returns-in-Min : goal.returns-in-Min
 returns-in-Min c =

@@ -15,7 +15,8 @@ returns-in_err-check_weights c =
     let ws = c.args.weights.now in
     let n = c.args.members in
     let same : map value ws ≡ list_below (n * member_rows c.args.fold) (number_at ws) = sym (list_below-numbers ws) ∙ ap (λ k. list_below k (number_at ws)) c.requires in
-    rw (p.1, p.2) (sym (first_stop-stopped c.args.entry (map (λ x. test (is_weight x)) (list_below (n * member_rows c.args.fold) (number_at ws))) (map test (group_conditions c.args.fold n (value c.args.coefficient) (number_at ws))) _
+    rw (p.1, p.2) (sym (first_stop-stopped c.args.entry (map (λ x. test (is_weight x)) (list_below (n * member_rows c.args.fold) (number_at ws)))
+    (map test (group_conditions c.args.fold n (value c.args.coefficient) (number_at ws))) _
     (ap (weights_stop c.args.entry) (sym same) ∙ sym c.in_err-check_weights.ensures)))
 
 pub returns : goal.returns
@@ -24,5 +25,6 @@ returns c =
     let n = c.args.members in
     let same : map value ws ≡ list_below (n * member_rows c.args.fold) (number_at ws) = sym (list_below-numbers ws) ∙ ap (λ k. list_below k (number_at ws)) c.requires in
     c.check_conditions.ensures
-    ∙ sym (first_stop-passed c.args.entry (map (λ x. test (is_weight x)) (list_below (n * member_rows c.args.fold) (number_at ws))) (map test (group_conditions c.args.fold n (value c.args.coefficient) (number_at ws)))
+    ∙ sym (first_stop-passed c.args.entry (map (λ x. test (is_weight x)) (list_below (n * member_rows c.args.fold) (number_at ws)))
+    (map test (group_conditions c.args.fold n (value c.args.coefficient) (number_at ws)))
     (ap (weights_stop c.args.entry) (sym same) ∙ sym c.in_ok-check_weights.ensures))

@@ -16,7 +16,8 @@ returns-in_err-check_sum c =
     let ws = c.args.weights.now in
     let i = c.loop-i.i in
     let own = ap (map value) c.row_weights-pair.ensures ∙ own_numbers ws i 2 (subst (λ k. i * 2 + 2 ≤ k) (sym c.requires) (within_rows i 2 c.args.members c.loop-i-test.true)) in
-    rw (p.1, p.2) (sym (first_stop-at c.args.entry c.args.members i (λ i. test (total_condition Nonneg (value c.args.coefficient) (list_below 2 (λ f. number_at ws (i * 2 + f))))) _ c.loop-i-test.true c.loop-i.invariant
+    rw (p.1, p.2) (sym (first_stop-at c.args.entry c.args.members i
+    (λ i. test (total_condition Nonneg (value c.args.coefficient) (list_below 2 (λ f. number_at ws (i * 2 + f))))) _ c.loop-i-test.true c.loop-i.invariant
     (ap (λ xs. step_stop c.args.entry (test (total_condition Nonneg (value c.args.coefficient) xs))) (sym own) ∙ sym c.in_err-check_sum.ensures)))
 
 pub loop-i-preserved : goal.loop-i-preserved

@@ -59,7 +59,8 @@ row_weights-requires c =
 
 pub slope-requires : goal.slope-requires
 slope-requires c =
-    let part = is_part c.loop-i.i c.args.members c.rows_of_member-rows.result c.args.weights.now c.loop-i-test.true (c.requires ∙ ap (λ r. c.args.members * r) (sym c.rows_of_member-rows.ensures.value)) in
+    let part = is_part c.loop-i.i c.args.members c.rows_of_member-rows.result c.args.weights.now c.loop-i-test.true
+    (c.requires ∙ ap (λ r. c.args.members * r) (sym c.rows_of_member-rows.ensures.value)) in
     ap length c.row_weights.ensures ∙ part.count ∙ c.rows_of_member-rows.ensures.value
 
 pub loop-i-init : goal.loop-i-init

@@ -27,7 +27,8 @@ returns-in-Norm1-clause-answer c =
     let ws = c.args.weights.now in
     let n = c.requires ∙ ap member_rows c.in-Norm1.is in
     rw c.in-Norm1.is (c.sub.ensures.answer
-    ∙ difference_formed _ _ _ _ (number_is ws 0 c.index-weights-0-in-Norm1.result (omega arith) c.index-weights-0-in-Norm1.is) (number_is ws 1 c.index-weights-1.result (omega arith) c.index-weights-1.is))
+    ∙ difference_formed _ _ _ _ (number_is ws 0 c.index-weights-0-in-Norm1.result (omega arith) c.index-weights-0-in-Norm1.is)
+    (number_is ws 1 c.index-weights-1.result (omega arith) c.index-weights-1.is))
 
 pub returns-in-NormInf-clause-answer : goal.returns-in-NormInf-clause-answer
 returns-in-NormInf-clause-answer c =

@@ -30,9 +30,11 @@ returns-in_err-push_group-clause-stop c =
     let h : k < groups axis s = subst (λ m. k < m) c.requires.size c.loop-entry-test.true in
     let n : c.folded_count-members.result * c.rows_of_member.result ≡ folded_count axis s * member_rows fold = ap₂ (λ a b. a * b) c.folded_count-members.ensures.count c.rows_of_member.ensures.value in
     let own = c.row_weights-own.ensures ∙ ap (λ m. take m (drop (k * m) ws)) n in
-    rw (p.1, p.2) (first_among (fold_meaning fold axis) (s ∷ []) c.args.size cs ws k (group_steps fold (folded_count axis s) (value x) (number_at c.row_weights-own.result.now)) _ c.loop-entry-test.true c.loop-entry.invariant.stops
+    rw (p.1, p.2) (first_among (fold_meaning fold axis) (s ∷ []) c.args.size cs ws k
+    (group_steps fold (folded_count axis s) (value x) (number_at c.row_weights-own.result.now)) _ c.loop-entry-test.true c.loop-entry.invariant.stops
     (own_stop fold axis s cs ws c.row_weights-own.result.now k x h (number_is cs k x (omega (arith, c.requires.coefficients)) c.index-coefficients-place.is) own)
-    (subst (λ m. IsStopAmong k (group_steps fold m (value x) (number_at c.row_weights-own.result.now)) c.in_err-push_group.field-0.0) c.folded_count-members.ensures.count c.in_err-push_group.ensures.stop))
+    (subst (λ m. IsStopAmong k (group_steps fold m (value x) (number_at c.row_weights-own.result.now)) c.in_err-push_group.field-0.0)
+    c.folded_count-members.ensures.count c.in_err-push_group.ensures.stop))
 
 pub loop-entry-preserved : goal.loop-entry-preserved
 loop-entry-preserved c =
@@ -52,7 +54,8 @@ loop-entry-preserved c =
           (own_stop fold axis s cs ws c.row_weights-own.result.now k x h (number_is cs k x (omega (arith, c.requires.coefficients)) c.index-coefficients-place.is) own
           ∙ ap (λ m. first_stop k (group_steps fold m (value x) (number_at c.row_weights-own.result.now))) (sym c.folded_count-members.ensures.count) ∙ c.in_ok-push_group.ensures.ok);
       slopes = c.in_ok-push_group.ensures.slopes
-          ∙ ap₂ (λ xs m. xs ++ list_below m (λ i. exact (member_slope fold (member_weights fold (number_at c.row_weights-own.result.now) i)))) c.loop-entry.invariant.slopes c.folded_count-members.ensures.count
+          ∙ ap₂ (λ xs m. xs ++ list_below m (λ i. exact (member_slope fold (member_weights fold (number_at c.row_weights-own.result.now) i))))
+          c.loop-entry.invariant.slopes c.folded_count-members.ensures.count
           ∙ ap (λ xs. joined_below k g ++ xs) (own_slopes fold axis s ws c.row_weights-own.result.now k own) ∙ sym (joined_below-next k g);
     }
 
@@ -62,7 +65,8 @@ overflow_mul-rows c =
     omega (arith, h)
 
 -- the weights of group k are a part of all
-own_part : (k size members rows : ℕ) (fold : Fold) (count : ℕ) (ws : List Frac) → k < size → members ≡ count → rows ≡ member_rows fold → length ws ≡ size * (count * member_rows fold) → IsPart k (members * rows) ws
+own_part : (k size members rows : ℕ) (fold : Fold) (count : ℕ) (ws : List Frac) → k < size → members ≡ count → rows ≡ member_rows fold
+    → length ws ≡ size * (count * member_rows fold) → IsPart k (members * rows) ws
 own_part k size members rows fold count ws h m r e = is_part k size (members * rows) ws h (e ∙ ap (λ n. size * n) (sym (ap₂ (λ a b. a * b) m r)))
 
 pub row_weights-own-requires : goal.row_weights-own-requires
@@ -72,7 +76,8 @@ row_weights-own-requires c =
 
 pub push_group-requires : goal.push_group-requires
 push_group-requires c =
-    let part = own_part c.loop-entry.entry c.args.size c.folded_count-members.result c.rows_of_member.result c.args.folding.fold (folded_count c.args.folding.axis (sides_of c.args.from)) c.args.weights.now
+    let part = own_part c.loop-entry.entry c.args.size c.folded_count-members.result c.rows_of_member.result c.args.folding.fold
+    (folded_count c.args.folding.axis (sides_of c.args.from)) c.args.weights.now
     c.loop-entry-test.true c.folded_count-members.ensures.count c.rows_of_member.ensures.value c.requires.weights in
     ap length c.row_weights-own.ensures ∙ part.count ∙ ap (λ r. c.folded_count-members.result * r) c.rows_of_member.ensures.value
 

@@ -13,5 +13,6 @@ use Rattle.dcx_fold.proofs.fold_slopes.slopes_by_group.Given as goal
 abbrev pub invariant-loop-entry : goal.invariant-loop-entry
 invariant-loop-entry l = record {
   stops : HaveNoStop (fold_meaning l.folding.fold l.folding.axis) (sides_of l.fn.from ∷ []) l.entry l.coefficients l.weights;
-  slopes : map value l.slopes.items ≡ joined_below l.entry (λ k. list_below (folded_count l.folding.axis (sides_of l.fn.from)) (λ i. exact (member_slope l.folding.fold (member_weights l.folding.fold (weights_of (fold_meaning l.folding.fold l.folding.axis) (sides_of l.fn.from ∷ []) l.weights k) i))));
+  slopes : map value l.slopes.items ≡ joined_below l.entry (λ k. list_below (folded_count l.folding.axis (sides_of l.fn.from)) (λ i. exact
+      (member_slope l.folding.fold (member_weights l.folding.fold (weights_of (fold_meaning l.folding.fold l.folding.axis) (sides_of l.fn.from ∷ []) l.weights k) i))));
 }

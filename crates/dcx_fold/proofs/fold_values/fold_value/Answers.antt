@@ -24,4 +24,5 @@ pub returns-clause-ok : goal.returns-clause-ok
 returns-clause-ok c =
     let x = c.index-args-0.result in
     let is : folded c.args.folding.axis (sides_of x.shape) ≡ Some (sides_of c.unwrap-shape.result) = sym c.folded.ensures ∙ ap (option_map sides_of) c.unwrap-shape.ensures in
-    fold_value_is c.args.folding.fold c.args.folding.axis c.args.args.now x _ c.size.result c.requires c.index-args-0.is is c.size.ensures.value c.in_ok-entries.ensures.ok c.in_ok-entries.ensures.forms
+    fold_value_is c.args.folding.fold c.args.folding.axis c.args.args.now x _ c.size.result c.requires c.index-args-0.is is c.size.ensures.value
+    c.in_ok-entries.ensures.ok c.in_ok-entries.ensures.forms

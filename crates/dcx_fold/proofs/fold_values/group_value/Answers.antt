@@ -27,7 +27,8 @@ returns-in-Ok-folded-clause-forms c =
     let p = c.args.folding.fold in
     let axis = c.args.folding.axis in
     let s = sides_of c.args.x.now.shape in
-    let same = parts_are p axis s c.args.entry c.stride-stride.result c.as_slice.result.now c.as_slice-2.result.now c.stride-stride.ensures (ap (map value) c.as_slice-2.ensures.value ∙ c.in-Ok.ensures)
+    let same = parts_are p axis s c.args.entry c.stride-stride.result c.as_slice.result.now c.as_slice-2.result.now c.stride-stride.ensures
+    (ap (map value) c.as_slice-2.ensures.value ∙ c.in-Ok.ensures)
     ∙ ap (λ (xs : List Frac). parts p axis s (number_at xs) c.args.entry) c.as_slice.ensures in
     subst (λ xs. IsOk (sum_in_order (fold_summands p xs))) same (subst IsOk c.in-Ok-folded.ensures.answer refl)
 
@@ -36,6 +37,7 @@ returns-clause-stop c =
     let p = c.args.folding.fold in
     let axis = c.args.folding.axis in
     let s = sides_of c.args.x.now.shape in
-    let same = parts_are p axis s c.args.entry c.stride-stride.result c.as_slice.result.now c.as_slice-2.result.now c.stride-stride.ensures (ap (map value) c.as_slice-2.ensures.value ∙ c.in-Ok.ensures)
+    let same = parts_are p axis s c.args.entry c.stride-stride.result c.as_slice.result.now c.as_slice-2.result.now c.stride-stride.ensures
+    (ap (map value) c.as_slice-2.ensures.value ∙ c.in-Ok.ensures)
     ∙ ap (λ (xs : List Frac). parts p axis s (number_at xs) c.args.entry) c.as_slice.ensures in
     (refl, ap (λ xs. sum_in_order (fold_summands p xs)) (sym same) ∙ sym c.in-Err-folded.ensures.answer)

@@ -21,7 +21,8 @@ loop-entry-preserved c =
     let fold = c.args.folding.fold in
     record {
       entries = ap (map value) c.in-Ok.ensures.items
-          ∙ list_below-push c.loop-entry.entry (λ k. fold_of fold (parts fold c.args.folding.axis (sides_of c.args.x.now.shape) (number_at c.args.x.now.entries) k)) value c.loop-entry.entries.items c.in_ok-number.number
+          ∙ list_below-push c.loop-entry.entry (λ k. fold_of fold (parts fold c.args.folding.axis (sides_of c.args.x.now.shape) (number_at c.args.x.now.entries) k)) value
+          c.loop-entry.entries.items c.in_ok-number.number
           c.loop-entry.invariant.entries c.in_ok-number.ensures.ok;
       forms = below_more _ _ c.loop-entry.invariant.forms c.in_ok-number.ensures.forms;
     }

@@ -8,7 +8,8 @@ pub returns-in-Ok-mul : goal.returns-in-Ok-mul
 returns-in-Ok-mul c =
     let e = c.outward_of.ensures ∙ ap (outward c.args.bend) c.whole_number.ensures in
     c.check_equal.ensures
-    ∙ sym (all_compared c.args.bend c.args.k c.args.coefficient c.outward_of.result c.args.weights.now c.in-Ok.sum c.in-Ok-mul.product e (sym c.in-Ok.ensures) (sym c.in-Ok-mul.ensures.answer) c.in-Ok-mul.ensures.product)
+    ∙ sym (all_compared c.args.bend c.args.k c.args.coefficient c.outward_of.result c.args.weights.now c.in-Ok.sum c.in-Ok-mul.product e (sym c.in-Ok.ensures)
+    (sym c.in-Ok-mul.ensures.answer) c.in-Ok-mul.ensures.product)
 
 pub returns-in-Err-mul : goal.returns-in-Err-mul
 returns-in-Err-mul c =

@@ -15,7 +15,8 @@ pub returns-in_err-check_weights : goal.returns-in_err-check_weights
 returns-in_err-check_weights c =
     let p = err_from_is_err_and c.from_residual.result c.from_residual.ensures.1 in
     let ws = c.args.weights.now in
-    rw (p.1, p.2) (sym (first_stop-stopped 0 (map (λ (w : ℚ). test (is_weight w)) (map value ws)) (map test (level_conditions c.args.bend c.args.k (value c.args.coefficient) (map value ws))) _ (sym c.in_err-check_weights.ensures)))
+    rw (p.1, p.2) (sym (first_stop-stopped 0 (map (λ (w : ℚ). test (is_weight w)) (map value ws))
+    (map test (level_conditions c.args.bend c.args.k (value c.args.coefficient) (map value ws))) _ (sym c.in_err-check_weights.ensures)))
 
 pub returns-in_err-check_each : goal.returns-in_err-check_each
 returns-in_err-check_each c =

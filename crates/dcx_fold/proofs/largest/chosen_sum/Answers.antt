@@ -15,16 +15,19 @@ first_numbers-requires c =
 pub returns-in-Ok-sum_all-clause-ok : goal.returns-in-Ok-sum_all-clause-ok
 returns-in-Ok-sum_all-clause-ok c =
     c.in-Ok-sum_all.ensures
-    ∙ ap sum_in_order (first_chosen c.args.bend c.args.k c.args.numbers.now c.as_slice.result.now c.first_numbers.result.now (ap (map value) c.as_slice.ensures.value ∙ c.in-Ok.ensures) c.first_numbers.ensures)
+    ∙ ap sum_in_order (first_chosen c.args.bend c.args.k c.args.numbers.now c.as_slice.result.now c.first_numbers.result.now
+    (ap (map value) c.as_slice.ensures.value ∙ c.in-Ok.ensures) c.first_numbers.ensures)
 
 pub returns-in-Ok-sum_all-clause-value : goal.returns-in-Ok-sum_all-clause-value
 returns-in-Ok-sum_all-clause-value c =
     value-sum_in_order c.first_numbers.result.now c.in-Ok-sum_all.sum (sym c.in-Ok-sum_all.ensures)
-    ∙ ap rat_sum (first_chosen c.args.bend c.args.k c.args.numbers.now c.as_slice.result.now c.first_numbers.result.now (ap (map value) c.as_slice.ensures.value ∙ c.in-Ok.ensures) c.first_numbers.ensures)
+    ∙ ap rat_sum (first_chosen c.args.bend c.args.k c.args.numbers.now c.as_slice.result.now c.first_numbers.result.now
+    (ap (map value) c.as_slice.ensures.value ∙ c.in-Ok.ensures) c.first_numbers.ensures)
 
 pub returns-clause-stop : goal.returns-clause-stop
 returns-clause-stop c = (
   refl,
-  ap sum_in_order (sym (first_chosen c.args.bend c.args.k c.args.numbers.now c.as_slice.result.now c.first_numbers.result.now (ap (map value) c.as_slice.ensures.value ∙ c.in-Ok.ensures) c.first_numbers.ensures))
+  ap sum_in_order (sym (first_chosen c.args.bend c.args.k c.args.numbers.now c.as_slice.result.now c.first_numbers.result.now
+      (ap (map value) c.as_slice.ensures.value ∙ c.in-Ok.ensures) c.first_numbers.ensures))
       ∙ sym c.in-Err-sum_all.ensures,
 )

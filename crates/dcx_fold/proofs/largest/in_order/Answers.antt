@@ -10,4 +10,5 @@ pub returns : goal.returns
 returns c =
     let copied : c.in_ok-list.list.items ≡ c.args.numbers.now = search rules in
     let sorted = c.sort_unstable_by.ensures.sorted (goes_before c.args.bend) (goes_before-ordered c.args.bend) (always_returns_same _ _ _ (λ a r f k. search rules)) in
-    sorted_is c.args.bend c.args.numbers.now c.sort_unstable_by.new.self.items (subst (λ (xs : List Frac). IsPermutation xs c.sort_unstable_by.new.self.items) copied c.sort_unstable_by.ensures.permutation) sorted
+    sorted_is c.args.bend c.args.numbers.now c.sort_unstable_by.new.self.items
+    (subst (λ (xs : List Frac). IsPermutation xs c.sort_unstable_by.new.self.items) copied c.sort_unstable_by.ensures.permutation) sorted

@@ -38,7 +38,8 @@ returns-in-Err-right_side c =
     let w = running_weights ws in
     let own = ap (map value) (c.part-own.ensures ∙ ap₂ (λ n s. take n (drop s ws)) c.rows_of_entry.ensures c.first_weight.ensures) ∙ own_is ws j c.args.size c.requires.entry c.requires.weights in
     sym (tests_passed j c.args.size (value c.args.coefficient) w (ap (weights_stop j) (sym own) ∙ sym c.in_ok-check_weights.ensures)
-    ∙ balance_stop j c.args.size (value c.args.coefficient) w (Ok c.in-Ok.left) (Err c.in-Err-right_side.passes) (ap sum_in_order (sym own) ∙ sym c.in-Ok.ensures) (sym c.in-Err-right_side.ensures.answer))
+    ∙ balance_stop j c.args.size (value c.args.coefficient) w (Ok c.in-Ok.left) (Err c.in-Err-right_side.passes) (ap sum_in_order (sym own) ∙ sym c.in-Ok.ensures)
+    (sym c.in-Err-right_side.ensures.answer))
 
 pub returns-in-Ok-right_side : goal.returns-in-Ok-right_side
 returns-in-Ok-right_side c =

@@ -22,7 +22,8 @@ loop-number-preserved c =
     record {
       far = far;
       list = ap (map value) c.in_ok-push.ensures.items
-          ∙ list_below-push i (greatest_so_far (number_at xs)) value c.loop-number.list.items c.greater-far.result c.loop-number.invariant.list (far ∙ so_far xs x i c.loop-number-test.true c.index-numbers-0.is);
+          ∙ list_below-push i (greatest_so_far (number_at xs)) value c.loop-number.list.items c.greater-far.result c.loop-number.invariant.list
+          (far ∙ so_far xs x i c.loop-number-test.true c.index-numbers-0.is);
     }
 
 pub loop-number-init : goal.loop-number-init

@@ -1,3 +1,4 @@
+-- Formed nodes speak of declared parameters alone.
 use Rattle.dcx_formed.proofs.NarrowHold.{forms_are_known}
 use Rattle.dcx_formed.proofs.laws.forms_are_known.Goals as goal
 

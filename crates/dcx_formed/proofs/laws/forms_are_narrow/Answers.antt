@@ -1,3 +1,4 @@
+-- Formed nodes speak of unknowns of the layout alone.
 use Rattle.dcx_formed.proofs.NarrowHold.{forms_are_narrow}
 use Rattle.dcx_formed.proofs.laws.forms_are_narrow.Goals as goal
 

@@ -17,4 +17,5 @@ returns-clause-short c =
 
 pub returns-clause-rest : goal.returns-clause-rest
 returns-clause-rest c =
-    rest-behind c.write_integer-middle.result c.write_integer.result 47 c.args.out.now c.write_integer-middle.new.out c.write_integer.new.out (omega (arith, c.write_integer.ensures.end)) c.write_integer-middle.ensures.rest c.write_integer.ensures.rest
+    rest-behind c.write_integer-middle.result c.write_integer.result 47 c.args.out.now c.write_integer-middle.new.out c.write_integer.new.out
+    (omega (arith, c.write_integer.ensures.end)) c.write_integer-middle.ensures.rest c.write_integer.ensures.rest

@@ -5,4 +5,5 @@ use Rattle.dcx_frac.proofs.text.write_integer.Goals as goal
 
 pub returns-clause-rest : goal.returns-clause-rest
 returns-clause-rest c =
-    drop-put_mid c.args.at (c.args.at + length c.as_bytes-digits.result.now - c.args.at) c.args.out.now c.copy_from_slice.new.self (c.args.at + length c.as_bytes-digits.result.now) (omega arith) (omega arith) (omega arith)
+    drop-put_mid c.args.at (c.args.at + length c.as_bytes-digits.result.now - c.args.at) c.args.out.now c.copy_from_slice.new.self
+    (c.args.at + length c.as_bytes-digits.result.now) (omega arith) (omega arith) (omega arith)

@@ -1,3 +1,4 @@
+-- There are few enough variables and parameters to count their entries, since each has a node.
 use Rattle.std.proofs.Common.{subst, sym, arith, length, ◌<◌}
 use Rattle.dcx_tree.proofs.Few.{few_variables, few_parameters}
 use Rattle.dcx_front.proofs.accepted.found.Goals as goal

@@ -1,3 +1,4 @@
+-- What the script gives is given, no other answer is, and it is refused exactly where it is at fault.
 use Rattle.std.proofs.Common.{Err}
 use Rattle.dcx_front.specs.Accepts.{spells, unread}
 use Rattle.dcx_front.proofs.OneAnswer.{one_answer}

@@ -1,3 +1,4 @@
+-- What is carried out is judged, and a fault of it is the script's refusal.
 use Rattle.dcx_front.specs.Accepts.{stands_for, faulty}
 use Rattle.dcx_front.proofs.accepting.carried_out.Goals as goal
 

@@ -1,3 +1,4 @@
+-- Two judgements of one problem are one, where neither wants memory.
 use Rattle.dcx_front.proofs.OneCheck as holds
 use Rattle.dcx_front.proofs.laws.one_judgement.Goals as goal
 

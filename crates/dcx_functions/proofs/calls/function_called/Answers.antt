@@ -12,8 +12,9 @@ use Rattle.dcx_signature.specs.Table.{Row, row}
 use Rattle.dcx_signature.specs.Arguments.{Bound, arguments}
 use Rattle.dcx_signature.specs.View.{row_seen, given_seen}
 use Rattle.dcx_functions.specs.Calls.{is_placed, function_called}
-use Rattle.dcx_functions.proofs.Steps.{Gives-fault, argument_fault, bound_is}
+use Rattle.dcx_functions.proofs.Steps.{argument_fault, bound_is}
 use Rattle.dcx_functions.proofs.calls.function_called.Goals as goal
+use Rattle.dcx_script_values.proofs.Acts.{Gives-err}
 
 pub returns-in_err-bound : goal.returns-in_err-bound
 returns-in_err-bound c =
@@ -25,7 +26,7 @@ returns-in_err-bound c =
     ap₂ (λ (n : List (Node Call)) (r : Row). arguments n c.args.place r gs s) c.tree.ensures c.row_of.ensures in
     let e = c.in_err-bound.field-0.0 in
     let p = err_from_is_err_and c.from_residual.result c.from_residual.ensures.1 in
-    Gives-fault meant c.from_residual.result s (function_called target c.args.place c.args.function gs s) p.0 e p.1 p.2
+    Gives-err meant c.from_residual.result s (function_called target c.args.place c.args.function gs s) p.0 e p.1 p.2
     (argument_fault target c.args.place c.args.function gs s placed e (subst (λ (m : Result (Bound × State) ElabFault). Fails e m) asked (c.in_err-bound.ensures s)))
 
 pub returns : goal.returns

@@ -12,5 +12,6 @@ pub returns-in-Some : goal.returns-in-Some
 returns-in-Some c =
     let named : option_copied c.args.target ≡ Some c.in-Some.name.now = ap option_copied c.in-Some.is in
     subst (λ (m : Result (Value × State) ElabFault). Gives meant c.declare_variable.result c.declare_variable.new.self m)
-    (variable_given c.args.place (option_copied c.args.target) c.args.bound.now c.in-Some.name.now (extent_sides c.declared_extent.result) c.flags.result c.args.state.now named c.declared_extent.ensures c.flags.ensures)
+    (variable_given c.args.place (option_copied c.args.target) c.args.bound.now c.in-Some.name.now
+    (extent_sides c.declared_extent.result) c.flags.result c.args.state.now named c.declared_extent.ensures c.flags.ensures)
     c.declare_variable.ensures

@@ -1,3 +1,4 @@
+-- The readings so far are those of the arguments that are passed.
 use Rattle.std.proofs.Common.{◌≡◌, map, take}
 use Rattle.dcx_script_values.specs.Kinds.{reading}
 use Rattle.dcx_script_values.specs.Meant.{meant}

@@ -1,10 +1,9 @@
 -- One difference more is taken of what is left to take.
 use Rattle.std.proofs.Common.{◌≡◌, ◌+◌, ◌-◌, suc, sym, ◌∙◌, arith}
 use Rattle.std.proofs.lemmas.Result.{err_from_is_err_and}
-use Rattle.dcx_script_values.proofs.Acts.{Fails-same}
+use Rattle.dcx_script_values.proofs.Acts.{Fails-same, Gives-err}
 use Rattle.dcx_functions.specs.Calls.{differences}
 use Rattle.dcx_functions.proofs.Differences.{differences-next, differences-fault}
-use Rattle.dcx_functions.proofs.Steps.{Gives-fault}
 use Rattle.dcx_functions.proofs.expressions.differences.Goals as goal
 
 pub returns-in_err-node : goal.returns-in_err-node
@@ -14,7 +13,7 @@ returns-in_err-node c =
     let more : n ≡ suc k = omega arith in
     let e = c.in_err-node.field-0.0 in
     let p = err_from_is_err_and c.from_residual.result c.from_residual.ensures.1 in
-    Gives-fault (λ i. i.0) c.from_residual.result c.push.new.self (differences c.args.place c.args.count c.args.first.0 c.args.state.now) p.0 e p.1 p.2
+    Gives-err (λ i. i.0) c.from_residual.result c.push.new.self (differences c.args.place c.args.count c.args.first.0 c.args.state.now) p.0 e p.1 p.2
     (Fails-same e (differences c.args.place n c.loop-done.node.0 c.loop-done.state) (differences c.args.place c.args.count c.args.first.0 c.args.state.now) (sym c.loop-done.invariant)
     (differences-fault c.args.place n k c.loop-done.node.0 c.loop-done.state more e c.in_err-node.ensures))
 

@@ -1,3 +1,4 @@
+-- The differences that are left, taken of the node so far, are all of them, taken of the first node.
 use Rattle.std.proofs.Common.{◌≡◌, ◌-◌}
 use Rattle.dcx_functions.specs.Calls.{differences}
 use Rattle.dcx_functions.proofs.expressions.differences.Given as goal

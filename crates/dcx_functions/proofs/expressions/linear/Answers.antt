@@ -15,5 +15,6 @@ pub returns : goal.returns
 returns c =
     let s = c.args.state.now in
     subst (λ (m : Result (Value × State) ElabFault). Gives meant c.called_on.result c.called_on.new.state m)
-    (sym (then_is (operand_for c.args.place c.args.word.now c.args.bound.now s) (λ x. as_expression (called c.args.place (Linear c.args.call) (x ∷ []))) (meant_operand c.in_ok-operand.operand) s (c.in_ok-operand.ensures s)))
+    (sym (then_is (operand_for c.args.place c.args.word.now c.args.bound.now s) (λ x. as_expression (called c.args.place (Linear c.args.call) (x ∷ [])))
+    (meant_operand c.in_ok-operand.operand) s (c.in_ok-operand.ensures s)))
     c.called_on.ensures

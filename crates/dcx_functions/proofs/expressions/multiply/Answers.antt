@@ -9,8 +9,9 @@ use Rattle.dcx_script_values.specs.Meant.{meant}
 use Rattle.dcx_script_values.specs.View.{read_as, meant_operand}
 use Rattle.dcx_signature.specs.Table.{a_word, b_word}
 use Rattle.dcx_functions.specs.Calls.{reading_of, of_two}
-use Rattle.dcx_functions.proofs.Steps.{Gives-fault, read_fault, made_fault, made_is}
+use Rattle.dcx_functions.proofs.Steps.{read_fault, made_fault, made_is}
 use Rattle.dcx_functions.proofs.expressions.multiply.Goals as goal
+use Rattle.dcx_script_values.proofs.Acts.{Gives-err}
 
 pub returns-in_err-operands : goal.returns-in_err-operands
 returns-in_err-operands c =
@@ -19,7 +20,7 @@ returns-in_err-operands c =
     let same : map read_as c.in_ok-vec.field-0.items ≡ qs = ap (map read_as) c.in_ok-vec.ensures.items ∙ ap₂ (λ (l r : Reading). l ∷ r ∷ []) c.in_ok-left.ensures c.in_ok-right.ensures in
     let e = c.in_err-operands.field-0.0 in
     let p = err_from_is_err_and c.from_residual-in_err-operands.result c.from_residual-in_err-operands.ensures.1 in
-    Gives-fault meant c.from_residual-in_err-operands.result c.args.state.now (of_two c.args.place (Pairing Times) b c.args.state.now) p.0 e p.1 p.2
+    Gives-err meant c.from_residual-in_err-operands.result c.args.state.now (of_two c.args.place (Pairing Times) b c.args.state.now) p.0 e p.1 p.2
     (read_fault (broadcast_called c.args.place (Pairing Times)) c.args.place (map read_as c.in_ok-vec.field-0.items) qs same c.args.state.now e (c.in_err-operands.ensures c.args.state.now))
 
 pub returns-in_err-node : goal.returns-in_err-node
@@ -29,7 +30,7 @@ returns-in_err-node c =
     let same : map read_as c.in_ok-vec.field-0.items ≡ qs = ap (map read_as) c.in_ok-vec.ensures.items ∙ ap₂ (λ (l r : Reading). l ∷ r ∷ []) c.in_ok-left.ensures c.in_ok-right.ensures in
     let e = c.in_err-node.field-0.0 in
     let p = err_from_is_err_and c.from_residual-in_err-node.result c.from_residual-in_err-node.ensures.1 in
-    Gives-fault meant c.from_residual-in_err-node.result c.broadcast_called.new.self (of_two c.args.place (Pairing Times) b c.args.state.now) p.0 e p.1 p.2
+    Gives-err meant c.from_residual-in_err-node.result c.broadcast_called.new.self (of_two c.args.place (Pairing Times) b c.args.state.now) p.0 e p.1 p.2
     (made_fault (broadcast_called c.args.place (Pairing Times)) c.args.place (map read_as c.in_ok-vec.field-0.items) qs same c.args.state.now
     (map meant_operand c.in_ok-operands.operands.items) (map meant_operand c.deref.result.now) (ap (map meant_operand) c.deref.ensures.value) (c.in_ok-operands.ensures c.args.state.now)
     e c.in_err-node.ensures)

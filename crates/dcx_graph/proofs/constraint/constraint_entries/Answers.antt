@@ -14,7 +14,8 @@ constraints-smaller c = search rules
 pub constraints-preserved : goal.constraints-preserved
 constraints-preserved c =
     let cs = c.args.constraints.now in
-    entries_next cs c.constraints.index c.index-constraints-index.result c.constraints.entries.items c.push_constraint.new.entries.items (entries_from 0 cs) (omega arith) c.index-constraints-index.is c.constraints.invariant c.in_ok-push_constraint.ensures
+    entries_next cs c.constraints.index c.index-constraints-index.result c.constraints.entries.items c.push_constraint.new.entries.items (entries_from 0 cs)
+    (omega arith) c.index-constraints-index.is c.constraints.invariant c.in_ok-push_constraint.ensures
 
 pub returns-in_err-push_constraint : goal.returns-in_err-push_constraint
 returns-in_err-push_constraint c = let p = err_from_is_err_and c.from_residual.result c.from_residual.ensures.1 in rw p.1 tt

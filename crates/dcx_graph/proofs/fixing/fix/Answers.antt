@@ -1,3 +1,4 @@
+-- The rows at the setting are as many as before, with their origins, and a stop's row is one of them or behind all.
 use Rattle.std.proofs.Common.{◌≡◌, ℕ, length, Ok, Err, inl, refl, sym, ap, ◌∙◌, subst, arith}
 use Rattle.std.specs.List.{All}
 use Rattle.dcx_frac.specs.declared.fraction.Frac.{Frac}
@@ -38,7 +39,8 @@ returns-in-Err-Passes-clause-program c =
     inl (
       s,
       refl,
-      same_parts c.args.setting.now c.rows.result.now.rows before.rows c.rows.result.now.objective before.objective c.rows.result.now.kinds before.kinds c.rows.ensures.rows c.rows.ensures.objective c.rows.ensures.kinds (Err s) stop,
+      same_parts c.args.setting.now c.rows.result.now.rows before.rows c.rows.result.now.objective before.objective c.rows.result.now.kinds before.kinds c.rows.ensures.rows c.rows.ensures.objective
+          c.rows.ensures.kinds (Err s) stop,
     )
 
 pub at-requires-clause-rows : goal.at-requires-clause-rows
@@ -54,7 +56,8 @@ returns-in-Ok-clause-program c =
     let lent = c.rows.result.now in
     let rows = c.in-Ok.rows in
     subst (λ (z : Reduction Frac). FixGives s q (Ok z.program)) (sym c.new.ensures) (
-      same_parts s lent.rows q.rows lent.objective q.objective lent.kinds q.kinds c.rows.ensures.rows c.rows.ensures.objective c.rows.ensures.kinds (Ok (rows.rows, rows.objective, rows.kinds)) c.in-Ok.ensures,
+      same_parts s lent.rows q.rows lent.objective q.objective lent.kinds q.kinds c.rows.ensures.rows c.rows.ensures.objective c.rows.ensures.kinds
+          (Ok (rows.rows, rows.objective, rows.kinds)) c.in-Ok.ensures,
       c.in_ok-origins.ensures.items ∙ c.origins.ensures.items,
     )
 

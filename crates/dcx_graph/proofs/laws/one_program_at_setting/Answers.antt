@@ -1,3 +1,4 @@
+-- A program has one program at a setting, or one operation that passes first.
 use Rattle.dcx_graph.proofs.Settings.{one_fixed}
 use Rattle.dcx_graph.proofs.laws.one_program_at_setting.Goals as goal
 

@@ -1,3 +1,4 @@
+-- A problem is reduced in one way, with numbers and with affine coefficients.
 use Rattle.dcx_graph.proofs.OneWay.{one_numbers, one_affine}
 use Rattle.dcx_graph.proofs.laws.one_reduction.Goals as goal
 

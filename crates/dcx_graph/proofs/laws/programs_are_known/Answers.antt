@@ -1,3 +1,4 @@
+-- The program of nodes with affine coefficients lists declared parameters alone.
 use Rattle.dcx_graph.proofs.Known.{programs_are_known}
 use Rattle.dcx_graph.proofs.laws.programs_are_known.Goals as goal
 

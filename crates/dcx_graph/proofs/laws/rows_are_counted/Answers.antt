@@ -1,3 +1,4 @@
+-- Formed nodes have the rows that the layout counts, and the program those of the constraints besides.
 use Rattle.std.proofs.Common.{◌+◌, ap₂, ◌∙◌}
 use Rattle.dcx_unknowns.specs.Layout.{unknown_kinds}
 use Rattle.dcx_entries.specs.Nodes.{table_forms}

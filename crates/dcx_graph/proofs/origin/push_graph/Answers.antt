@@ -5,7 +5,8 @@ use Rattle.std.proofs.lemmas.Result.{err_from_is_err_and}
 use Rattle.dcx_graph.specs.Program.{graph_origin}
 use Rattle.dcx_graph.proofs.origin.push_graph.Goals as goal
 
-one_more : {A B : Type 0} (f : A → B) (xs : List A) (i : ℕ) (x : A) (old so_far new : List B) → i < length xs → x ≡ get_or xs i x → so_far ≡ old ++ map f (take i xs) → new ≡ so_far ++ f x ∷ [] → new ≡ old ++ map f (take (i + 1) xs)
+one_more : {A B : Type 0} (f : A → B) (xs : List A) (i : ℕ) (x : A) (old so_far new : List B) → i < length xs → x ≡ get_or xs i x → so_far ≡ old ++ map f (take i xs) → new ≡ so_far ++ f x ∷ []
+    → new ≡ old ++ map f (take (i + 1) xs)
 one_more f xs i x old so_far new lt at was added =
     added
     ∙ ap (λ ys. ys ++ f x ∷ []) was
@@ -20,7 +21,8 @@ graph-smaller g c = search rules
 
 pub graph-preserved : goal.graph-preserved
 graph-preserved g c =
-    one_more graph_origin c.args.graph.now c.graph.row-index c.row-item.result c.args.origins.now.items c.graph.origins.items c.push.new.self.items c.graph-test.true c.row-item.is c.graph.invariant c.in_ok-push.ensures.items
+    one_more graph_origin c.args.graph.now c.graph.row-index c.row-item.result c.args.origins.now.items c.graph.origins.items c.push.new.self.items c.graph-test.true c.row-item.is c.graph.invariant
+    c.in_ok-push.ensures.items
 
 pub returns-in_err-push : goal.returns-in_err-push
 returns-in_err-push g c = let p = err_from_is_err_and c.from_residual.result c.from_residual.ensures.1 in rw p.1 tt

@@ -1,3 +1,4 @@
+-- What is asked is of the nodes that are kept, its rows are within the kinds, and each has its origin.
 use Rattle.std.proofs.Common.{◌≡◌, ◌+◌, ◌<◌, ◌≤◌, ◌^◌, ◌++◌, length, map, Ok, Err, sym, ◌∙◌, subst}
 use Rattle.std.specs.Prelude.{sum_by}
 use Rattle.std.specs.List.{All}
@@ -31,7 +32,8 @@ finished-requires-clause-origins g c =
     let a = c.in-Ok.asked in
     let graph = c.into_vec-graph.result.items in
     let forms = all_forms t.of_number c.as_slice.result.now in
-    let asked = subst (λ rs. IsProgramWith t.of_number t.number_of t.sum_gives t.change_gives q forms rs c.args.kinds (record { rows = a.rows.items ++ map graph_row rs; objective = a.objective; kinds = c.args.kinds; origins = a.origins.items }))
+    let asked = subst (λ rs. IsProgramWith t.of_number t.number_of t.sum_gives t.change_gives q forms rs c.args.kinds
+    (record { rows = a.rows.items ++ map graph_row rs; objective = a.objective; kinds = c.args.kinds; origins = a.origins.items }))
     c.deref.ensures.value (c.in-Ok.ensures c.args.kinds) in
     program_origins t.of_number t.number_of t.sum_gives t.change_gives q forms graph c.args.kinds _ asked
     (subst (λ rs. sum_by constraint_rows q.constraints + length rs < 2 ^ 32) (sym c.into_vec-graph.ensures) c.requires.few)
@@ -44,7 +46,8 @@ finished-requires-clause-rows g c =
     let n = length c.args.kinds in
     let graph = c.into_vec-graph.result.items in
     let forms = all_forms t.of_number c.as_slice.result.now in
-    let asked = subst (λ rs. IsProgramWith t.of_number t.number_of t.sum_gives t.change_gives q forms rs c.args.kinds (record { rows = a.rows.items ++ map graph_row rs; objective = a.objective; kinds = c.args.kinds; origins = a.origins.items }))
+    let asked = subst (λ rs. IsProgramWith t.of_number t.number_of t.sum_gives t.change_gives q forms rs c.args.kinds
+    (record { rows = a.rows.items ++ map graph_row rs; objective = a.objective; kinds = c.args.kinds; origins = a.origins.items }))
     c.deref.ensures.value (c.in-Ok.ensures c.args.kinds) in
     program_rows_within t.of_number t.number_of t.sum_gives t.change_gives q forms graph c.args.kinds _ asked n
     (subst (λ ss. All (AreWithin (all_forms t.of_number ss) n) (roots_of q.objective q.constraints)) (sym c.as_slice.ensures) c.requires.roots)
@@ -67,8 +70,11 @@ returns-in-Ok-clause-program g c = λ rules setting kept known.
     let standing = c.as_slice.result.now in
     let graph = c.into_vec-graph.result.items in
     let made : Program _ = record { rows = a.rows.items ++ map graph_row graph; objective = a.objective; kinds = c.args.kinds; origins = a.origins.items } in
-    let asked = subst (λ rs. IsProgramWith t.of_number t.number_of t.sum_gives t.change_gives q (all_forms t.of_number standing) rs c.args.kinds (record { rows = a.rows.items ++ map graph_row rs; objective = a.objective; kinds = c.args.kinds; origins = a.origins.items }))
+    let asked = subst (λ rs. IsProgramWith t.of_number t.number_of t.sum_gives t.change_gives q (all_forms t.of_number standing) rs c.args.kinds
+    (record { rows = a.rows.items ++ map graph_row rs; objective = a.objective; kinds = c.args.kinds; origins = a.origins.items }))
     c.deref.ensures.value (c.in-Ok.ensures c.args.kinds) in
-    let is = kept_program t.of_number t.number_of t.sum_gives t.change_gives q t.parameter_gives rules setting c.args.formed kept standing graph c.args.kinds c.as_slice.ensures c.into_vec-graph.ensures known (Ok made) asked in
-    TellsBy-weaker (λ row passes. sites.Row row passes) c.finished.result (λ x. x.program) (λ x. x.program) (λ r. r ≡ Ok made) (GivesProgram t.of_number t.number_of t.sum_gives t.change_gives rules q kept.table)
+    let is = kept_program t.of_number t.number_of t.sum_gives t.change_gives q t.parameter_gives rules setting c.args.formed kept standing graph c.args.kinds c.as_slice.ensures
+    c.into_vec-graph.ensures known (Ok made) asked in
+    TellsBy-weaker (λ row passes. sites.Row row passes) c.finished.result (λ x. x.program) (λ x. x.program) (λ r. r ≡ Ok made)
+    (GivesProgram t.of_number t.number_of t.sum_gives t.change_gives rules q kept.table)
     (λ x e. subst (λ r. GivesProgram t.of_number t.number_of t.sum_gives t.change_gives rules q kept.table r) (sym e) is) (λ s e. cc) c.finished.ensures.program

@@ -1,3 +1,4 @@
+-- The rows and the objective are formed or stop at their row, and the origins stand beside them, all below 2 ^ 32.
 use Rattle.std.proofs.Common.{◌≡◌, ◌+◌, length, Err, sym, ap, ◌∙◌, arith}
 use Rattle.std.proofs.lemmas.Result.{err_from_is_err_and}
 use Rattle.dcx_answer.specs.declared.site.Site.TheVariants as sites
@@ -31,7 +32,8 @@ returns-in_err-rows g c = λ kinds.
 pub overflow_cast-number : goal.overflow_cast-number
 overflow_cast-number g c =
     let p = c.args.problem.now in
-    let all : c.len.result ≡ length (constraint_entries p) = c.len.ensures ∙ sym c.deref-2.ensures.len ∙ ap length (c.deref-2.ensures.value ∙ c.in_ok-entries.ensures ∙ ap (entries_from 0) c.as_slice.ensures) in
+    let all : c.len.result ≡ length (constraint_entries p) = c.len.ensures ∙ sym c.deref-2.ensures.len
+    ∙ ap length (c.deref-2.ensures.value ∙ c.in_ok-entries.ensures ∙ ap (entries_from 0) c.as_slice.ensures) in
     let count = entries-length 0 p.constraints in
     let few = c.requires in
     omega (arith, all, count, few)
@@ -47,7 +49,8 @@ returns-in-Err g c = λ kinds.
     let count : c.len.result + length graph ≡ length xs + length graph = ap (λ n. n + length graph) (c.len.ensures ∙ sym c.deref-2.ensures.len) in
     IsWideAt-weaker (λ row passes. sites.Row row passes) c.in-Err.stop (λ s. AtRow (c.len.result + length graph) (Objective t.of_number t.number_of t.sum_gives t.change_gives q forms) (Err s))
     (λ s. GivesProgramWith t.of_number t.number_of t.sum_gives t.change_gives q forms graph kinds (Err s))
-    (λ s h. objective_stops t.of_number t.number_of t.sum_gives t.change_gives q forms graph xs all c.in_ok-rows.rows.items c.in_ok-rows.ensures (c.len.result + length graph) s count h) c.in-Err.ensures
+    (λ s h. objective_stops t.of_number t.number_of t.sum_gives t.change_gives q forms graph xs all c.in_ok-rows.rows.items c.in_ok-rows.ensures (c.len.result + length graph) s count h)
+    c.in-Err.ensures
 
 pub returns-in-Ok : goal.returns-in-Ok
 returns-in-Ok g c = λ kinds.
@@ -58,4 +61,5 @@ returns-in-Ok g c = λ kinds.
     let xs = c.deref-2.result.now in
     let all : xs ≡ constraint_entries q = c.deref-2.ensures.value ∙ c.in_ok-entries.ensures ∙ ap (entries_from 0) c.as_slice.ensures in
     let come : c.in_ok-origins.origins.items ≡ origins_of xs graph = c.in_ok-origins.ensures ∙ ap (λ ys. origins_of ys graph) (c.deref.ensures.value ∙ sym c.deref-2.ensures.value) in
-    asked_is t.of_number t.number_of t.sum_gives t.change_gives q forms graph xs all c.in_ok-rows.rows.items c.in_ok-rows.ensures kinds c.in-Ok.objective c.in_ok-origins.origins.items c.in-Ok.ensures come
+    asked_is t.of_number t.number_of t.sum_gives t.change_gives q forms graph xs all c.in_ok-rows.rows.items c.in_ok-rows.ensures kinds c.in-Ok.objective c.in_ok-origins.origins.items
+    c.in-Ok.ensures come

@@ -1,3 +1,4 @@
+-- A multiplier that passes while the constraints are read stops the reading.
 use Rattle.std.proofs.Common.{sym, subst}
 use Rattle.dcx_lp_answer.specs.Multipliers.{passing_from, StopsAt}
 use Rattle.dcx_postsolve.specs.Duals.{all_multipliers}

@@ -1,3 +1,4 @@
+-- The rows that are lent are those of the program: so its answer can be read, and what is read is right.
 use Rattle.std.proofs.Common.{IfOk, sym, ◌∙◌, subst}
 use Rattle.std.proofs.lemmas.Result.{IfOk-weaker}
 use Rattle.dcx_tree.specs.Meaning.{setting_of}
@@ -11,7 +12,8 @@ read-requires c =
     let p = c.args.problem.now in
     let q = c.args.reduced.now.program in
     let a = c.args.answer.now in
-    let known = known_of q c.rows.result.now.kinds c.rows.result.now.rows c.rows.result.now.objective c.rows.ensures.kinds c.rows.ensures.rows c.rows.ensures.objective c.rows.result.now.rows_known c.rows.result.now.objective_known in
+    let known = known_of q c.rows.result.now.kinds c.rows.result.now.rows c.rows.result.now.objective c.rows.ensures.kinds c.rows.ensures.rows c.rows.ensures.objective c.rows.result.now.rows_known
+    c.rows.result.now.objective_known in
     record { there = subst (λ kinds. CanBeRead p kinds a) (sym (c.as_slice.ensures ∙ c.rows.ensures.kinds)) (can_be_read p (setting_of p c.args.setting.now) q a known c.requires.answered) }
 
 pub returns-clause-read : goal.returns-clause-read
@@ -24,7 +26,8 @@ returns-clause-right c =
     let s = setting_of p c.args.setting.now in
     let q = c.args.reduced.now.program in
     let a = c.args.answer.now in
-    let known = known_of q c.rows.result.now.kinds c.rows.result.now.rows c.rows.result.now.objective c.rows.ensures.kinds c.rows.ensures.rows c.rows.ensures.objective c.rows.result.now.rows_known c.rows.result.now.objective_known in
+    let known = known_of q c.rows.result.now.kinds c.rows.result.now.rows c.rows.result.now.objective c.rows.ensures.kinds c.rows.ensures.rows c.rows.ensures.objective c.rows.result.now.rows_known
+    c.rows.result.now.objective_known in
     IfOk-weaker c.read.result (IsRead p c.as_slice.result.now a) (IsRightFor p s)
     (λ x read. read_right p s q a known c.requires.answered x
     (subst (λ kinds. IsRead p kinds a x) (c.as_slice.ensures ∙ c.rows.ensures.kinds) read))

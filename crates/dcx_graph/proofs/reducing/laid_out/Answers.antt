@@ -1,3 +1,4 @@
+-- The setting gives the numbers of the nodes that are formed; the rows that are kept are few and within the kinds.
 use Rattle.std.proofs.Common.{Err, length, arith, sym, ap, ◌∙◌, subst}
 use Rattle.std.specs.List.{All}
 use Rattle.dcx_linear.specs.Widths.{form_width}
@@ -73,4 +74,5 @@ returns-in-Err-clause-program g c =
     let p = c.args.problem.now in
     let few = subst (λ m. AreFew (rows_with p m) (columns_with p m)) (marks_are rules p c.args.reduced.now c.requires.counted c.requires.reduces) c.requires.few in
     subst (λ e. Answers t.of_number t.number_of t.sum_gives t.change_gives t.parameter_gives rules p c.args.setting.now (Err e)) (sym c.form_stop.ensures)
-    (form_answers t.of_number t.number_of t.sum_gives t.change_gives t.parameter_gives rules p c.args.setting.now few c.in-Err.stop ((c.in-Err.ensures {u = tt}).stop rules c.requires.reduces c.requires.fixes))
+    (form_answers t.of_number t.number_of t.sum_gives t.change_gives t.parameter_gives rules p c.args.setting.now few c.in-Err.stop
+    ((c.in-Err.ensures {u = tt}).stop rules c.requires.reduces c.requires.fixes))

@@ -1,3 +1,4 @@
+-- The rows so far are formed: one more row is formed, or it is the first that stops.
 use Rattle.std.proofs.Common.{Err, get_or, arith}
 use Rattle.std.proofs.lemmas.Result.{err_from_is_err_and}
 use Rattle.dcx_answer.specs.declared.site.Site.TheVariants as sites

@@ -9,7 +9,8 @@ use Rattle.dcx_entries.specs.declared.formed.FormedRow.{FormedRow}
 use Rattle.dcx_graph.specs.Program.{graph_row}
 use Rattle.dcx_graph.proofs.rows.push_graph.Goals as goal
 
-row_more : {C : Type 0} (old rows new : List (Row C)) (taken : List (FormedRow C)) (row : FormedRow C) → rows ≡ old ++ map graph_row taken → new ≡ rows ++ graph_row row ∷ [] → new ≡ old ++ map graph_row (taken ++ row ∷ [])
+row_more : {C : Type 0} (old rows new : List (Row C)) (taken : List (FormedRow C)) (row : FormedRow C) → rows ≡ old ++ map graph_row taken → new ≡ rows ++ graph_row row ∷ []
+    → new ≡ old ++ map graph_row (taken ++ row ∷ [])
 row_more old rows new taken row so_far added =
     added
     ∙ ap (λ xs. xs ++ graph_row row ∷ []) so_far
@@ -27,5 +28,6 @@ returns-in_err-push g c = let p = err_from_is_err_and c.from_residual.result c.f
 
 pub returns : goal.returns
 returns g c =
-    let end = YieldsList-end (YieldsList-from_vec {s = c.into_iter-row-iterator.result} c.args.graph.items (search rules) (search rules)) c.graph.yielded c.graph.row-iterator c.graph.yielded_by c.next.result c.next.new.self c.in-None.is c.next.ensures.steps in
+    let end = YieldsList-end (YieldsList-from_vec {s = c.into_iter-row-iterator.result} c.args.graph.items (search rules) (search rules)) c.graph.yielded c.graph.row-iterator c.graph.yielded_by
+    c.next.result c.next.new.self c.in-None.is c.next.ensures.steps in
     c.graph.invariant ∙ ap (λ rows. c.args.rows.now.items ++ map graph_row rows) (sym (map-id c.graph.yielded) ∙ end.0)

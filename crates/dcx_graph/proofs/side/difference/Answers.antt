@@ -1,3 +1,4 @@
+-- The right side times -1 is formed and then added to the left one, and the first of the two that stops is the stop.
 use Rattle.std.proofs.Common.{Ok, Err, inl, subst}
 use Rattle.std.proofs.lemmas.Result.{err_from_is_err_and}
 use Rattle.dcx_linear.specs.declared.change.Change.TheVariants.{Scale}

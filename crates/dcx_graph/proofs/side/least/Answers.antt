@@ -1,3 +1,4 @@
+-- What is to be large is scaled by the one fraction that is -1.
 use Rattle.std.proofs.Common.{refl, sym, subst}
 use Rattle.dcx_linear.specs.declared.change.Change.TheVariants.{Scale}
 use Rattle.dcx_linear.specs.Forms.{change_gives_linear}

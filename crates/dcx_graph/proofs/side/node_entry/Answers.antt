@@ -1,3 +1,4 @@
+-- Past the nodes there is 0.
 use Rattle.dcx_entries.proofs.Past.{not_below}
 use Rattle.dcx_graph.proofs.Sides.{no_node}
 use Rattle.dcx_graph.proofs.side.node_entry.Goals as goal

@@ -4,7 +4,8 @@ use Rattle.std.specs.Prelude.{option_map}
 use Rattle.std.proofs.lemmas.List.{length-take, take_all}
 use Rattle.dcx_host.proofs.real.read_at_most.Goals as goal
 
-whole : (known : Option (List ℕ)) (limit : ℕ) (old items : List ℕ) → old ≡ [] → IfSome (option_map (take limit) known) (λ xs. items ≡ old ++ xs) → length items < limit → IfSome known (λ all. items ≡ all)
+whole : (known : Option (List ℕ)) (limit : ℕ) (old items : List ℕ) → old ≡ [] → IfSome (option_map (take limit) known) (λ xs. items ≡ old ++ xs) → length items < limit
+    → IfSome known (λ all. items ≡ all)
 whole None limit old items none h less = tt
 whole (Some all) limit old items none h less =
     let read : items ≡ take limit all = h ∙ ap (λ (xs : List ℕ). xs ++ take limit all) none in

@@ -24,4 +24,5 @@ constraints-preserved c =
     ]
 
 pub returns : goal.returns
-returns c = kept_last (flagged c.args.kept.now) c.args.constraints.now c.constraints.index c.constraints.members.items (kept_of (flagged c.args.kept.now) c.args.constraints.now) (omega arith) c.constraints.invariant
+returns c = kept_last (flagged c.args.kept.now) c.args.constraints.now c.constraints.index c.constraints.members.items (kept_of (flagged c.args.kept.now) c.args.constraints.now)
+    (omega arith) c.constraints.invariant

@@ -19,7 +19,8 @@ returns-in_err-formed-clause-stops c =
     let p = err_from_is_err_and c.from_residual-in_err-formed.result c.from_residual-in_err-formed.ensures.1 in
     let a = c.args.answer.now in
     rw (p.1, p.2)
-    (subst (λ (cs : List Constraint). StopsAt c.in_err-formed.field-0.0 (passing_from 0 (all_multipliers a.status cs a.rows))) (c.as_slice.ensures.value ∙ c.in_ok-members.ensures) c.in_err-formed.ensures.stops)
+    (subst (λ (cs : List Constraint). StopsAt c.in_err-formed.field-0.0 (passing_from 0 (all_multipliers a.status cs a.rows)))
+    (c.as_slice.ensures.value ∙ c.in_ok-members.ensures) c.in_err-formed.ensures.stops)
 
 pub spread-requires-clause-shaped : goal.spread-requires-clause-shaped
 spread-requires-clause-shaped c =

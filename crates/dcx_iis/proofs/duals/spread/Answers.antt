@@ -9,7 +9,8 @@ use Rattle.dcx_iis.proofs.duals.spread.Goals as goal
 
 pub constraints-init : goal.constraints-init
 constraints-init c =
-    spread_first (flagged c.args.kept.now) c.args.constraints.now c.args.arrays c.in_ok-duals.duals.items (into_iter_items c.into_iter-rest.result) c.in_ok-duals.ensures.items (c.into_iter-rest.ensures.rest ∙ c.into_vec.ensures) c.requires.shaped
+    spread_first (flagged c.args.kept.now) c.args.constraints.now c.args.arrays c.in_ok-duals.duals.items (into_iter_items c.into_iter-rest.result) c.in_ok-duals.ensures.items
+    (c.into_iter-rest.ensures.rest ∙ c.into_vec.ensures) c.requires.shaped
 
 pub constraints-preserved : goal.constraints-preserved
 constraints-preserved c =
@@ -26,4 +27,5 @@ constraints-preserved c =
 pub returns : goal.returns
 returns c =
     subst (AreSpread (flagged c.args.kept.now) c.args.constraints.now c.args.arrays) (sym c.from_vec.ensures)
-    (spread_last (flagged c.args.kept.now) c.args.constraints.now c.constraints.index c.args.arrays c.constraints.duals.items (into_iter_items c.constraints.rest) (omega arith) c.constraints.invariant)
+    (spread_last (flagged c.args.kept.now) c.args.constraints.now c.constraints.index c.args.arrays c.constraints.duals.items (into_iter_items c.constraints.rest)
+    (omega arith) c.constraints.invariant)

@@ -34,7 +34,8 @@ returns-in_err-point-clause-stops c =
     let limit = c.args.limit in
     let e = c.in_err-point.field-0.0 in
     rw (r.1, r.2) (tells_stop p q limit (setting_of p c.args.setting.now) c.requires.reduced e
-    (first_stops p q limit c.in_ok-kept.kept.items e (all_set (goal.at.returns-in_err-point-clause-stops c).In_ok-kept) (subst (λ (flags : List Bool). StopsTry p q limit (flagged flags) 0 e) c.deref.ensures.value c.in_err-point.ensures.stops)))
+    (first_stops p q limit c.in_ok-kept.kept.items e (all_set (goal.at.returns-in_err-point-clause-stops c).In_ok-kept)
+    (subst (λ (flags : List Bool). StopsTry p q limit (flagged flags) 0 e) c.deref.ensures.value c.in_err-point.ensures.stops)))
 
 pub try_each-requires-clause-rows : goal.try_each-requires-clause-rows
 try_each-requires-clause-rows c = rows_of_reduced c.args.problem.now (setting_of c.args.problem.now c.args.setting.now) c.args.reduced.now.program c.requires.reduced

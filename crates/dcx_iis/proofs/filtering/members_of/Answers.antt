@@ -14,7 +14,8 @@ kept-preserved c =
     let is = get_or_default flags i false b (omega arith) in
     elim c.if-flag.branch [
       | then-flag+in_ok-push w ↦
-          numbers_more flags i b (omega arith) is c.kept.members.items c.if-flag.members.items (numbers_from 0 flags) w.if-flag.true c.kept.invariant (ap (λ v. v.items) w.members-is ∙ w.in_ok-push.ensures.items)
+          numbers_more flags i b (omega arith) is c.kept.members.items c.if-flag.members.items (numbers_from 0 flags) w.if-flag.true c.kept.invariant
+          (ap (λ v. v.items) w.members-is ∙ w.in_ok-push.ensures.items)
       | else-flag w ↦
           ap (λ v. v.items ++ numbers_from (i + 1) (drop (i + 1) flags)) w.members-is
           ∙ numbers_less flags i b (omega arith) is c.kept.members.items (numbers_from 0 flags) w.if-flag.false c.kept.invariant

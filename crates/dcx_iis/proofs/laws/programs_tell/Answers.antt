@@ -1,3 +1,4 @@
+-- The program of a set tells whether the set is possible.
 use Rattle.dcx_iis.proofs.Ends as holds
 use Rattle.dcx_iis.proofs.laws.programs_tell.Goals as goal
 

@@ -25,6 +25,7 @@ returns c =
     let p = c.args.problem.now in
     let q = c.args.reduced.now.program in
     let set = flagged c.args.kept.now in
-    let made = c.from_vec.ensures ∙ c.in_ok-copies.ensures ∙ ap₂ (λ (xs : List Constraint) (rs : List (Row Frac)). rows_from set 0 xs rs) c.as_slice-constraints.ensures (c.as_slice-2.ensures ∙ c.rows-rows.ensures.rows) in
+    let made = c.from_vec.ensures ∙ c.in_ok-copies.ensures ∙ ap₂ (λ (xs : List Constraint) (rs : List (Row Frac)). rows_from set 0 xs rs) c.as_slice-constraints.ensures
+    (c.as_slice-2.ensures ∙ c.rows-rows.ensures.rows) in
     let same = c.from_vec-kinds.ensures ∙ c.in_ok-from_slice.ensures.items ∙ c.as_slice.ensures ∙ c.rows-rows.ensures.kinds in
     ap (given c.from_vec-kinds.result c.from_vec.result) c.number.ensures ∙ set_program p q set c.from_vec-kinds.result c.from_vec.result c.zero.result same made c.zero.ensures

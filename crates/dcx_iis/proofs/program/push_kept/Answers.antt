@@ -1,4 +1,4 @@
--- All rows, or none.
+-- All rows of the constraint are added where it is kept, and none where it isn't.
 use Rattle.std.proofs.Common.{◌≡◌, ◌++◌, [], Bool, if◌then◌else◌, OnOk, sym, ap, ◌∙◌, subst, append-nil}
 use Rattle.dcx_iis.proofs.program.push_kept.Goals as goal
 

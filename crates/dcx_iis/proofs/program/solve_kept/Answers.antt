@@ -15,7 +15,8 @@ pub returns-clause-known : goal.returns-clause-known
 returns-clause-known c =
     let r = c.in_ok-program.program in
     let g = program_of_set c.args.problem.now c.args.reduced.now.program (flagged c.args.kept.now) in
-    IfOk-weaker c.solve_rows-solved.result (IsSolved c.args.limit g) (λ s. HasKinds g) (λ s h. known_given r.kinds r.rows r.objective g r.rows_known r.objective_known c.in_ok-program.ensures) (returns-clause-solved c)
+    IfOk-weaker c.solve_rows-solved.result (IsSolved c.args.limit g) (λ s. HasKinds g) (λ s h. known_given r.kinds r.rows r.objective g r.rows_known r.objective_known c.in_ok-program.ensures)
+    (returns-clause-solved c)
 
 pub returns-clause-stops : goal.returns-clause-stops
 returns-clause-stops c = subst (λ g. IfErr c.solve_rows-solved.result (Stops c.args.limit g)) c.in_ok-program.ensures c.solve_rows-solved.ensures.stops

@@ -1,3 +1,4 @@
+-- One more coefficient is a number at the setting, or its first operation that passes is the stop.
 use Rattle.std.proofs.Common.{sym, subst, ◌∙◌, arith}
 use Rattle.std.proofs.lemmas.Result.{err_from_is_err_and}
 use Rattle.dcx_linear.specs.FormsAt.{IsListedTerm}
@@ -10,7 +11,8 @@ at-requires c = subst (IsListedTerm c.args.setting.now) (sym c.term-item.is) (c.
 pub returns-in_err-coefficient : goal.returns-in_err-coefficient
 returns-in_err-coefficient c =
     let p = err_from_is_err_and c.from_residual.result c.from_residual.ensures.1 in
-    rw (p.1, p.2) (number_stops c.args.setting.now c.args.terms.now c.terms.term-index c.term-item.result (omega arith) c.term-item.is c.terms.numbers.items _ (sym c.at.ensures ∙ c.in_err-coefficient.was) c.terms.invariant)
+    rw (p.1, p.2) (number_stops c.args.setting.now c.args.terms.now c.terms.term-index c.term-item.result
+    (omega arith) c.term-item.is c.terms.numbers.items _ (sym c.at.ensures ∙ c.in_err-coefficient.was) c.terms.invariant)
 
 pub terms-preserved : goal.terms-preserved
 terms-preserved c =

@@ -1,3 +1,4 @@
+-- Sparse lists with the same terms at all entries are equal.
 use Rattle.dcx_linear.specs.TermLaws.{same_lists}
 use Rattle.dcx_linear.specs.ParamTerms.{key_of}
 use Rattle.dcx_linear.proofs.laws.entries_determine_terms.Goals as goal

@@ -1,3 +1,4 @@
+-- An affine number at a setting is worth what it is at the setting's numbers.
 use Rattle.dcx_linear.proofs.Settings.{plus_value}
 use Rattle.dcx_linear.proofs.laws.number_at_setting.Goals as goal
 

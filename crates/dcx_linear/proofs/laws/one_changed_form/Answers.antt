@@ -1,3 +1,4 @@
+-- Multiplying or dividing a form has one answer.
 use Rattle.dcx_linear.specs.FormLaws.{one_linear_change}
 use Rattle.dcx_linear.proofs.laws.one_changed_form.Goals as goal
 

@@ -1,3 +1,4 @@
+-- Adding two forms has one answer.
 use Rattle.dcx_linear.specs.FormLaws.{one_linear_sum}
 use Rattle.dcx_linear.proofs.laws.one_sum_of_forms.Goals as goal
 

@@ -1,3 +1,4 @@
+-- A sum of forms is worth the sum.
 use Rattle.std.proofs.Common.{ap, ◌∙◌}
 use Rattle.dcx_linear.specs.FormLaws.{linear_sum_value}
 use Rattle.dcx_linear.proofs.laws.sum_of_forms.Goals as goal

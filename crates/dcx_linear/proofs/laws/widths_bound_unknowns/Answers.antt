@@ -1,3 +1,4 @@
+-- Terms name unknowns below their width.
 use Rattle.dcx_linear.proofs.Widths.{width_bounds}
 use Rattle.dcx_linear.proofs.laws.widths_bound_unknowns.Goals as goal
 

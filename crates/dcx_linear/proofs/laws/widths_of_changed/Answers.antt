@@ -1,3 +1,4 @@
+-- A form that is multiplied or divided is no wider.
 use Rattle.dcx_linear.proofs.Widths.{change_width}
 use Rattle.dcx_linear.proofs.laws.widths_of_changed.Goals as goal
 

@@ -1,3 +1,4 @@
+-- A sum of forms is no wider than both.
 use Rattle.dcx_linear.proofs.Widths.{sum_width}
 use Rattle.dcx_linear.proofs.laws.widths_of_sums.Goals as goal
 

@@ -1,3 +1,4 @@
+-- The number that the other coefficient is scales this one.
 use Rattle.std.proofs.Common.{sym}
 use Rattle.dcx_linear.specs.declared.change.Change.TheVariants.{Scale}
 use Rattle.dcx_linear.specs.Multiples.{times_number}

@@ -1,3 +1,4 @@
+-- One more row is formed at the setting, or it is the first that stops.
 use Rattle.std.proofs.Common.{◌≡◌, Err, sym, subst, arith}
 use Rattle.std.proofs.lemmas.Result.{err_from_is_err_and}
 use Rattle.dcx_linear.specs.FormsAt.{IsListedRow, form_on_row, rows_at}

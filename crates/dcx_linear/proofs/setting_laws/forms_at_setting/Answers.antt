@@ -1,3 +1,4 @@
+-- A form at a setting is worth what it is at the setting's numbers.
 use Rattle.dcx_linear.proofs.SettingForms.{form_at-value}
 use Rattle.dcx_linear.proofs.setting_laws.forms_at_setting.Goals as goal
 

@@ -1,3 +1,4 @@
+-- A form at a setting is no wider than before.
 use Rattle.dcx_linear.proofs.SettingForms.{form_at-width}
 use Rattle.dcx_linear.proofs.setting_laws.widths_at_setting.Goals as goal
 

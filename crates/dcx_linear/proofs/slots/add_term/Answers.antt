@@ -1,3 +1,4 @@
+-- The slot of the unknown takes the coefficient: so the term is added to those that the slots list.
 use Rattle.std.proofs.Common.{subst, arith}
 use Rattle.std.proofs.Math.ListN.{set}
 use Rattle.dcx_linear.specs.Stops.{GivesBy}

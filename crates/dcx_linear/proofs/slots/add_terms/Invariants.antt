@@ -1,9 +1,9 @@
+-- What the terms that are left give of the slots, all terms give of the first slots, which stay few.
 use Rattle.std.proofs.Common.{◌≤◌, length}
 use Rattle.dcx_linear.specs.Slots.{listed_from}
 use Rattle.dcx_linear.proofs.SlotSums.{GoesOn}
 use Rattle.dcx_linear.proofs.slots.add_terms.Given as goal
 
--- what the terms that are left give of the slots, all terms give of the first slots
 abbrev pub invariant-terms : goal.invariant-terms
 invariant-terms g l = record {
   room : length l.slots.items ≤ 4294967296;

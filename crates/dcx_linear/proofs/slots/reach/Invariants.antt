@@ -1,8 +1,8 @@
+-- The slots list the terms that they listed, and are few.
 use Rattle.std.proofs.Common.{◌≡◌, ◌≤◌, ◌-◌, length}
 use Rattle.dcx_linear.specs.Slots.{listed_from}
 use Rattle.dcx_linear.proofs.slots.reach.Given as goal
 
--- the slots list the terms that they listed
 abbrev pub invariant-slots : goal.invariant-slots
 invariant-slots g l = record {
   room : length l.slots.items ≤ 4294967296;

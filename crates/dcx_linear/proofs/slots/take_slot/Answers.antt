@@ -1,3 +1,4 @@
+-- The zero that is left in the slot is told as 0.
 use Rattle.std.proofs.Common.{◌∙◌}
 use Rattle.dcx_linear.proofs.SlotSums.{zero_coefficient}
 use Rattle.dcx_linear.proofs.slots.take_slot.Goals as goal

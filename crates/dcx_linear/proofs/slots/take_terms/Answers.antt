@@ -1,3 +1,4 @@
+-- One more slot gives its term, if it isn't 0, and is 0 afterwards.
 use Rattle.std.proofs.Common.{◌++◌, sym, ap, ◌∙◌, arith}
 use Rattle.std.specs.Option.{option_to_list}
 use Rattle.dcx_linear.specs.Slots.{kept_term}

@@ -1,3 +1,4 @@
+-- A form that is multiplied or divided keeps the names.
 use Rattle.dcx_linear.proofs.Coefficients.{change_keeps}
 use Rattle.dcx_linear.proofs.sum_laws.names_of_changed.Goals as goal
 

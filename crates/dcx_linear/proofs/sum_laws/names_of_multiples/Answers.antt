@@ -1,3 +1,4 @@
+-- A coefficient times a form has the names of the coefficient.
 use Rattle.dcx_linear.proofs.Coefficients.{multiple_keeps}
 use Rattle.dcx_linear.proofs.sum_laws.names_of_multiples.Goals as goal
 

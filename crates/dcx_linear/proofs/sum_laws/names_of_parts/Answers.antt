@@ -1,3 +1,4 @@
+-- A sum of parts keeps the names.
 use Rattle.dcx_linear.proofs.PartSums.{parts_keep}
 use Rattle.dcx_linear.proofs.sum_laws.names_of_parts.Goals as goal
 

@@ -1,3 +1,4 @@
+-- A sum of forms keeps the names.
 use Rattle.dcx_linear.proofs.Coefficients.{sum_keeps}
 use Rattle.dcx_linear.proofs.sum_laws.names_of_sums.Goals as goal
 

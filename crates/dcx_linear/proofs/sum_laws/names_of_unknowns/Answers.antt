@@ -1,3 +1,4 @@
+-- An unknown's coefficient is a number, and so it lists no parameter.
 use Rattle.dcx_linear.proofs.Coefficients.{unknown_has}
 use Rattle.dcx_linear.proofs.sum_laws.names_of_unknowns.Goals as goal
 

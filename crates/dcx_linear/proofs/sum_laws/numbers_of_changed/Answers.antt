@@ -1,3 +1,4 @@
+-- Multiplying or dividing numbers gives numbers.
 use Rattle.std.proofs.Common.{IsSome}
 use Rattle.dcx_linear.specs.ParamForms.{number_of_form, change_gives_form}
 use Rattle.dcx_linear.proofs.Coefficients.{change_keeps}

@@ -1,3 +1,4 @@
+-- Adding numbers gives numbers.
 use Rattle.std.proofs.Common.{IsSome}
 use Rattle.dcx_linear.specs.ParamForms.{number_of_form, sum_gives_form}
 use Rattle.dcx_linear.proofs.Coefficients.{sum_keeps}

@@ -1,3 +1,4 @@
+-- A coefficient times a form has one answer.
 use Rattle.dcx_linear.proofs.MultipleLaws.{one_multiple}
 use Rattle.dcx_linear.proofs.sum_laws.one_multiple_of_forms.Goals as goal
 

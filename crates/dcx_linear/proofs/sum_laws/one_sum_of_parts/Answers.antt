@@ -1,3 +1,4 @@
+-- Adding parts has one answer.
 use Rattle.dcx_linear.proofs.PartSums.{one_parts}
 use Rattle.dcx_linear.proofs.sum_laws.one_sum_of_parts.Goals as goal
 

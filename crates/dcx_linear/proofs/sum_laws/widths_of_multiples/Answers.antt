@@ -1,3 +1,4 @@
+-- A coefficient times a form is no wider than the form.
 use Rattle.dcx_linear.proofs.MultipleLaws.{multiple_width}
 use Rattle.dcx_linear.proofs.sum_laws.widths_of_multiples.Goals as goal
 

@@ -1,3 +1,4 @@
+-- A sum of parts is no wider than they are.
 use Rattle.dcx_linear.proofs.PartSums.{parts_sum_width}
 use Rattle.dcx_linear.proofs.sum_laws.widths_of_parts.Goals as goal
 

@@ -1,3 +1,4 @@
+-- The terms so far are changed: one more is changed, or it is the first that stops.
 use Rattle.std.proofs.Common.{Err, arith}
 use Rattle.std.proofs.lemmas.Result.{err_from_is_err_and}
 use Rattle.dcx_linear.specs.Stops.{OnPass-weaker}
@@ -11,7 +12,8 @@ returns-in_err-changed g c =
     let t = g.T.Term in
     rw (p.1, p.2)
     (OnPass-weaker _ (λ passes. t.change_gives c.args.change c.term-item.result (Err passes)) (λ passes. ChangesTerms t.key t.is_zero (t.change_gives c.args.change) c.args.terms.now (Err passes))
-    (λ passes h. change_stops t.key t.is_zero (t.change_gives c.args.change) c.args.terms.now c.requires.terms c.terms.term-index c.term-item.result (omega arith) c.term-item.is c.terms.changed.items passes h c.terms.invariant)
+    (λ passes h. change_stops t.key t.is_zero (t.change_gives c.args.change) c.args.terms.now c.requires.terms c.terms.term-index c.term-item.result
+    (omega arith) c.term-item.is c.terms.changed.items passes h c.terms.invariant)
     c.in_err-changed.ensures)
 
 pub terms-preserved : goal.terms-preserved

@@ -1,10 +1,10 @@
+-- The sum so far, followed by a sum of what is left, is the sum.
 use Rattle.std.proofs.Common.{◌≤◌, ◌+◌, ◌-◌, List, Result, length, drop}
 use Rattle.dcx_frac.specs.declared.fraction.Passes.{Passes}
 use Rattle.dcx_linear.specs.Terms.{SumsTerms}
 use Rattle.dcx_linear.proofs.Formed.{after}
 use Rattle.dcx_linear.proofs.term.push_sum.Given as goal
 
--- the sum so far, followed by a sum of what is left, is the sum
 abbrev pub invariant-terms : goal.invariant-terms
 invariant-terms g l = record {
   left : l.i ≤ length l.a;

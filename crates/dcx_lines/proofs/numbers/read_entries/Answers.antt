@@ -19,7 +19,8 @@ entries-preserved c =
     let items : c.push.new.self.items ≡ read ++ f ∷ [] = c.in_ok-push-in-Some.ensures.items in
     record {
       counted = ap length items ∙ length-append read (f ∷ []) ∙ ap (λ n. n + 1) c.entries.invariant.counted;
-      read = read_more c.args.bytes.now read c.entries.rest.now f c.in-Some.after.now c.entries.invariant.read c.in-Some.ensures.read ∙ ap (λ ns. flat_map entry_text ns ++ c.in-Some.after.now) (sym items);
+      read = read_more c.args.bytes.now read c.entries.rest.now f c.in-Some.after.now c.entries.invariant.read c.in-Some.ensures.read
+          ∙ ap (λ ns. flat_map entry_text ns ++ c.in-Some.after.now) (sym items);
       left = λ ns r h.
           subst (λ xs. IsLeft c.args.count (c.entries.counter + 1) xs c.in-Some.after.now ns r) (sym items)
           (more_left c.args.count c.entries.counter read c.entries.rest.now f c.in-Some.after.now ns r c.in-Some.ensures.every (omega arith) (c.entries.invariant.left ns r h));

@@ -15,7 +15,8 @@ returns-in-Some-clause-every c = λ f rest begins e.
     let i = c.ink_in.result in
     let front = c.split_at.ensures.front in
     let back = c.split_at.ensures.back in
-    let run = one_run IsInk c.split_at.result.0.now (frac_text f) c.split_at.result.1.now rest (subst (AllByRecursion IsInk) (sym front) c.ink_in.ensures.before) (frac_ink f) (subst (Ends IsInk) (sym back) (ends_at IsInk bytes i c.ink_in.ensures.within c.ink_in.ensures.found)) begins (ap₂ (◌++◌) front back ∙ take-append-drop i bytes ∙ e) in
+    let run = one_run IsInk c.split_at.result.0.now (frac_text f) c.split_at.result.1.now rest (subst (AllByRecursion IsInk) (sym front) c.ink_in.ensures.before) (frac_ink f)
+    (subst (Ends IsInk) (sym back) (ends_at IsInk bytes i c.ink_in.ensures.within c.ink_in.ensures.found)) begins (ap₂ (◌++◌) front back ∙ take-append-drop i bytes ∙ e) in
     let same = c.in-Some.ensures.every f run.0 in
     (same_Some _ _ same, run.1)
 
@@ -25,5 +26,6 @@ returns-in-None-clause-every c = λ f rest begins e.
     let i = c.ink_in.result in
     let front = c.split_at.ensures.front in
     let back = c.split_at.ensures.back in
-    let run = one_run IsInk c.split_at.result.0.now (frac_text f) c.split_at.result.1.now rest (subst (AllByRecursion IsInk) (sym front) c.ink_in.ensures.before) (frac_ink f) (subst (Ends IsInk) (sym back) (ends_at IsInk bytes i c.ink_in.ensures.within c.ink_in.ensures.found)) begins (ap₂ (◌++◌) front back ∙ take-append-drop i bytes ∙ e) in
+    let run = one_run IsInk c.split_at.result.0.now (frac_text f) c.split_at.result.1.now rest (subst (AllByRecursion IsInk) (sym front) c.ink_in.ensures.before) (frac_ink f)
+    (subst (Ends IsInk) (sym back) (ends_at IsInk bytes i c.ink_in.ensures.within c.ink_in.ensures.found)) begins (ap₂ (◌++◌) front back ∙ take-append-drop i bytes ∙ e) in
     none-some f (c.in-None.ensures.every f run.0)

@@ -1,4 +1,4 @@
--- One more digit.
+-- One more digit makes the number ten times as large and adds its own worth.
 use Rattle.std.proofs.Common.{arith}
 use Rattle.dcx_lines.proofs.Worth.{worth_more}
 use Rattle.dcx_lines.proofs.numbers.worth.Goals as goal

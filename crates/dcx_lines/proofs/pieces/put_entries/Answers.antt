@@ -20,5 +20,6 @@ loop-entry-init c = sym (append-nil c.args.out.now.items)
 
 pub loop-entry-preserved : goal.loop-entry-preserved
 loop-entry-preserved c =
-    one_more c.args.out.now.items c.loop-entry.out.items c.put_entry.new.out.items c.args.entries.now c.loop-entry.entry-index c.entry-item.result c.loop-entry-test.true c.entry-item.is c.loop-entry.invariant
+    one_more c.args.out.now.items c.loop-entry.out.items c.put_entry.new.out.items c.args.entries.now c.loop-entry.entry-index c.entry-item.result c.loop-entry-test.true c.entry-item.is
+    c.loop-entry.invariant
     c.in_ok-put_entry.ensures

@@ -1,3 +1,4 @@
+-- One more cell has no number and leads to the free cells before it.
 use Rattle.std.proofs.Common.{refl, pos}
 use Rattle.dcx_links.specs.declared.store.Cell.{Cell}
 use Rattle.dcx_links.proofs.Empty.{free_push, zero_push, length_push}

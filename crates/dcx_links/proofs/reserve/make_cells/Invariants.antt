@@ -1,3 +1,4 @@
+-- There are so many cells, all without a number, and all free, the last one first.
 use Rattle.std.proofs.Common.{◌≡◌, ℕ, length, pos}
 use Rattle.dcx_links.specs.Cells.{AreFree, down, cell_at}
 use Rattle.dcx_links.proofs.reserve.make_cells.Given as goal

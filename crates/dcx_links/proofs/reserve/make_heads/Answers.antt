@@ -1,3 +1,4 @@
+-- One more head leads nowhere.
 use Rattle.std.proofs.Common.{refl}
 use Rattle.dcx_links.specs.Lines.{none}
 use Rattle.dcx_links.proofs.Empty.{none_push, length_push}

@@ -1,3 +1,4 @@
+-- There are so many heads, and none leads anywhere.
 use Rattle.std.proofs.Common.{◌≡◌, ℕ, length}
 use Rattle.dcx_links.specs.Lines.{none}
 use Rattle.dcx_links.specs.Cells.{head_at}

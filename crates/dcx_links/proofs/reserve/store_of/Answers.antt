@@ -1,3 +1,4 @@
+-- Heads that lead nowhere, over free cells for all places, are a matrix of zeros.
 use Rattle.std.proofs.Common.{arith, ◌≤◌, ◌*◌, length}
 use Rattle.dcx_links.proofs.Empty.{empty_store, empty_number}
 use Rattle.dcx_links.proofs.reserve.store_of.Goals as goal

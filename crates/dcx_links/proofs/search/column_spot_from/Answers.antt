@@ -1,3 +1,4 @@
+-- The link that ends the search leads nowhere, so no cell of the column stands at the row or below it.
 use Rattle.std.proofs.Common.{arith, ◌≡◌, sym, subst}
 use Rattle.dcx_links.specs.Lines.{none, IsNext}
 use Rattle.dcx_links.specs.Cells.{InColumn, bound_in_column}

@@ -1,3 +1,4 @@
+-- The search stands at a cell of the column above the row, or at the head, and its link is the next one.
 use Rattle.std.proofs.Common.{◌≡◌, ◌≤◌, ◌-◌}
 use Rattle.dcx_links.specs.Lines.{IsFrom, link_of}
 use Rattle.dcx_links.specs.Cells.{head_at, InColumn, next_in_column_at, bound_in_column}

@@ -1,3 +1,4 @@
+-- Where the spot's link leads nowhere no cell stands at the place.
 use Rattle.std.proofs.Common.{arith}
 use Rattle.dcx_links.specs.Cells.{InRow, bound_in_row}
 use Rattle.dcx_links.proofs.Lines.{nothing_from}

@@ -1,3 +1,4 @@
+-- The link that ends the search leads nowhere, so no cell of the row stands at the column or behind it.
 use Rattle.std.proofs.Common.{arith, ◌≡◌, sym, subst}
 use Rattle.dcx_links.specs.Lines.{none, IsNext}
 use Rattle.dcx_links.specs.Cells.{InRow, bound_in_row}

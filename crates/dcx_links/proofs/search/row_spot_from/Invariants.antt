@@ -1,3 +1,4 @@
+-- The search stands at a cell of the row before the column, or at the head, and its link is the next one.
 use Rattle.std.proofs.Common.{◌≡◌, ◌≤◌, ◌-◌}
 use Rattle.dcx_links.specs.Lines.{IsFrom, link_of}
 use Rattle.dcx_links.specs.Cells.{head_at, InRow, next_in_row_at, bound_in_row}

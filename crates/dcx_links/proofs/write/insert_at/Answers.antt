@@ -1,3 +1,4 @@
+-- Where a place is empty a cell is free: linked behind both spots it has the number there, and no other place changes.
 use Rattle.std.proofs.Common.{arith, rules, ◌≡◌, ap, ◌∙◌, to_z-of_z, SFits, length}
 use Rattle.std.specs.Int.{w128}
 use Rattle.dcx_links.specs.declared.store.Cell.{Cell}

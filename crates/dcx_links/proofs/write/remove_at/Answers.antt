@@ -1,3 +1,4 @@
+-- The spot lands on the cell of the place, which leaves both lines and is free.
 use Rattle.std.proofs.Common.{arith, pos, ◌<◌, ◌≡◌, refl, sym, ap, ◌∙◌, subst, length}
 use Rattle.dcx_links.specs.declared.store.Cell.{Cell}
 use Rattle.dcx_links.specs.Lines.{none, IsSpot, link_of}

@@ -9,7 +9,8 @@ use Rattle.dcx_listing.proofs.given.are_given.Goals as goal
 
 pub loop-i-preserved : goal.loop-i-preserved
 loop-i-preserved c =
-    call_more (λ call. IsGivenFor Plain (λ pairs name entry. IsSome (entry_of pairs name entry)) c.args.setting.now call) c.args.tree.now c.loop-i.i c.call.result.now c.call.ensures (c.is_given.ensures.0 c.if-not-is_given.false) c.loop-i.invariant
+    call_more (λ call. IsGivenFor Plain (λ pairs name entry. IsSome (entry_of pairs name entry)) c.args.setting.now call) c.args.tree.now c.loop-i.i c.call.result.now c.call.ensures
+    (c.is_given.ensures.0 c.if-not-is_given.false) c.loop-i.invariant
 
 pub returns : goal.returns
 returns c =

@@ -9,8 +9,13 @@ use Rattle.dcx_listing.proofs.given.have_arrays.Goals as goal
 
 pub parameters-preserved : goal.parameters-preserved
 parameters-preserved c =
-    All-more (λ (q : Parameter). HasArray c.args.setting.now q.name (sides_of q.shape)) c.args.parameters.now c.parameters.parameter-index c.parameter-item.result c.parameters-test.true c.parameters.invariant
+    All-more (λ (q : Parameter). HasArray c.args.setting.now q.name (sides_of q.shape)) c.args.parameters.now c.parameters.parameter-index c.parameter-item.result c.parameters-test.true
+    c.parameters.invariant
     (subst (λ (q : Parameter). HasArray c.args.setting.now q.name (sides_of q.shape)) c.parameter-item.is (c.has_array.ensures.0 c.if-not-has_array.false))
 
 pub returns : goal.returns
-returns c = ((λ e. all_taken (λ (q : Parameter). HasArray c.args.setting.now q.name (sides_of q.shape)) c.args.parameters.now c.parameters.parameter-index c.parameters-test.false c.parameters.invariant), (λ h. refl))
+returns c = (
+  (λ e. all_taken (λ (q : Parameter). HasArray c.args.setting.now q.name
+      (sides_of q.shape)) c.args.parameters.now c.parameters.parameter-index c.parameters-test.false c.parameters.invariant),
+  (λ h. refl),
+)

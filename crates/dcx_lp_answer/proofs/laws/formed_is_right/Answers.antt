@@ -1,3 +1,4 @@
+-- The multiplier that is formed is the one by which an answer is right.
 use Rattle.dcx_lp_answer.proofs.Formed as formed
 use Rattle.dcx_lp_answer.proofs.laws.formed_is_right.Goals as goal
 

@@ -1,3 +1,4 @@
+-- A limit that stops rows is bounded by the columns and rows of their program.
 use Rattle.dcx_lp_solve.proofs.OneSolution as holds
 use Rattle.dcx_lp_solve.proofs.laws.few_pivots.Goals as goal
 

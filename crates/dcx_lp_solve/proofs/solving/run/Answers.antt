@@ -1,3 +1,4 @@
+-- The run starts from the tableau of the program: so its end is one that is read, or the stop of the program.
 use Rattle.std.proofs.Common.{refl, subst}
 use Rattle.dcx_chained.specs.Tables.{table_of}
 use Rattle.dcx_simplex.specs.Whole.{RunEnds}

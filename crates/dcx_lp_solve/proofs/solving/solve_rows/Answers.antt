@@ -1,3 +1,4 @@
+-- A stop of the run, or of making the program, is a stop of the rows.
 use Rattle.std.proofs.Common.{sym, subst}
 use Rattle.dcx_std.specs.GivenRows.{given}
 use Rattle.dcx_lp_solve.specs.Solved.{Stops}

@@ -21,11 +21,13 @@ atom_entries-requires-clause-size g c =
 
 pub atom_entries-requires-clause-few : goal.atom_entries-requires-clause-few
 atom_entries-requires-clause-few g c =
-    fits_here c.args.given.now.problem.now c.args.node.0 c.requires.call.0 c.requires.call.1 c.args.graph.now c.requires.graph c.args.given.now.reduced.now c.requires.ready.few c.requires.reduced c.args.next.now c.requires.next
+    fits_here c.args.given.now.problem.now c.args.node.0 c.requires.call.0 c.requires.call.1 c.args.graph.now c.requires.graph c.args.given.now.reduced.now c.requires.ready.few c.requires.reduced
+    c.args.next.now c.requires.next
 
 pub atom_entries-requires-clause-there : goal.atom_entries-requires-clause-there
 atom_entries-requires-clause-there g c =
-    rows_here c.args.given.now.problem.now c.args.node.0 c.requires.call.0 c.requires.call.1 c.args.graph.now c.requires.graph c.args.given.now.reduced.now c.requires.ready.few c.requires.reduced c.args.next.now c.requires.next
+    rows_here c.args.given.now.problem.now c.args.node.0 c.requires.call.0 c.requires.call.1 c.args.graph.now c.requires.graph c.args.given.now.reduced.now c.requires.ready.few c.requires.reduced
+    c.args.next.now c.requires.next
 
 pub returns-in_err-entries-clause-entries : goal.returns-in_err-entries-clause-entries
 returns-in_err-entries-clause-entries g c =
@@ -41,22 +43,27 @@ returns-in_err-entries-clause-entries g c =
     let q = err_from_is_err_and c.from_residual.result c.from_residual.ensures.1 in
     rw (q.1, q.2)
     (formed_weaker (Err c.in_err-entries.field-0.0)
-    (FormsEach (AtomGives p i m call n at t.of_number t.number_of t.sum_gives t.change_gives t.parameter_gives c.args.given.now.setting.now reduced c.args.given.now.fixed.now forms ids c.requires.ids ids c.args.next.now (arg_sides p.tree n)) c.size-size.result)
+    (FormsEach (AtomGives p i m call n at t.of_number t.number_of t.sum_gives t.change_gives t.parameter_gives c.args.given.now.setting.now reduced c.args.given.now.fixed.now forms ids
+    c.requires.ids ids c.args.next.now (arg_sides p.tree n)) c.size-size.result)
     (ReducedGives t.of_number t.number_of t.sum_gives t.change_gives t.parameter_gives p c.args.given.now.setting.now reduced c.args.given.now.fixed.now forms i)
     (λ r h. atom_gives p i m call n at t.of_number t.number_of t.sum_gives t.change_gives t.parameter_gives c.args.given.now.setting.now reduced c.args.given.now.fixed.now forms ids c.requires.ids
     c.requires.ready.reduced_counted c.size-size.result r size_is
-    (subst (λ first. FormsEach (AtomGives p i m call n at t.of_number t.number_of t.sum_gives t.change_gives t.parameter_gives c.args.given.now.setting.now reduced c.args.given.now.fixed.now forms ids c.requires.ids ids first (arg_sides p.tree n)) c.size-size.result r) c.requires.next h))
+    (subst (λ first. FormsEach
+    (AtomGives p i m call n at t.of_number t.number_of t.sum_gives t.change_gives t.parameter_gives c.args.given.now.setting.now reduced c.args.given.now.fixed.now forms ids c.requires.ids ids
+    first (arg_sides p.tree n)) c.size-size.result r) c.requires.next h))
     (c.in_err-entries.ensures (atom_meaning m) (arg_sides p.tree n) (graph_of p i m call n at c.args.graph.now c.requires.graph c.size-size.result size_is)))
 
 pub overflow_cast-next : goal.overflow_cast-next
 overflow_cast-next g c =
-    let room = room_here c.args.given.now.problem.now c.args.node.0 c.requires.call.0 c.requires.call.1 c.args.graph.now c.requires.graph c.args.given.now.reduced.now c.requires.ready.few c.requires.reduced c.args.next.now c.requires.next in
+    let room = room_here c.args.given.now.problem.now c.args.node.0 c.requires.call.0 c.requires.call.1 c.args.graph.now c.requires.graph c.args.given.now.reduced.now c.requires.ready.few
+    c.requires.reduced c.args.next.now c.requires.next in
     let many = ap length c.as_slice.ensures in
     omega (arith, room, many)
 
 pub overflow_add-next : goal.overflow_add-next
 overflow_add-next g c =
-    let room = room_here c.args.given.now.problem.now c.args.node.0 c.requires.call.0 c.requires.call.1 c.args.graph.now c.requires.graph c.args.given.now.reduced.now c.requires.ready.few c.requires.reduced c.args.next.now c.requires.next in
+    let room = room_here c.args.given.now.problem.now c.args.node.0 c.requires.call.0 c.requires.call.1 c.args.graph.now c.requires.graph c.args.given.now.reduced.now c.requires.ready.few
+    c.requires.reduced c.args.next.now c.requires.next in
     let many = ap length c.as_slice.ensures in
     omega (arith, room, many)
 
@@ -82,11 +89,14 @@ returns-clause-entries g c =
     let size_is : c.size-size.result ≡ entries_of (sides_at p.tree i) = c.size-size.ensures.value ∙ ap entries_of c.shape.ensures in
     atom_gives p i m call n at t.of_number t.number_of t.sum_gives t.change_gives t.parameter_gives c.args.given.now.setting.now reduced c.args.given.now.fixed.now forms ids c.requires.ids
     c.requires.ready.reduced_counted c.size-size.result (Ok c.in_ok-entries.entries) size_is
-    (subst (λ first. FormsEach (AtomGives p i m call n at t.of_number t.number_of t.sum_gives t.change_gives t.parameter_gives c.args.given.now.setting.now reduced c.args.given.now.fixed.now forms ids c.requires.ids ids first (arg_sides p.tree n)) c.size-size.result (Ok c.in_ok-entries.entries)) c.requires.next
+    (subst (λ first. FormsEach
+    (AtomGives p i m call n at t.of_number t.number_of t.sum_gives t.change_gives t.parameter_gives c.args.given.now.setting.now reduced c.args.given.now.fixed.now forms ids c.requires.ids ids
+    first (arg_sides p.tree n)) c.size-size.result (Ok c.in_ok-entries.entries)) c.requires.next
     (c.in_ok-entries.ensures (atom_meaning m) (arg_sides p.tree n) (graph_of p i m call n at c.args.graph.now c.requires.graph c.size-size.result size_is)))
 
 pub returns-clause-next : goal.returns-clause-next
 returns-clause-next g c =
-    let next = next_graph c.args.given.now.problem.now c.args.given.now.reduced.now c.args.node.0 c.args.graph.now (atom_within c.args.given.now.problem.now c.args.node.0 c.requires.call.0 c.requires.call.1) c.requires.reduced c.requires.graph in
+    let next = next_graph c.args.given.now.problem.now c.args.given.now.reduced.now c.args.node.0 c.args.graph.now
+    (atom_within c.args.given.now.problem.now c.args.node.0 c.requires.call.0 c.requires.call.1) c.requires.reduced c.requires.graph in
     let many = ap length c.as_slice.ensures in
     omega (arith, next, many, c.requires.next)

@@ -48,8 +48,11 @@ pub returns-in-Ok-map-clause-count : goal.returns-in-Ok-map-clause-count
 returns-in-Ok-map-clause-count g c =
     let t = g.C.Coef in
     let F : ℕ → Result (EntryForms g.row.C.Denot) ValueStop → Type 0 =
-    λ j. AtEntry j (LinearEntry t.of_number t.number_of t.sum_gives t.change_gives (map (term_part (args_among t.of_number (all_forms t.of_number c.args.args.now.standing.now) (positions c.args.args.now.ids.now))) (map linear_term (slice_index_or c.as_slice.result.now j [])))) in
-    formed_count F c.size-size.result (entries_of (sides_at c.args.given.now.problem.now.tree c.args.node.0)) c.linear_entries-entries.result (c.size-size.ensures.value ∙ ap entries_of c.shape.ensures) c.linear_entries-entries.ensures
+    λ j. AtEntry j (LinearEntry t.of_number t.number_of t.sum_gives t.change_gives
+    (map (term_part (args_among t.of_number (all_forms t.of_number c.args.args.now.standing.now) (positions c.args.args.now.ids.now)))
+    (map linear_term (slice_index_or c.as_slice.result.now j [])))) in
+    formed_count F c.size-size.result (entries_of (sides_at c.args.given.now.problem.now.tree c.args.node.0)) c.linear_entries-entries.result
+    (c.size-size.ensures.value ∙ ap entries_of c.shape.ensures) c.linear_entries-entries.ensures
 
 pub returns-in-Ok-map-clause-entries : goal.returns-in-Ok-map-clause-entries
 returns-in-Ok-map-clause-entries g c =
@@ -58,10 +61,13 @@ returns-in-Ok-map-clause-entries g c =
     let i = c.args.node.0 in
     let forms = all_forms t.of_number c.args.args.now.standing.now in
     let (n, at) = the_node p i (calls.Linear c.args.call.now) c.requires.call in
-    formed_weaker c.linear_entries-entries.result _ (ReducedGives t.of_number t.number_of t.sum_gives t.change_gives t.parameter_gives p c.args.given.now.setting.now c.args.given.now.reduced.now c.args.given.now.fixed.now forms i)
+    formed_weaker c.linear_entries-entries.result _ (ReducedGives t.of_number t.number_of t.sum_gives t.change_gives t.parameter_gives p c.args.given.now.setting.now c.args.given.now.reduced.now
+    c.args.given.now.fixed.now forms i)
     (λ r h. linear_gives p i c.args.call.now c.requires.call n at c.deref.result.now
     (ap (map sides_of) c.deref.ensures.value ∙ c.in-Ok.ensures ∙ sides_of_args p i n at (positions c.args.args.now.ids.now) c.requires.ids) c.as_slice.result.now
-    (subst (λ ts. IfSome ((linear_meaning c.args.call.now).shape (sides_list c.deref.result.now)) (λ s. AreTermsOf (linear_meaning c.args.call.now) (sides_list c.deref.result.now) (entries_of s) ts)) (sym c.as_slice.ensures) c.in-Ok-map.ensures)
-    t.of_number t.number_of t.sum_gives t.change_gives t.parameter_gives c.args.given.now.setting.now c.args.given.now.reduced.now c.args.given.now.fixed.now forms (positions c.args.args.now.ids.now) c.requires.ids
+    (subst (λ ts. IfSome ((linear_meaning c.args.call.now).shape (sides_list c.deref.result.now))
+    (λ s. AreTermsOf (linear_meaning c.args.call.now) (sides_list c.deref.result.now) (entries_of s) ts)) (sym c.as_slice.ensures) c.in-Ok-map.ensures)
+    t.of_number t.number_of t.sum_gives t.change_gives t.parameter_gives c.args.given.now.setting.now c.args.given.now.reduced.now c.args.given.now.fixed.now forms
+    (positions c.args.args.now.ids.now) c.requires.ids
     c.size-size.result r (c.size-size.ensures.value ∙ ap entries_of c.shape.ensures) h)
     c.linear_entries-entries.ensures

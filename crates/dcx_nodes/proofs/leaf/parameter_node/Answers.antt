@@ -40,5 +40,6 @@ pub overflow_cast-position : goal.overflow_cast-position
 overflow_cast-position g c =
     let p = c.args.given.now.problem.now in
     let name = c.args.parameter.now.name in
-    let is : c.parameter_position-position.result ≡ number_in (names_in p).parameters name = c.parameter_position-position.ensures ∙ ap (λ qs. number_in (map (λ w. w.name) qs) name) c.as_slice.ensures in
+    let is : c.parameter_position-position.result ≡ number_in (names_in p).parameters name = c.parameter_position-position.ensures
+    ∙ ap (λ qs. number_in (map (λ w. w.name) qs) name) c.as_slice.ensures in
     omega (arith, is, parameter_small p name)

@@ -13,14 +13,16 @@ pub bounds-given-position : goal.bounds-given-position
 bounds-given-position g c =
     let p = c.args.given.now.problem.now in
     let v = c.args.variable.now in
-    let is : c.variable_position-position.result ≡ place p c.args.node.0 v c.requires.call = c.variable_position-position.ensures ∙ ap (λ vs. number_in (map (λ w. w.name) vs) v.name) c.as_slice.ensures in
+    let is : c.variable_position-position.result ≡ place p c.args.node.0 v c.requires.call = c.variable_position-position.ensures
+    ∙ ap (λ vs. number_in (map (λ w. w.name) vs) v.name) c.as_slice.ensures in
     omega (arith, is, place_there p c.args.node.0 v c.requires.call, firsts_counted p.variables c.args.given.now.firsts.now c.requires.ready.begin)
 
 pub offset_bounds-given-position : goal.offset_bounds-given-position
 offset_bounds-given-position g c =
     let p = c.args.given.now.problem.now in
     let v = c.args.variable.now in
-    let is : c.variable_position-position.result ≡ place p c.args.node.0 v c.requires.call = c.variable_position-position.ensures ∙ ap (λ vs. number_in (map (λ w. w.name) vs) v.name) c.as_slice.ensures in
+    let is : c.variable_position-position.result ≡ place p c.args.node.0 v c.requires.call = c.variable_position-position.ensures
+    ∙ ap (λ vs. number_in (map (λ w. w.name) vs) v.name) c.as_slice.ensures in
     omega (arith, is, place_there p c.args.node.0 v c.requires.call, few_variables p)
 
 pub entry_unknowns-requires-clause-square : goal.entry_unknowns-requires-clause-square
@@ -31,7 +33,8 @@ entry_unknowns-requires-clause-fits g c =
     let p = c.args.given.now.problem.now in
     let v = c.args.variable.now in
     let firsts = c.args.given.now.firsts.now in
-    let is : c.variable_position-position.result ≡ place p c.args.node.0 v c.requires.call = c.variable_position-position.ensures ∙ ap (λ vs. number_in (map (λ w. w.name) vs) v.name) c.as_slice.ensures in
+    let is : c.variable_position-position.result ≡ place p c.args.node.0 v c.requires.call = c.variable_position-position.ensures
+    ∙ ap (λ vs. number_in (map (λ w. w.name) vs) v.name) c.as_slice.ensures in
     let first : get_or firsts c.variable_position-position.result 0 ≡ first_unknown p.variables (place p c.args.node.0 v c.requires.call) =
     ap (λ k. get_or firsts k 0) is ∙ first_at p.variables firsts (place p c.args.node.0 v c.requires.call) 0 c.requires.ready.begin (place_there p c.args.node.0 v c.requires.call) in
     omega (arith, first, unknowns_within p c.args.node.0 v c.requires.call, few_variable_unknowns p c.args.given.now.reduced.now c.requires.ready.few)
@@ -51,7 +54,8 @@ returns-in-Ok-variable_entries-clause-entries g c forms =
     let p = c.args.given.now.problem.now in
     let v = c.args.variable.now in
     let firsts = c.args.given.now.firsts.now in
-    let is : c.variable_position-position.result ≡ place p c.args.node.0 v c.requires.call = c.variable_position-position.ensures ∙ ap (λ vs. number_in (map (λ w. w.name) vs) v.name) c.as_slice.ensures in
+    let is : c.variable_position-position.result ≡ place p c.args.node.0 v c.requires.call = c.variable_position-position.ensures
+    ∙ ap (λ vs. number_in (map (λ w. w.name) vs) v.name) c.as_slice.ensures in
     let first : get_or firsts c.variable_position-position.result 0 ≡ first_unknown p.variables (place p c.args.node.0 v c.requires.call) =
     ap (λ k. get_or firsts k 0) is ∙ first_at p.variables firsts (place p c.args.node.0 v c.requires.call) 0 c.requires.ready.begin (place_there p c.args.node.0 v c.requires.call) in
     variable_gives t.of_number t.number_of t.sum_gives t.change_gives t.parameter_gives p c.args.given.now.setting.now c.args.given.now.reduced.now c.args.given.now.fixed.now forms c.args.node.0

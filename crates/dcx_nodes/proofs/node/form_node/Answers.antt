@@ -13,17 +13,26 @@ node_value-requires-clause-given g c = λ n at. c.requires.ready.numbers c.args.
 pub returns-then-given-node-clause-entries : goal.returns-then-given-node-clause-entries
 returns-then-given-node-clause-entries g c =
     let t = g.C.Coef in
-    standing_weaker t.of_number c.form_reduced.result (ReducedGives t.of_number t.number_of t.sum_gives t.change_gives t.parameter_gives c.args.given.now.problem.now c.args.given.now.setting.now c.args.given.now.reduced.now c.args.given.now.fixed.now (all_forms t.of_number c.args.standing.now) c.args.node.0)
-    (MarkedGives t.of_number t.number_of t.sum_gives t.change_gives t.parameter_gives c.args.given.now.problem.now c.args.given.now.setting.now c.args.given.now.reduced.now c.args.given.now.fixed.now (all_forms t.of_number c.args.standing.now) c.args.node.0)
-    (λ r h. marked_reduced t.of_number t.number_of t.sum_gives t.change_gives t.parameter_gives c.args.given.now.problem.now c.args.given.now.setting.now c.args.given.now.reduced.now c.args.given.now.fixed.now (all_forms t.of_number c.args.standing.now) c.args.node.0 r c.requires.there c.if-given-node.true h) c.form_reduced.ensures.entries
+    standing_weaker t.of_number c.form_reduced.result
+    (ReducedGives t.of_number t.number_of t.sum_gives t.change_gives t.parameter_gives c.args.given.now.problem.now c.args.given.now.setting.now c.args.given.now.reduced.now
+    c.args.given.now.fixed.now (all_forms t.of_number c.args.standing.now) c.args.node.0)
+    (MarkedGives t.of_number t.number_of t.sum_gives t.change_gives t.parameter_gives c.args.given.now.problem.now c.args.given.now.setting.now c.args.given.now.reduced.now
+    c.args.given.now.fixed.now (all_forms t.of_number c.args.standing.now) c.args.node.0)
+    (λ r h. marked_reduced t.of_number t.number_of t.sum_gives t.change_gives t.parameter_gives c.args.given.now.problem.now c.args.given.now.setting.now c.args.given.now.reduced.now
+    c.args.given.now.fixed.now (all_forms t.of_number c.args.standing.now) c.args.node.0 r c.requires.there c.if-given-node.true h) c.form_reduced.ensures.entries
 
 pub returns-else-given-node-clause-entries : goal.returns-else-given-node-clause-entries
 returns-else-given-node-clause-entries g c =
     let t = g.C.Coef in
-    standing_weaker t.of_number c.as_value.result (ValueGives t.of_number t.number_of t.sum_gives t.change_gives t.parameter_gives c.args.given.now.problem.now c.args.given.now.setting.now (all_forms t.of_number c.args.standing.now) c.args.node.0)
-    (MarkedGives t.of_number t.number_of t.sum_gives t.change_gives t.parameter_gives c.args.given.now.problem.now c.args.given.now.setting.now c.args.given.now.reduced.now c.args.given.now.fixed.now (all_forms t.of_number c.args.standing.now) c.args.node.0)
-    (λ r h. marked_number t.of_number t.number_of t.sum_gives t.change_gives t.parameter_gives c.args.given.now.problem.now c.args.given.now.setting.now c.args.given.now.reduced.now c.args.given.now.fixed.now (all_forms t.of_number c.args.standing.now) c.args.node.0 r c.requires.there c.if-given-node.false h)
-    (value_by t.of_number c.node_value.result c.as_value.result c.as_value.ensures (ValueGives t.of_number t.number_of t.sum_gives t.change_gives t.parameter_gives c.args.given.now.problem.now c.args.given.now.setting.now (all_forms t.of_number c.args.standing.now) c.args.node.0) c.node_value.ensures.value)
+    standing_weaker t.of_number c.as_value.result (ValueGives t.of_number t.number_of t.sum_gives t.change_gives t.parameter_gives c.args.given.now.problem.now c.args.given.now.setting.now
+    (all_forms t.of_number c.args.standing.now) c.args.node.0)
+    (MarkedGives t.of_number t.number_of t.sum_gives t.change_gives t.parameter_gives c.args.given.now.problem.now c.args.given.now.setting.now c.args.given.now.reduced.now
+    c.args.given.now.fixed.now (all_forms t.of_number c.args.standing.now) c.args.node.0)
+    (λ r h. marked_number t.of_number t.number_of t.sum_gives t.change_gives t.parameter_gives c.args.given.now.problem.now c.args.given.now.setting.now c.args.given.now.reduced.now
+    c.args.given.now.fixed.now (all_forms t.of_number c.args.standing.now) c.args.node.0 r c.requires.there c.if-given-node.false h)
+    (value_by t.of_number c.node_value.result c.as_value.result c.as_value.ensures
+    (ValueGives t.of_number t.number_of t.sum_gives t.change_gives t.parameter_gives c.args.given.now.problem.now c.args.given.now.setting.now
+    (all_forms t.of_number c.args.standing.now) c.args.node.0) c.node_value.ensures.value)
 
 pub returns-else-given-node-clause-next : goal.returns-else-given-node-clause-next
 returns-else-given-node-clause-next g c =

@@ -16,25 +16,32 @@ returns-in-Variable-clause-sides g c =
 pub returns-in-Variable-clause-entries : goal.returns-in-Variable-clause-entries
 returns-in-Variable-clause-entries g c =
     let t = g.C.Coef in
-    forms_by t.of_number c.variable_node.result c.as_forms.result c.as_forms.ensures (ReducedGives t.of_number t.number_of t.sum_gives t.change_gives t.parameter_gives c.args.given.now.problem.now c.args.given.now.setting.now c.args.given.now.reduced.now c.args.given.now.fixed.now (all_forms t.of_number c.args.args.now.standing.now) c.args.node.0) (c.variable_node.ensures.entries (all_forms t.of_number c.args.args.now.standing.now))
+    forms_by t.of_number c.variable_node.result c.as_forms.result c.as_forms.ensures
+    (ReducedGives t.of_number t.number_of t.sum_gives t.change_gives t.parameter_gives c.args.given.now.problem.now c.args.given.now.setting.now c.args.given.now.reduced.now
+    c.args.given.now.fixed.now (all_forms t.of_number c.args.args.now.standing.now) c.args.node.0) (c.variable_node.ensures.entries (all_forms t.of_number c.args.args.now.standing.now))
 
 pub returns-in-Variable-clause-next : goal.returns-in-Variable-clause-next
 returns-in-Variable-clause-next g c =
-    next_stays c.args.given.now.problem.now c.args.given.now.reduced.now c.args.node.0 c.args.next.now c.requires.next c.requires.reduced (calls.Variable c.in-Variable.variable) (c.call.ensures ∙ ap Some c.in-Variable.is) (λ n. refl) c.as_forms.result
+    next_stays c.args.given.now.problem.now c.args.given.now.reduced.now c.args.node.0 c.args.next.now c.requires.next c.requires.reduced (calls.Variable c.in-Variable.variable)
+    (c.call.ensures ∙ ap Some c.in-Variable.is) (λ n. refl) c.as_forms.result
 
 pub returns-in-Parameter-clause-sides : goal.returns-in-Parameter-clause-sides
 returns-in-Parameter-clause-sides g c =
     let t = g.C.Coef in
-    forms_sides t.of_number c.parameter_node.result c.as_forms-in-Parameter.result c.as_forms-in-Parameter.ensures (sides_at c.args.given.now.problem.now.tree c.args.node.0) c.parameter_node.ensures.count
+    forms_sides t.of_number c.parameter_node.result c.as_forms-in-Parameter.result c.as_forms-in-Parameter.ensures
+    (sides_at c.args.given.now.problem.now.tree c.args.node.0) c.parameter_node.ensures.count
 
 pub returns-in-Parameter-clause-entries : goal.returns-in-Parameter-clause-entries
 returns-in-Parameter-clause-entries g c =
     let t = g.C.Coef in
-    forms_by t.of_number c.parameter_node.result c.as_forms-in-Parameter.result c.as_forms-in-Parameter.ensures (ReducedGives t.of_number t.number_of t.sum_gives t.change_gives t.parameter_gives c.args.given.now.problem.now c.args.given.now.setting.now c.args.given.now.reduced.now c.args.given.now.fixed.now (all_forms t.of_number c.args.args.now.standing.now) c.args.node.0) (c.parameter_node.ensures.entries (all_forms t.of_number c.args.args.now.standing.now))
+    forms_by t.of_number c.parameter_node.result c.as_forms-in-Parameter.result c.as_forms-in-Parameter.ensures
+    (ReducedGives t.of_number t.number_of t.sum_gives t.change_gives t.parameter_gives c.args.given.now.problem.now c.args.given.now.setting.now c.args.given.now.reduced.now
+    c.args.given.now.fixed.now (all_forms t.of_number c.args.args.now.standing.now) c.args.node.0) (c.parameter_node.ensures.entries (all_forms t.of_number c.args.args.now.standing.now))
 
 pub returns-in-Parameter-clause-next : goal.returns-in-Parameter-clause-next
 returns-in-Parameter-clause-next g c =
-    next_stays c.args.given.now.problem.now c.args.given.now.reduced.now c.args.node.0 c.args.next.now c.requires.next c.requires.reduced (calls.Parameter c.in-Parameter.parameter) (c.call.ensures ∙ ap Some c.in-Parameter.is) (λ n. refl) c.as_forms-in-Parameter.result
+    next_stays c.args.given.now.problem.now c.args.given.now.reduced.now c.args.node.0 c.args.next.now c.requires.next c.requires.reduced (calls.Parameter c.in-Parameter.parameter)
+    (c.call.ensures ∙ ap Some c.in-Parameter.is) (λ n. refl) c.as_forms-in-Parameter.result
 
 pub returns-in-Linear-clause-sides : goal.returns-in-Linear-clause-sides
 returns-in-Linear-clause-sides g c =
@@ -44,11 +51,14 @@ returns-in-Linear-clause-sides g c =
 pub returns-in-Linear-clause-entries : goal.returns-in-Linear-clause-entries
 returns-in-Linear-clause-entries g c =
     let t = g.C.Coef in
-    forms_by t.of_number c.linear_node.result c.as_forms-in-Linear.result c.as_forms-in-Linear.ensures (ReducedGives t.of_number t.number_of t.sum_gives t.change_gives t.parameter_gives c.args.given.now.problem.now c.args.given.now.setting.now c.args.given.now.reduced.now c.args.given.now.fixed.now (all_forms t.of_number c.args.args.now.standing.now) c.args.node.0) (c.linear_node.ensures.entries)
+    forms_by t.of_number c.linear_node.result c.as_forms-in-Linear.result c.as_forms-in-Linear.ensures
+    (ReducedGives t.of_number t.number_of t.sum_gives t.change_gives t.parameter_gives c.args.given.now.problem.now c.args.given.now.setting.now c.args.given.now.reduced.now
+    c.args.given.now.fixed.now (all_forms t.of_number c.args.args.now.standing.now) c.args.node.0) (c.linear_node.ensures.entries)
 
 pub returns-in-Linear-clause-next : goal.returns-in-Linear-clause-next
 returns-in-Linear-clause-next g c =
-    next_stays c.args.given.now.problem.now c.args.given.now.reduced.now c.args.node.0 c.args.next.now c.requires.next c.requires.reduced (calls.Linear c.in-Linear.call) (c.call.ensures ∙ ap Some c.in-Linear.is) (λ n. refl) c.as_forms-in-Linear.result
+    next_stays c.args.given.now.problem.now c.args.given.now.reduced.now c.args.node.0 c.args.next.now c.requires.next c.requires.reduced (calls.Linear c.in-Linear.call)
+    (c.call.ensures ∙ ap Some c.in-Linear.is) (λ n. refl) c.as_forms-in-Linear.result
 
 pub returns-in-Pairing-clause-sides : goal.returns-in-Pairing-clause-sides
 returns-in-Pairing-clause-sides g c =
@@ -58,11 +68,14 @@ returns-in-Pairing-clause-sides g c =
 pub returns-in-Pairing-clause-entries : goal.returns-in-Pairing-clause-entries
 returns-in-Pairing-clause-entries g c =
     let t = g.C.Coef in
-    forms_by t.of_number c.pairing_node.result c.as_forms-in-Pairing.result c.as_forms-in-Pairing.ensures (ReducedGives t.of_number t.number_of t.sum_gives t.change_gives t.parameter_gives c.args.given.now.problem.now c.args.given.now.setting.now c.args.given.now.reduced.now c.args.given.now.fixed.now (all_forms t.of_number c.args.args.now.standing.now) c.args.node.0) (c.pairing_node.ensures.entries)
+    forms_by t.of_number c.pairing_node.result c.as_forms-in-Pairing.result c.as_forms-in-Pairing.ensures
+    (ReducedGives t.of_number t.number_of t.sum_gives t.change_gives t.parameter_gives c.args.given.now.problem.now c.args.given.now.setting.now c.args.given.now.reduced.now
+    c.args.given.now.fixed.now (all_forms t.of_number c.args.args.now.standing.now) c.args.node.0) (c.pairing_node.ensures.entries)
 
 pub returns-in-Pairing-clause-next : goal.returns-in-Pairing-clause-next
 returns-in-Pairing-clause-next g c =
-    next_stays c.args.given.now.problem.now c.args.given.now.reduced.now c.args.node.0 c.args.next.now c.requires.next c.requires.reduced (calls.Pairing c.in-Pairing.pairing) (c.call.ensures ∙ ap Some c.in-Pairing.is) (λ n. refl) c.as_forms-in-Pairing.result
+    next_stays c.args.given.now.problem.now c.args.given.now.reduced.now c.args.node.0 c.args.next.now c.requires.next c.requires.reduced (calls.Pairing c.in-Pairing.pairing)
+    (c.call.ensures ∙ ap Some c.in-Pairing.is) (λ n. refl) c.as_forms-in-Pairing.result
 
 pub node_value-requires-clause-given : goal.node_value-requires-clause-given
 node_value-requires-clause-given g c =
@@ -77,15 +90,21 @@ returns-in-Constant-clause-sides g c =
 pub returns-in-Constant-clause-entries : goal.returns-in-Constant-clause-entries
 returns-in-Constant-clause-entries g c =
     let t = g.C.Coef in
-    standing_weaker t.of_number c.as_value.result (ValueGives t.of_number t.number_of t.sum_gives t.change_gives t.parameter_gives c.args.given.now.problem.now c.args.given.now.setting.now (all_forms t.of_number c.args.args.now.standing.now) c.args.node.0)
-    (ReducedGives t.of_number t.number_of t.sum_gives t.change_gives t.parameter_gives c.args.given.now.problem.now c.args.given.now.setting.now c.args.given.now.reduced.now c.args.given.now.fixed.now (all_forms t.of_number c.args.args.now.standing.now) c.args.node.0)
-    (λ r h. constant_gives t.of_number t.number_of t.sum_gives t.change_gives t.parameter_gives c.args.given.now.problem.now c.args.given.now.setting.now c.args.given.now.reduced.now c.args.given.now.fixed.now (all_forms t.of_number c.args.args.now.standing.now) c.args.node.0 r
+    standing_weaker t.of_number c.as_value.result (ValueGives t.of_number t.number_of t.sum_gives t.change_gives t.parameter_gives c.args.given.now.problem.now c.args.given.now.setting.now
+    (all_forms t.of_number c.args.args.now.standing.now) c.args.node.0)
+    (ReducedGives t.of_number t.number_of t.sum_gives t.change_gives t.parameter_gives c.args.given.now.problem.now c.args.given.now.setting.now c.args.given.now.reduced.now
+    c.args.given.now.fixed.now (all_forms t.of_number c.args.args.now.standing.now) c.args.node.0)
+    (λ r h. constant_gives t.of_number t.number_of t.sum_gives t.change_gives t.parameter_gives c.args.given.now.problem.now c.args.given.now.setting.now c.args.given.now.reduced.now
+    c.args.given.now.fixed.now (all_forms t.of_number c.args.args.now.standing.now) c.args.node.0 r
     c.in-Constant.field-0 (c.call.ensures ∙ ap Some c.in-Constant.is) h)
-    (value_by t.of_number c.node_value.result c.as_value.result c.as_value.ensures (ValueGives t.of_number t.number_of t.sum_gives t.change_gives t.parameter_gives c.args.given.now.problem.now c.args.given.now.setting.now (all_forms t.of_number c.args.args.now.standing.now) c.args.node.0) c.node_value.ensures.value)
+    (value_by t.of_number c.node_value.result c.as_value.result c.as_value.ensures
+    (ValueGives t.of_number t.number_of t.sum_gives t.change_gives t.parameter_gives c.args.given.now.problem.now c.args.given.now.setting.now
+    (all_forms t.of_number c.args.args.now.standing.now) c.args.node.0) c.node_value.ensures.value)
 
 pub returns-in-Constant-clause-next : goal.returns-in-Constant-clause-next
 returns-in-Constant-clause-next g c =
-    next_stays c.args.given.now.problem.now c.args.given.now.reduced.now c.args.node.0 c.args.next.now c.requires.next c.requires.reduced (calls.Constant c.in-Constant.field-0) (c.call.ensures ∙ ap Some c.in-Constant.is) (λ n. refl) c.as_value.result
+    next_stays c.args.given.now.problem.now c.args.given.now.reduced.now c.args.node.0 c.args.next.now c.requires.next c.requires.reduced (calls.Constant c.in-Constant.field-0)
+    (c.call.ensures ∙ ap Some c.in-Constant.is) (λ n. refl) c.as_value.result
 
 pub atom_node-requires-clause-call : goal.atom_node-requires-clause-call
 atom_node-requires-clause-call g c =
@@ -100,12 +119,15 @@ returns-in-Atom-clause-sides g c =
 pub returns-in-Atom-clause-entries : goal.returns-in-Atom-clause-entries
 returns-in-Atom-clause-entries g c =
     let t = g.C.Coef in
-    forms_by t.of_number c.atom_node.result c.as_forms-in-Atom.result c.as_forms-in-Atom.ensures (ReducedGives t.of_number t.number_of t.sum_gives t.change_gives t.parameter_gives c.args.given.now.problem.now c.args.given.now.setting.now c.args.given.now.reduced.now c.args.given.now.fixed.now (all_forms t.of_number c.args.args.now.standing.now) c.args.node.0) c.atom_node.ensures.entries
+    forms_by t.of_number c.atom_node.result c.as_forms-in-Atom.result c.as_forms-in-Atom.ensures
+    (ReducedGives t.of_number t.number_of t.sum_gives t.change_gives t.parameter_gives c.args.given.now.problem.now c.args.given.now.setting.now c.args.given.now.reduced.now
+    c.args.given.now.fixed.now (all_forms t.of_number c.args.args.now.standing.now) c.args.node.0) c.atom_node.ensures.entries
 
 pub returns-in-Atom-clause-next : goal.returns-in-Atom-clause-next
 returns-in-Atom-clause-next g c =
     let t = g.C.Coef in
-    forms_on t.of_number c.atom_node.result c.as_forms-in-Atom.result c.as_forms-in-Atom.ensures (c.atom_node.new.next ≡ first_marked c.args.given.now.problem.now c.args.given.now.reduced.now (c.args.node.0 + 1)) c.atom_node.ensures.next
+    forms_on t.of_number c.atom_node.result c.as_forms-in-Atom.result c.as_forms-in-Atom.ensures
+    (c.atom_node.new.next ≡ first_marked c.args.given.now.problem.now c.args.given.now.reduced.now (c.args.node.0 + 1)) c.atom_node.ensures.next
 
 pub variable_node-requires-clause-ready : goal.variable_node-requires-clause-ready
 variable_node-requires-clause-ready g c = c.requires.ready

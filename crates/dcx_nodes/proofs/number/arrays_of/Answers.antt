@@ -1,4 +1,4 @@
--- One argument more.
+-- One more argument has the array of the numbers that it is.
 use Rattle.std.proofs.Common.{length, get_or, sym, ◌∙◌, subst, arith}
 use Rattle.std.proofs.lemmas.List.{take_all}
 use Rattle.dcx_arena.specs.Nodes.{positions, sides_at}
@@ -22,7 +22,8 @@ push_numbers-requires g c =
     let a = (get_or c.args.args.now.ids.now c.ids.id-index (record { 0 = 0 })).0 in
     let below = position_below c.args.args.now.ids.now (length standing) c.ids.id-index c.requires.before c.ids-test.true in
     let here : IsOfSides (sides_at c.args.tree.now a) c.index-args-id.result =
-    sides_here c.args.tree.now standing c.args.args.now.ids.now c.ids.id-index c.ids-test.true c.requires.sides c.index-args-id.result (found_at standing a c.index-args-id.result below c.index-args-id.is) in
+    sides_here c.args.tree.now standing c.args.args.now.ids.now c.ids.id-index c.ids-test.true c.requires.sides c.index-args-id.result
+    (found_at standing a c.index-args-id.result below c.index-args-id.is) in
     subst (λ z. IsOfSides z (get_or standing a c.index-args-id.result)) (sym c.shape.ensures) (subst (IsOfSides (sides_at c.args.tree.now a)) c.index-args-id.is here)
 
 pub ids-preserved : goal.ids-preserved

@@ -1,4 +1,4 @@
--- The arrays so far.
+-- The arrays so far are those of the arguments passed.
 use Rattle.std.proofs.Common.{take}
 use Rattle.dcx_arena.specs.Nodes.{positions}
 use Rattle.dcx_nodes.specs.Numbers.{HaveNumbersOf}

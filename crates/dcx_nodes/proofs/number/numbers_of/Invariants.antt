@@ -1,4 +1,4 @@
--- The numbers so far.
+-- The numbers so far are those of the entries passed.
 use Rattle.dcx_nodes.proofs.Numbers.{AreNumbersTo}
 use Rattle.dcx_nodes.proofs.number.numbers_of.Given as goal
 

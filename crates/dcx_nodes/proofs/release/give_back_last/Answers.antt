@@ -1,4 +1,4 @@
--- One node more.
+-- What stands for one more node is given back where this is its last use, and stays where it isn't.
 use Rattle.std.proofs.Common.{◌+◌, length, get_or, take, sym, ap, ◌∙◌, subst, arith}
 use Rattle.std.proofs.Math.ListN.{set}
 use Rattle.dcx_arena.specs.Nodes.{positions}

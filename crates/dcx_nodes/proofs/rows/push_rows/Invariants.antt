@@ -1,4 +1,4 @@
--- The rows so far.
+-- The rows of the entry so far are added, and counted.
 use Rattle.std.proofs.Common.{◌≡◌, ◌++◌, length, take}
 use Rattle.dcx_nodes.proofs.GraphRows.{rows_made}
 use Rattle.dcx_nodes.proofs.rows.push_rows.Given as goal

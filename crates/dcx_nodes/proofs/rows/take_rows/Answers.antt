@@ -1,4 +1,4 @@
--- One entry more.
+-- One more entry gives its rows and keeps its form.
 use Rattle.std.proofs.Common.{◌≡◌, ◌<◌, ◌++◌, length, refl, sym, ap, ◌∙◌, arith}
 use Rattle.std.proofs.lemmas.List.{append-nil}
 use Rattle.dcx_entries.specs.Parts.{zero_form}
@@ -18,10 +18,12 @@ entries-preserved g c =
     let j = c.entries.j in
     let lt : j < length now = omega (arith, c.entries-test.true, c.entries.auto.entries) in
     record {
-      forms = forms_set t.of_number now j c.take_entry.new.entry lt (c.in_ok-take_entry.ensures.form ∙ ap (λ e. e.form) (same_get now j c.index-entries-j.result c.take_entry.new.entry lt)) ∙ c.entries.invariant.forms;
+      forms = forms_set t.of_number now j c.take_entry.new.entry lt (c.in_ok-take_entry.ensures.form ∙ ap (λ e. e.form) (same_get now j c.index-entries-j.result c.take_entry.new.entry lt))
+          ∙ c.entries.invariant.forms;
       later = later_same t.of_number es now j c.take_entry.new.entry c.entries.invariant.later;
       rows_are = entry_more t.of_number c.args.node.0 es j _ c.args.rows.now.items c.entries.rows.items c.take_entry.new.rows.items
-          (same_get now j c.index-entries-j.result (alone (zero_form t.of_number)) lt ∙ c.entries.invariant.later j (alone (zero_form t.of_number)) (omega arith)) c.entries.invariant.rows_are c.in_ok-take_entry.ensures.rows;
+          (same_get now j c.index-entries-j.result (alone (zero_form t.of_number)) lt ∙ c.entries.invariant.later j (alone (zero_form t.of_number)) (omega arith)) c.entries.invariant.rows_are
+          c.in_ok-take_entry.ensures.rows;
     }
 
 pub returns : goal.returns

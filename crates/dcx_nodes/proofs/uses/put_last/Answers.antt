@@ -1,4 +1,4 @@
--- One node more.
+-- One more node has the place as its last use.
 use Rattle.std.proofs.Common.{length, arith}
 use Rattle.dcx_arena.proofs.Positions.{position_below}
 use Rattle.dcx_nodes.proofs.LastUses.{put_next}

@@ -1,4 +1,4 @@
--- It is put at the nodes so far.
+-- The nodes so far have the place as their last use.
 use Rattle.std.proofs.Common.{take}
 use Rattle.dcx_arena.specs.Nodes.{positions}
 use Rattle.dcx_nodes.specs.Uses.{IsPut}

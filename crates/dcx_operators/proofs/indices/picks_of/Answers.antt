@@ -13,12 +13,17 @@ use Rattle.dcx_operators.proofs.indices.picks_of.Goals as goal
 pub loop-index-preserved : goal.loop-index-preserved
 loop-index-preserved c = record {
   whole = rw c.in_ok-push-in-Some.ensures.items
-      (sym (picked_by-next c.loop-index.picks.items c.in-Some.pick c.args.indices.now c.loop-index.index-index c.index-item.result c.loop-index-test.true c.index-item.is (sym c.in-Some.is ∙ c.pick_of.ensures.picks)) ∙ c.loop-index.invariant.whole);
+      (sym (picked_by-next c.loop-index.picks.items c.in-Some.pick c.args.indices.now c.loop-index.index-index c.index-item.result c.loop-index-test.true c.index-item.is
+      (sym c.in-Some.is ∙ c.pick_of.ensures.picks)) ∙ c.loop-index.invariant.whole);
   steps = subst (All HasStep) (sym c.in_ok-push-in-Some.ensures.items) (All-push HasStep c.loop-index.picks.items c.in-Some.pick c.loop-index.invariant.steps c.in-Some.ensures.steps);
 }
 
 pub loop-index-init : goal.loop-index-init
-loop-index-init c = record { whole = picked_by-start c.in_ok-picks.picks.items c.args.indices.now c.in_ok-picks.ensures.items; steps = subst (All HasStep) (sym c.in_ok-picks.ensures.items) (search rules) }
+loop-index-init c = record {
+  whole = picked_by-start c.in_ok-picks.picks.items c.args.indices.now c.in_ok-picks.ensures.items;
+  steps = subst (All HasStep)
+      (sym c.in_ok-picks.ensures.items) (search rules);
+}
 
 pub loop-index-smaller : goal.loop-index-smaller
 loop-index-smaller c = search rules

@@ -9,6 +9,8 @@ use Rattle.dcx_operators.proofs.operators.compare_values.Goals as goal
 
 pub returns : goal.returns
 returns c =
-    let same = subst (λ (p : Pair). Gives meant c.pair_compared.result c.pair_compared.new.state (compared_pair c.args.comparison c.args.place p c.args.state.now)) c.in_ok-pair.ensures c.pair_compared.ensures in
-    subst (λ (b : Bool). Gives meant c.pair_compared.result c.pair_compared.new.state ((unless (NotOffered c.args.place) b >> compared_pair c.args.comparison c.args.place (beside (meant c.args.left) (meant c.args.right))) c.args.state.now))
+    let same = subst (λ (p : Pair). Gives meant c.pair_compared.result c.pair_compared.new.state (compared_pair c.args.comparison c.args.place p c.args.state.now))
+    c.in_ok-pair.ensures c.pair_compared.ensures in
+    subst (λ (b : Bool). Gives meant c.pair_compared.result c.pair_compared.new.state
+    ((unless (NotOffered c.args.place) b >> compared_pair c.args.comparison c.args.place (beside (meant c.args.left) (meant c.args.right))) c.args.state.now))
     (sym c.if-not-is_offered.false ∙ c.is_offered.ensures) same

@@ -11,13 +11,15 @@ ask_session-outcomes-requires g c = subst (g.Q.Question.can_ask c.args.question.
 
 pub returns-clause-outcomes : goal.returns-clause-outcomes
 returns-clause-outcomes g c =
-    subst (λ (z : Problem). IfOk c.ask_session-outcomes.result (λ v. AreAskedOutcomes (g.Q.Question.gives c.args.question.now) g.Q.Question.told_end g.Q.Question.told_place z c.args.settings.now v.items))
+    subst (λ (z : Problem). IfOk c.ask_session-outcomes.result (λ v. AreAskedOutcomes
+    (g.Q.Question.gives c.args.question.now) g.Q.Question.told_end g.Q.Question.told_place z c.args.settings.now v.items))
     c.in_ok-session.ensures.problem c.ask_session-outcomes.ensures.outcomes
 
 pub returns-clause-counted : goal.returns-clause-counted
 returns-clause-counted g c =
     on_ok c.ask_session-outcomes.result _
-    (counts c.args.problem c.in_ok-session.session.problem c.in_ok-session.session.cached (length c.args.settings.now) c.args.steps.now c.begin.new.steps c.ask_session-outcomes.new.steps c.in_ok-session.ensures.problem c.in_ok-session.ensures.counted
+    (counts c.args.problem c.in_ok-session.session.problem c.in_ok-session.session.cached
+    (length c.args.settings.now) c.args.steps.now c.begin.new.steps c.ask_session-outcomes.new.steps c.in_ok-session.ensures.problem c.in_ok-session.ensures.counted
     c.in_ok-session.ensures.cached c.in_ok-session.ensures.few c.ask_session-outcomes.ensures.counted c.ask_session-outcomes.ensures.few)
 
 pub returns-in_err-session-clause-few : goal.returns-in_err-session-clause-few
@@ -25,5 +27,6 @@ returns-in_err-session-clause-few g c = begun_no_more c.args.problem (length c.a
 
 pub returns-clause-few : goal.returns-clause-few
 returns-clause-few g c =
-    no_more c.args.problem c.in_ok-session.session.problem (length c.args.settings.now) c.args.steps.now c.begin.new.steps c.ask_session-outcomes.new.steps c.in_ok-session.ensures.problem c.begin.ensures.few c.ask_session-outcomes.ensures.counted
+    no_more c.args.problem c.in_ok-session.session.problem (length c.args.settings.now) c.args.steps.now c.begin.new.steps c.ask_session-outcomes.new.steps c.in_ok-session.ensures.problem
+    c.begin.ensures.few c.ask_session-outcomes.ensures.counted
     c.ask_session-outcomes.ensures.few

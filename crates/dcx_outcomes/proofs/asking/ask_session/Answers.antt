@@ -20,9 +20,11 @@ loop-setting-preserved g c =
     let p = c.args.session.now.problem in
     let asked = g.Q.Question in
     record {
-      outcomes = zip_more (IsAskedOutcome (asked.gives c.args.question.now) asked.told_end asked.told_place p) c.args.settings.now c.loop-setting.outcomes.items c.push.new.self.items c.loop-setting.setting-index c.setting-item.result c.outcome-next.result (omega arith)
+      outcomes = zip_more (IsAskedOutcome (asked.gives c.args.question.now) asked.told_end asked.told_place p) c.args.settings.now c.loop-setting.outcomes.items c.push.new.self.items
+          c.loop-setting.setting-index c.setting-item.result c.outcome-next.result (omega arith)
           c.setting-item.is c.in_ok-push.ensures.items before.outcomes
-          (subst (λ (z : Problem). IsAskedOutcome (asked.gives c.args.question.now) asked.told_end asked.told_place z c.setting-item.result c.outcome-next.result) before.same c.outcome-next.ensures.outcome);
+          (subst (λ (z : Problem). IsAskedOutcome
+          (asked.gives c.args.question.now) asked.told_end asked.told_place z c.setting-item.result c.outcome-next.result) before.same c.outcome-next.ensures.outcome);
       same = c.outcome-next.ensures.same ∙ before.same;
       counted = λ h. c.outcome-next.ensures.counted (subst (λ (z : Problem). HasMap z) (sym before.same) h) ∙ before.counted h;
       few = steps_more c.loop-setting.setting-index (length p.tree) c.args.steps.now c.loop-setting.steps c.outcome-next.new.steps before.few

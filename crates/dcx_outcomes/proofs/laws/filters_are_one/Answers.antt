@@ -1,3 +1,4 @@
+-- Settings have one list of what the filter finds.
 use Rattle.dcx_outcomes.proofs.FilterEnds as holds
 use Rattle.dcx_outcomes.proofs.laws.filters_are_one.Goals as goal
 

@@ -1,3 +1,4 @@
+-- Settings have one list of outcomes.
 use Rattle.dcx_outcomes.proofs.OneOutcome.{outcomes_are_one}
 use Rattle.dcx_outcomes.proofs.laws.outcomes_are_one.Goals as goal
 

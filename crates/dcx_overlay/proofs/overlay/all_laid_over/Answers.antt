@@ -12,5 +12,6 @@ laid_over-requires c =
 
 pub loop-line-preserved : goal.loop-line-preserved
 loop-line-preserved c =
-    line_more c.args.setting.now c.args.lines.now c.loop-line.line-index c.line-item.result c.loop-line.settings.items c.push.new.self.items c.in_ok-laid_over.field-0 c.loop-line-test.true c.line-item.is c.loop-line.invariant
+    line_more c.args.setting.now c.args.lines.now c.loop-line.line-index c.line-item.result c.loop-line.settings.items c.push.new.self.items c.in_ok-laid_over.field-0 c.loop-line-test.true
+    c.line-item.is c.loop-line.invariant
     (subst (λ xs. LaidOver c.args.setting.now xs c.in_ok-laid_over.field-0) c.as_slice.ensures c.in_ok-laid_over.ensures) c.in_ok-push.ensures.items

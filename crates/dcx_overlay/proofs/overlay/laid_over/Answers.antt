@@ -10,5 +10,6 @@ array_of-requires c = subst IsFull (sym c.item-item.is) (every_at IsFull c.args.
 
 pub loop-item-preserved : goal.loop-item-preserved
 loop-item-preserved c =
-    item_more c.args.setting.now c.args.line.now c.loop-item.item-index c.item-item.result c.loop-item.laid c.put.new.self c.in_ok-array.array c.loop-item-test.true c.item-item.is c.loop-item.invariant c.in_ok-array.ensures
+    item_more c.args.setting.now c.args.line.now c.loop-item.item-index c.item-item.result c.loop-item.laid c.put.new.self c.in_ok-array.array c.loop-item-test.true c.item-item.is
+    c.loop-item.invariant c.in_ok-array.ensures
     (c.in_ok-put.ensures.ok ∙ ap (λ n. with_array c.loop-item.laid n c.in_ok-array.array) c.in_ok-name.ensures)

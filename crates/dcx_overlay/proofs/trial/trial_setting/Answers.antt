@@ -1,3 +1,4 @@
+-- The name that is put is that of the trial's parameter, with the number as a scalar.
 use Rattle.std.proofs.Common.{◌∙◌, rules}
 use Rattle.dcx_overlay.proofs.trial.trial_setting.Goals as goal
 

@@ -1,3 +1,4 @@
+-- A number of 32 bits over 1 is representable, so the fraction is there and is the number.
 use Rattle.std.proofs.Common.{◌≡◌, pos, to_z, sym, ap, ◌∙◌, subst, arith}
 use Rattle.std.specs.Int.{w128}
 use Rattle.std.proofs.lemmas.Int.{to_z_pos}

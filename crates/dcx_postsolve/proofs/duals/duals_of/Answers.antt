@@ -15,7 +15,8 @@ returns-in_err-push_dual-clause-stops c =
     let status = c.args.answer.now.status in
     let p = err_from_is_err_and c.from_residual-in_err-push_dual.result c.from_residual-in_err-push_dual.ensures.1 in
     rw (p.1, p.2)
-    (stops_here status cs notes c.constraints.constraint-index c.constraints.next c.constraint-item.result c.constraints-test.true c.constraint-item.is (all_multipliers status cs notes) _ c.constraints.invariant.passing
+    (stops_here status cs notes c.constraints.constraint-index c.constraints.next c.constraint-item.result c.constraints-test.true c.constraint-item.is
+    (all_multipliers status cs notes) _ c.constraints.invariant.passing
     c.in_err-push_dual.ensures.stops)
 
 pub constraints-preserved : goal.constraints-preserved
@@ -40,4 +41,5 @@ constraints-preserved c =
 pub returns-clause-made : goal.returns-clause-made
 returns-clause-made c =
     subst (AreDuals c.args.answer.now.status c.args.constraints.now c.args.answer.now.rows) (sym c.from_vec.ensures)
-    (duals_all c.args.answer.now.status c.args.constraints.now c.args.answer.now.rows (drop c.constraints.next c.args.answer.now.rows) c.constraints.constraint-index c.constraints.duals.items c.constraints-test.false c.constraints.invariant.made)
+    (duals_all c.args.answer.now.status c.args.constraints.now c.args.answer.now.rows
+    (drop c.constraints.next c.args.answer.now.rows) c.constraints.constraint-index c.constraints.duals.items c.constraints-test.false c.constraints.invariant.made)

@@ -10,7 +10,9 @@ use Rattle.dcx_postsolve.proofs.duals.duals_of.Given as goal
 
 abbrev pub invariant-constraints : goal.invariant-constraints
 invariant-constraints l = record {
-  made : (es : List Array) → AreDuals l.answer.status (drop l.constraint-index l.constraints) (drop l.next l.answer.rows) es → AreDuals l.answer.status l.constraints l.answer.rows (l.duals.items ++ es);
-  passing : passing_from l.next (all_multipliers l.answer.status (drop l.constraint-index l.constraints) (drop l.next l.answer.rows)) ≡ passing_from 0 (all_multipliers l.answer.status l.constraints l.answer.rows);
+  made : (es : List Array) → AreDuals l.answer.status (drop l.constraint-index l.constraints) (drop l.next l.answer.rows) es
+      → AreDuals l.answer.status l.constraints l.answer.rows (l.duals.items ++ es);
+  passing : passing_from l.next (all_multipliers l.answer.status (drop l.constraint-index l.constraints) (drop l.next l.answer.rows))
+      ≡ passing_from 0 (all_multipliers l.answer.status l.constraints l.answer.rows);
   rows : l.next + sum_by constraint_rows (drop l.constraint-index l.constraints) ≤ length l.answer.rows;
 }

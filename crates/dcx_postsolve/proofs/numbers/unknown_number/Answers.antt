@@ -20,7 +20,8 @@ returns-then-is_zero c =
     let there : j + 1 < length columns = omega (arith, count, c.requires.there) in
     let plus = read columns j c.index-columns-first.result here c.index-columns-first.is in
     let minus = read columns (j + 1) c.index-columns-first-then-is_zero.result there c.index-columns-first-then-is_zero.is in
-    c.neg.ensures ∙ ap neg_ℚ (minus ∙ ap (rat_at zs) (add-one j)) ∙ minus_alone (rat_at zs j) (rat_at zs (suc j)) (sym plus ∙ c.is_zero.ensures.0 c.if-is_zero.true) ∙ sym (ap (unknown_number zs j) c.in-Free.is)
+    c.neg.ensures ∙ ap neg_ℚ (minus ∙ ap (rat_at zs) (add-one j)) ∙ minus_alone (rat_at zs j) (rat_at zs (suc j)) (sym plus ∙ c.is_zero.ensures.0 c.if-is_zero.true)
+    ∙ sym (ap (unknown_number zs j) c.in-Free.is)
 
 pub returns-else-is_zero : goal.returns-else-is_zero
 returns-else-is_zero c =

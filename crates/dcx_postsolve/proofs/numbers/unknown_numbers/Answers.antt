@@ -24,7 +24,9 @@ kinds-preserved c =
     let count = sym c.columns.ensures in
     record {
       numbers = subst (λ n. map value c.push.new.self.items ++ numbers_from zs (next + n) (drop (i + 1) kinds) ≡ unknown_numbers kinds zs) count
-          (number_next kinds i Free c.kinds-test.true zs next c.kinds.numbers.items c.push.new.self.items c.unknown_number.result (unknown_numbers kinds zs) c.unknown_number.ensures c.in_ok-push.ensures.items h.numbers);
-      there = subst (λ n. (next + n) + sum_by columns_for (drop (i + 1) kinds) ≤ length c.args.columns.now) count (columns_there kinds i Free c.kinds-test.true next (length c.args.columns.now) h.there).1;
+          (number_next kinds i Free c.kinds-test.true zs next c.kinds.numbers.items c.push.new.self.items c.unknown_number.result
+          (unknown_numbers kinds zs) c.unknown_number.ensures c.in_ok-push.ensures.items h.numbers);
+      there = subst (λ n. (next + n) + sum_by columns_for (drop (i + 1) kinds) ≤ length c.args.columns.now) count
+          (columns_there kinds i Free c.kinds-test.true next (length c.args.columns.now) h.there).1;
       one_sided = subst (λ n. AreOneSidedFrom zs (next + n) (drop (i + 1) kinds)) count (sided_there kinds i Free c.kinds-test.true zs next h.one_sided).1;
     }

@@ -14,7 +14,8 @@ index-requires c =
 pub put_array-requires-clause-fits : goal.put_array-requires-clause-fits
 put_array-requires-clause-fits c =
     let vs = c.args.variables.now in
-    let (first, fits) = listed_fits vs c.in_ok-firsts.firsts.items c.variables.place c.index.result.now c.index-variables-place.result c.in_ok-firsts.ensures c.variables-test.true c.index-variables-place.is c.index.ensures in
+    let (first, fits) = listed_fits vs c.in_ok-firsts.firsts.items c.variables.place c.index.result.now c.index-variables-place.result c.in_ok-firsts.ensures c.variables-test.true
+    c.index-variables-place.is c.index.ensures in
     omega (arith, fits, c.requires.few)
 
 pub variables-preserved : goal.variables-preserved
@@ -25,7 +26,8 @@ variables-preserved c =
     let v = c.index-variables-place.result in
     let (first, fits) = listed_fits vs c.in_ok-firsts.firsts.items k c.index.result.now v c.in_ok-firsts.ensures c.variables-test.true c.index-variables-place.is c.index.ensures in
     let puts = subst (λ n. PutsArray us n v c.variables.point c.put_array.new.point) first c.in_ok-put_array.ensures in
-    front_next vs c.requires.distinct us k v (slice_get_read vs (length vs) k v refl c.variables-test.true c.index-variables-place.is) c.variables.point c.put_array.new.point c.variables.invariant puts
+    front_next vs c.requires.distinct us k v (slice_get_read vs (length vs) k v refl c.variables-test.true c.index-variables-place.is) c.variables.point c.put_array.new.point c.variables.invariant
+    puts
 
 pub returns : goal.returns
 returns c = front_all c.args.variables.now c.args.unknowns.now c.variables.place c.variables.point c.variables-test.false c.variables.invariant

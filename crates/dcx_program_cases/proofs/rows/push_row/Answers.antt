@@ -1,4 +1,4 @@
--- One more row.
+-- One more row reaches to no other unknowns.
 use Rattle.std.proofs.Common.{◌≤◌, sym, subst}
 use Rattle.dcx_linear.specs.Widths.{rows_width}
 use Rattle.dcx_program_cases.proofs.Widths.{more_narrow}

@@ -11,5 +11,6 @@ pub read_end-requires-in-Unbounded : goal.read_end-requires-in-Unbounded
 read_end-requires-in-Unbounded c =
     let u = table_of c.solve-end.new.tableau in
     let e = lp.Unbounded c.in-Unbounded.pivots c.in-Unbounded.column in
-    let f : RunEnds c.args.limit (first_tableau c.args.program.now) u e = subst (λ t. RunEnds c.args.limit t u e) c.in_ok-tableau.ensures (subst (RunEnds c.args.limit (table_of c.in_ok-tableau.tableau) u) c.in-Unbounded.is c.solve-end.ensures.run) in
+    let f : RunEnds c.args.limit (first_tableau c.args.program.now) u e =
+    subst (λ t. RunEnds c.args.limit t u e) c.in_ok-tableau.ensures (subst (RunEnds c.args.limit (table_of c.in_ok-tableau.tableau) u) c.in-Unbounded.is c.solve-end.ensures.run) in
     subst (IsFinished c.args.program.now u) (sym c.in-Unbounded.is) (c.args.limit, f)

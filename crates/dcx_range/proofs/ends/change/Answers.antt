@@ -24,7 +24,8 @@ rates-preserved g c =
     let n = c.rates.rate-index in
     let f : SFits w128 c.entry.result = search rules in
     let number = simp to_z-of_z at c.integer-entry.ensures in
-    sym (change_next t i c.rates.sum hs n c.rate-item.result c.integer-entry.result c.add_product.result (omega arith) c.rate-item.is (number ∙ ap (λ z. frac_at (whole z)) c.entry.ensures.value) c.add_product.ensures
+    sym (change_next t i c.rates.sum hs n c.rate-item.result c.integer-entry.result c.add_product.result (omega arith) c.rate-item.is
+    (number ∙ ap (λ z. frac_at (whole z)) c.entry.ensures.value) c.add_product.ensures
     ∙ ap (λ r. and_then r (λ x. products_from x (map (factors_at t i) (drop (n + 1) hs)))) c.in-Ok.is)
     ∙ c.rates.invariant
 
@@ -36,7 +37,8 @@ returns-in-Err g c =
     let n = c.rates.rate-index in
     let f : SFits w128 c.entry.result = search rules in
     let number = simp to_z-of_z at c.integer-entry.ensures in
-    sym (change_next t i c.rates.sum hs n c.rate-item.result c.integer-entry.result c.add_product.result (omega arith) c.rate-item.is (number ∙ ap (λ z. frac_at (whole z)) c.entry.ensures.value) c.add_product.ensures
+    sym (change_next t i c.rates.sum hs n c.rate-item.result c.integer-entry.result c.add_product.result (omega arith) c.rate-item.is
+    (number ∙ ap (λ z. frac_at (whole z)) c.entry.ensures.value) c.add_product.ensures
     ∙ ap (λ r. and_then r (λ x. products_from x (map (factors_at t i) (drop (n + 1) hs)))) c.in-Err.is)
     ∙ c.rates.invariant
 

@@ -29,8 +29,9 @@ use Rattle.dcx_range.proofs.finding.range.Goals as goal
 
 -- where the run of the rows that the program lends is optimal, its tableau can be read
 end_shown : (p : Problem) (s : Pairs) (name : List ℕ) (m : Program ParamForm) → IsMapOf p m → IsFitting p s → (r : Program Frac) → FixGives s m (Ok r) → IsRanged p m name →
-    (limit : ℕ) (kinds : List UnknownKind) (rows : List (Row Frac)) (objective : Form Frac) → kinds ≡ r.kinds → rows ≡ r.rows → objective ≡ r.objective → rows_width rows ≤ length kinds → form_width objective ≤ length kinds →
-    (x : Solved) → IsSolved limit (given kinds rows objective) x → x.answer.status ≡ status.Optimal → (asked : Asked) → IsAsked p s name asked → Shown x.program (table_of x.tableau)
+    (limit : ℕ) (kinds : List UnknownKind) (rows : List (Row Frac)) (objective : Form Frac) → kinds ≡ r.kinds → rows ≡ r.rows → objective ≡ r.objective → rows_width rows ≤ length kinds
+    → form_width objective ≤ length kinds
+    → (x : Solved) → IsSolved limit (given kinds rows objective) x → x.answer.status ≡ status.Optimal → (asked : Asked) → IsAsked p s name asked → Shown x.program (table_of x.tableau)
 end_shown p s name m map fits r put ranged limit kinds rows objective same_kinds same_rows same_objective rows_known objective_known x solved optimal asked of =
     shown p s name m map fits r put limit x (subst (λ g. IsSolved limit g x) (given_rows r kinds rows objective same_kinds same_rows same_objective) solved)
     (known_of r kinds rows objective same_kinds same_rows same_objective rows_known objective_known) ranged optimal asked of
@@ -94,7 +95,8 @@ returns-in-Optimal-clause-given c =
     let same = given_rows r lent.kinds lent.rows lent.objective c.rows.ensures.kinds c.rows.ensures.rows c.rows.ensures.objective in
     let is = subst (λ g. IsSolved limit g c.in-Ok.solved) same c.in-Ok.ensures.solved in
     let known = known_of r lent.kinds lent.rows lent.objective c.rows.ensures.kinds c.rows.ensures.rows c.rows.ensures.objective lent.rows_known lent.objective_known in
-    told_result p s name m c.requires.map c.requires.fits r c.requires.program limit c.in-Ok.solved is known c.requires.ranged c.in-Optimal.is c.asked.result c.asked.ensures c.span-told.result c.span-told.ensures.formed c.span-told.ensures.rising c.span-told.ensures.stops
+    told_result p s name m c.requires.map c.requires.fits r c.requires.program limit c.in-Ok.solved is known c.requires.ranged c.in-Optimal.is c.asked.result c.asked.ensures c.span-told.result
+    c.span-told.ensures.formed c.span-told.ensures.rising c.span-told.ensures.stops
 
 pub returns-in-Optimal-clause-optimal : goal.returns-in-Optimal-clause-optimal
 returns-in-Optimal-clause-optimal c =

@@ -19,7 +19,8 @@ div-requires g c =
     let number = simp to_z-of_z at c.integer-lead.ensures in
     let entry = c.entry.ensures.value in
     let small = c.entry.ensures.small in
-    λ z. positive_lead t c.requires.readable i c.rows-row.ensures.count c.entry.result (sym (entry ∙ ap (entry_at t i) c.columns.ensures)) (sym (value-whole c.entry.result small) ∙ ap value (sym number) ∙ z)
+    λ z. positive_lead t c.requires.readable i c.rows-row.ensures.count c.entry.result (sym (entry ∙ ap (entry_at t i) c.columns.ensures))
+    (sym (value-whole c.entry.result small) ∙ ap value (sym number) ∙ z)
 
 pub returns-in-Ok-div : goal.returns-in-Ok-div
 returns-in-Ok-div g c = λ n e.

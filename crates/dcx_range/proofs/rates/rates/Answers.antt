@@ -7,7 +7,8 @@ use Rattle.dcx_range.proofs.rates.rates.Goals as goal
 
 pub rows-init : goal.rows-init
 rows-init c = record {
-  formed = ap (λ xs. and_then (rates_of c.args.position c.args.rows.now c.args.ints.now) (λ hs. Ok (xs ++ hs))) (c.in_ok-rates.ensures {u = tt}).items ∙ nothing_done (rates_of c.args.position c.args.rows.now c.args.ints.now);
+  formed = ap (λ xs. and_then (rates_of c.args.position c.args.rows.now c.args.ints.now) (λ hs. Ok (xs ++ hs))) (c.in_ok-rates.ensures {u = tt}).items
+      ∙ nothing_done (rates_of c.args.position c.args.rows.now c.args.ints.now);
   rising = λ k d h. absurd (omega (arith, h));
 }
 
@@ -21,7 +22,8 @@ rows-preserved c =
     record {
       formed =
           ap (λ xs. and_then (rates_of k (drop (i + 1) rows) (drop (i + 1) ints)) (λ hs. Ok (xs ++ hs))) (c.in_ok-push-in-Ok.ensures {u = tt}).items
-          ∙ sym (rate_done k rows ints i c.index-rows-i.result c.index-ints-i.result (omega arith) (omega arith) c.index-rows-i.is c.index-ints-i.is c.rows.rates.items c.in-Ok.rate (sym c.rate_of.ensures.rate ∙ c.in-Ok.is))
+          ∙ sym (rate_done k rows ints i c.index-rows-i.result c.index-ints-i.result (omega arith) (omega arith) c.index-rows-i.is c.index-ints-i.is c.rows.rates.items c.in-Ok.rate
+          (sym c.rate_of.ensures.rate ∙ c.in-Ok.is))
           ∙ c.rows.invariant.formed;
       rising = rising_more rows i c.index-rows-i.result c.index-rows-i.is c.rate_of.ensures.rising c.rows.invariant.rising (omega arith);
     }
@@ -33,7 +35,8 @@ returns-in-Err-clause-stops c =
     let ints = c.args.ints.now in
     let i = c.rows.i in
     sym c.rows.invariant.formed
-    ∙ rate_passes k rows ints i c.index-rows-i.result c.index-ints-i.result (omega arith) (omega arith) c.index-rows-i.is c.index-ints-i.is c.rows.rates.items c.in-Err.passes (sym c.rate_of.ensures.rate ∙ c.in-Err.is)
+    ∙ rate_passes k rows ints i c.index-rows-i.result c.index-ints-i.result (omega arith) (omega arith) c.index-rows-i.is c.index-ints-i.is c.rows.rates.items c.in-Err.passes
+    (sym c.rate_of.ensures.rate ∙ c.in-Err.is)
 
 pub returns-clause-formed : goal.returns-clause-formed
 returns-clause-formed c = sym c.rows.invariant.formed ∙ all_done c.args.position c.args.rows.now c.args.ints.now c.rows.i c.rows.rates.items (omega arith)

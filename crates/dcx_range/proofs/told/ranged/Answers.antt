@@ -13,10 +13,16 @@ returns-in-None c = (c.in-Ok.ensures.found.0, ap (λ o. program_in (option_copie
 
 pub returns-then-scales : goal.returns-then-scales
 returns-then-scales c =
-    let n = c.in-Ok.ensures.found in
-    (c.in-Some.map.now.program, ap (λ o. program_in (option_copied o)) c.in-Some.is, scaling c.args.problem.now c.in-Some.map.now.program c.args.name.now c.in-Ok.position _ n.0 n.1 c.if-scales.ensures refl)
+    let n = c.in-Ok.ensures.found in (
+      c.in-Some.map.now.program,
+      ap (λ o. program_in (option_copied o)) c.in-Some.is,
+      scaling c.args.problem.now c.in-Some.map.now.program c.args.name.now c.in-Ok.position _ n.0 n.1 c.if-scales.ensures refl,
+    )
 
 pub returns-else-scales : goal.returns-else-scales
 returns-else-scales c =
-    let n = c.in-Ok.ensures.found in
-    (c.in-Some.map.now.program, ap (λ o. program_in (option_copied o)) c.in-Some.is, free c.args.problem.now c.in-Some.map.now.program c.args.name.now c.in-Ok.position _ n.0 n.1 c.if-scales.ensures refl)
+    let n = c.in-Ok.ensures.found in (
+      c.in-Some.map.now.program,
+      ap (λ o. program_in (option_copied o)) c.in-Some.is,
+      free c.args.problem.now c.in-Some.map.now.program c.args.name.now c.in-Ok.position _ n.0 n.1 c.if-scales.ensures refl,
+    )

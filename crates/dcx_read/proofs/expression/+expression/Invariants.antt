@@ -2,7 +2,8 @@
 use Rattle.std.proofs.Common.{◌+◌, ◌*◌, ◌<◌, ◌≤◌, length, map}
 use Rattle.dcx_read.specs.Terminals.{terminals}
 use Rattle.dcx_syntax.specs.Expressions.{expr, sum, term, power_of, postfix}
-use Rattle.dcx_syntax.specs.View.{chained, then_index, arg_view, index_view, primary_view, trailer_view, added_view, compared_view, expr_view, factor_view, postfix_view, raised_view, scaled_view, sum_view, term_view}
+use Rattle.dcx_syntax.specs.View.{chained, then_index, arg_view, index_view, primary_view, trailer_view, added_view, compared_view}
+use Rattle.dcx_syntax.specs.View.{expr_view, factor_view, postfix_view, raised_view, scaled_view, sum_view, term_view}
 use Rattle.dcx_read.specs.Moves.{expr_s, compared_s, sum_s, added_s, term_s, scaled_s, power_s, raised_s, postfix_s, trailers_s, args_s, indices_s, items_s}
 use Rattle.dcx_read.specs.Steps.{Loop}
 use Rattle.dcx_read.proofs.Loops.{args_after, items_after}
@@ -84,37 +85,45 @@ abbrev pub decreases-list_end : goal.decreases-list_end
 decreases-list_end l = length l.tokens.now * 12 + 0
 
 abbrev pub invariant-expr-more : goal.invariant-expr-more
-invariant-expr-more l = Loop expr_s compared_s (terminals l.fn.text l.fn.tokens) (terminals l.fn.text l.read.1.now) (λ a. expr (sum_view l.read.0.0) (chained (map compared_view l.read.0.1.items) a)) × (length l.read.1.now < length l.fn.tokens)
+invariant-expr-more l = Loop expr_s compared_s (terminals l.fn.text l.fn.tokens) (terminals l.fn.text l.read.1.now)
+    (λ a. expr (sum_view l.read.0.0) (chained (map compared_view l.read.0.1.items) a)) × (length l.read.1.now < length l.fn.tokens)
 
 abbrev pub decreases-expr-more : goal.decreases-expr-more
 decreases-expr-more l = length l.read.1.now
 
 abbrev pub invariant-sum-more : goal.invariant-sum-more
-invariant-sum-more l = Loop sum_s added_s (terminals l.fn.text l.fn.tokens) (terminals l.fn.text l.read.1.now) (λ a. sum (term_view l.read.0.0) (chained (map added_view l.read.0.1.items) a)) × (length l.read.1.now < length l.fn.tokens)
+invariant-sum-more l =
+    Loop sum_s added_s (terminals l.fn.text l.fn.tokens) (terminals l.fn.text l.read.1.now) (λ a. sum (term_view l.read.0.0) (chained (map added_view l.read.0.1.items) a))
+    × (length l.read.1.now < length l.fn.tokens)
 
 abbrev pub decreases-sum-more : goal.decreases-sum-more
 decreases-sum-more l = length l.read.1.now
 
 abbrev pub invariant-term-more : goal.invariant-term-more
-invariant-term-more l = Loop term_s scaled_s (terminals l.fn.text l.fn.tokens) (terminals l.fn.text l.read.1.now) (λ a. term (factor_view l.read.0.0) (chained (map scaled_view l.read.0.1.items) a)) × (length l.read.1.now < length l.fn.tokens)
+invariant-term-more l = Loop term_s scaled_s (terminals l.fn.text l.fn.tokens) (terminals l.fn.text l.read.1.now)
+    (λ a. term (factor_view l.read.0.0) (chained (map scaled_view l.read.0.1.items) a)) × (length l.read.1.now < length l.fn.tokens)
 
 abbrev pub decreases-term-more : goal.decreases-term-more
 decreases-term-more l = length l.read.1.now
 
 abbrev pub invariant-power-more : goal.invariant-power-more
-invariant-power-more l = Loop power_s raised_s (terminals l.fn.text l.fn.tokens) (terminals l.fn.text l.read.1.now) (λ a. power_of (postfix_view l.read.0.0) (chained (map raised_view l.read.0.1.items) a)) × (length l.read.1.now < length l.fn.tokens)
+invariant-power-more l = Loop power_s raised_s (terminals l.fn.text l.fn.tokens) (terminals l.fn.text l.read.1.now)
+    (λ a. power_of (postfix_view l.read.0.0) (chained (map raised_view l.read.0.1.items) a)) × (length l.read.1.now < length l.fn.tokens)
 
 abbrev pub decreases-power-more : goal.decreases-power-more
 decreases-power-more l = length l.read.1.now
 
 abbrev pub invariant-postfix-more : goal.invariant-postfix-more
-invariant-postfix-more l = Loop postfix_s trailers_s (terminals l.fn.text l.fn.tokens) (terminals l.fn.text l.read.1.now) (λ a. postfix (primary_view l.read.0.0) (chained (map trailer_view l.read.0.1.items) a)) × (length l.read.1.now < length l.fn.tokens)
+invariant-postfix-more l = Loop postfix_s trailers_s (terminals l.fn.text l.fn.tokens) (terminals l.fn.text l.read.1.now)
+    (λ a. postfix (primary_view l.read.0.0) (chained (map trailer_view l.read.0.1.items) a)) × (length l.read.1.now < length l.fn.tokens)
 
 abbrev pub decreases-postfix-more : goal.decreases-postfix-more
 decreases-postfix-more l = length l.read.1.now
 
 abbrev pub invariant-indices-more : goal.invariant-indices-more
-invariant-indices-more l = Loop indices_s indices_s (terminals l.fn.text l.fn.tokens) (terminals l.fn.text l.rest) (λ a. chained (map then_index (map index_view l.all.items)) a) × (length l.rest ≤ length l.fn.tokens)
+invariant-indices-more l =
+    Loop indices_s indices_s (terminals l.fn.text l.fn.tokens) (terminals l.fn.text l.rest) (λ a. chained (map then_index (map index_view l.all.items)) a)
+    × (length l.rest ≤ length l.fn.tokens)
 
 abbrev pub decreases-indices-more : goal.decreases-indices-more
 decreases-indices-more l = length l.rest

@@ -1,4 +1,4 @@
--- What each answer is read from.
+-- One more sign is read, until the token in front is none.
 use Rattle.std.proofs.Common.{arith}
 use Rattle.dcx_read.proofs.Fronts.{signs-begin, signs-more}
 use Rattle.dcx_read.proofs.expression.signs.Goals as goal
@@ -12,8 +12,11 @@ more-smaller c =
     c.in-Some.ensures.shorter
 
 pub more-preserved : goal.more-preserved
-more-preserved c =
-    ((λ source. signs-more source c.args.tokens.now c.more.rest.now c.in-Some.behind.now _ _ c.in-Some.sign c.in-Some.place (c.more.invariant.0 source) c.in-Some.ensures.front c.in_ok-push.ensures.ok), let a = c.in-Some.ensures.shorter in let i = c.more.invariant.1 in omega (arith, a, i))
+more-preserved c = (
+  (λ source. signs-more source c.args.tokens.now c.more.rest.now c.in-Some.behind.now _ _ c.in-Some.sign c.in-Some.place
+      (c.more.invariant.0 source) c.in-Some.ensures.front c.in_ok-push.ensures.ok),
+  let a = c.in-Some.ensures.shorter in let i = c.more.invariant.1 in omega (arith, a, i),
+)
 
 pub returns-clause-signs : goal.returns-clause-signs
 returns-clause-signs c =

@@ -1,4 +1,4 @@
--- What the loop has read.
+-- The signs so far spell the tokens that are passed, and fewer are left with each.
 use Rattle.std.proofs.Common.{◌≤◌, ◌≡◌, ◌++◌, ℕ, List, length}
 use Rattle.dcx_read.specs.Terminals.{terminals}
 use Rattle.dcx_syntax.specs.Expressions.{signs_text}

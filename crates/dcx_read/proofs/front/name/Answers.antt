@@ -1,3 +1,4 @@
+-- A name in front gives the name that it spells, and anything else is no name.
 use Rattle.std.proofs.Common.{◌≡◌, rules, sym, subst}
 use Rattle.dcx_syntax.specs.declared.tree.Named.{Named}
 use Rattle.dcx_read.specs.Terminals.{named_by, terminals}

@@ -20,5 +20,9 @@ returns-in_err-all c =
 pub returns : goal.returns
 returns c =
     parse-reads c.args.bytes.now c.as_slice.result.now c.end_place.result _
-    (record { text = c.in_ok-text.ensures.1; lexed = subst (λ ts. IsLexed c.args.bytes.now ts None) (sym c.as_slice.ensures) (subst (λ xs. IsLexed xs c.in_ok-all.all None) c.in_ok-text.ensures.0 c.in_ok-all.ensures) })
+    (record {
+      text = c.in_ok-text.ensures.1;
+      lexed = subst (λ ts. IsLexed c.args.bytes.now ts None) (sym c.as_slice.ensures)
+          (subst (λ xs. IsLexed xs c.in_ok-all.all None) c.in_ok-text.ensures.0 c.in_ok-all.ensures);
+    })
     (c.end_place.ensures ∙ ap end_of c.in_ok-text.ensures.0) c.parse_tokens.ensures

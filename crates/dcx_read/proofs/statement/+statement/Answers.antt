@@ -18,24 +18,34 @@ block-returns-in_err-begun-clause-read t c =
 
 pub block-returns-clause-read : goal.block-returns-clause-read
 block-returns-clause-read t c =
-    block-ends (λ x. ((x.0.0, x.0.1), x.1.now)) (λ x. (x.0, x.1.now)) (λ x. (line_view x.0, x.1.now)) c.args.place (λ b. b.0) (λ b. expr_view b.1) (λ u. line_view u.0) (λ u. lines_of (map line_view u.1.items)) c.in_ok-begun.begun c.args.text.now (plain (marks_of.for c.args.place) ∷ (terminals c.args.text.now c.args.tokens.now)) (terminals c.args.text.now c.in_ok-begun.inside.now) c.in_ok-begun.ensures.read c.body.result c.beside.result c.whole.result c.body.ensures.read c.beside.ensures c.whole.ensures
+    block-ends (λ x. ((x.0.0, x.0.1), x.1.now)) (λ x. (x.0, x.1.now)) (λ x. (line_view x.0, x.1.now)) c.args.place (λ b. b.0) (λ b. expr_view b.1) (λ u. line_view u.0)
+    (λ u. lines_of (map line_view u.1.items)) c.in_ok-begun.begun c.args.text.now (plain (marks_of.for c.args.place) ∷ (terminals c.args.text.now c.args.tokens.now))
+    (terminals c.args.text.now c.in_ok-begun.inside.now) c.in_ok-begun.ensures.read c.body.result c.beside.result c.whole.result
+    c.body.ensures.read c.beside.ensures c.whole.ensures
 
 pub block-returns-clause-shorter : goal.block-returns-clause-shorter
 block-returns-clause-shorter t c =
-    block-shorter (λ x. ((x.0.0, x.0.1), x.1.now)) (λ x. (x.0, x.1.now)) (λ x. (line_view x.0, x.1.now)) c.args.place (λ b. b.0) (λ b. expr_view b.1) (λ u. line_view u.0) (λ u. lines_of (map line_view u.1.items)) c.in_ok-begun.begun (length c.in_ok-begun.inside.now) (length c.args.tokens.now) c.in_ok-begun.ensures.shorter c.body.result c.beside.result c.whole.result c.body.ensures.shorter c.beside.ensures c.whole.ensures
+    block-shorter (λ x. ((x.0.0, x.0.1), x.1.now)) (λ x. (x.0, x.1.now)) (λ x. (line_view x.0, x.1.now)) c.args.place (λ b. b.0) (λ b. expr_view b.1) (λ u. line_view u.0)
+    (λ u. lines_of (map line_view u.1.items)) c.in_ok-begun.begun (length c.in_ok-begun.inside.now)
+    (length c.args.tokens.now) c.in_ok-begun.ensures.shorter c.body.result c.beside.result c.whole.result c.body.ensures.shorter c.beside.ensures c.whole.ensures
 
 pub body-returns-in_err-first-clause-read : goal.body-returns-in_err-first-clause-read
 body-returns-in_err-first-clause-read t c =
     let p = err_from_is_err_and c.from_residual.result c.from_residual.ensures.1 in
-    rw (p.1, p.2) (λ from make h. stops line_s line_s from (terminals c.args.text.now c.args.tokens.now) (lines_s ∷ dedent_s ∷ []) _ c.args.text.now c.in_err-first.field-0.0 h c.in_err-first.ensures.read)
+    rw (p.1, p.2) (λ from make h. stops line_s line_s from (terminals c.args.text.now c.args.tokens.now)
+    (lines_s ∷ dedent_s ∷ []) _ c.args.text.now c.in_err-first.field-0.0 h c.in_err-first.ensures.read)
 
 pub body-returns-clause-read : goal.body-returns-clause-read
 body-returns-clause-read t c =
-    body-ends (λ x. ((x.0.0, x.0.1), x.1.now)) (λ x. (x.0, x.1.now)) c.args.text.now (terminals c.args.text.now c.args.tokens.now) c.in_ok-first.behind.now c.in_ok-first.first line_view (λ u. lines_of (map line_view u.items)) c.in_ok-first.ensures.read.0 c.in_ok-first.ensures.read.1.0 c.in_ok-first.ensures.read.1.1 c.lines.result c.closed.result c.beside.result c.lines.ensures.read c.closed.ensures c.beside.ensures
+    body-ends (λ x. ((x.0.0, x.0.1), x.1.now)) (λ x. (x.0, x.1.now)) c.args.text.now (terminals c.args.text.now c.args.tokens.now) c.in_ok-first.behind.now c.in_ok-first.first
+    line_view (λ u. lines_of (map line_view u.items)) c.in_ok-first.ensures.read.0 c.in_ok-first.ensures.read.1.0 c.in_ok-first.ensures.read.1.1 c.lines.result
+    c.closed.result c.beside.result c.lines.ensures.read c.closed.ensures c.beside.ensures
 
 pub body-returns-clause-shorter : goal.body-returns-clause-shorter
 body-returns-clause-shorter t c =
-    body-shorter (λ x. ((x.0.0, x.0.1), x.1.now)) (λ x. (x.0, x.1.now)) c.args.text.now (terminals c.args.text.now c.args.tokens.now) c.in_ok-first.behind.now c.in_ok-first.first line_view (λ u. lines_of (map line_view u.items)) (length c.in_ok-first.behind.now) (length c.args.tokens.now) c.in_ok-first.ensures.shorter c.lines.result c.closed.result c.beside.result c.lines.ensures.shorter c.closed.ensures c.beside.ensures
+    body-shorter (λ x. ((x.0.0, x.0.1), x.1.now)) (λ x. (x.0, x.1.now)) c.args.text.now (terminals c.args.text.now c.args.tokens.now) c.in_ok-first.behind.now
+    c.in_ok-first.first line_view (λ u. lines_of (map line_view u.items)) (length c.in_ok-first.behind.now)
+    (length c.args.tokens.now) c.in_ok-first.ensures.shorter c.lines.result c.closed.result c.beside.result c.lines.ensures.shorter c.closed.ensures c.beside.ensures
 
 pub line-returns-in-Some-clause-read : goal.line-returns-in-Some-clause-read
 line-returns-in-Some-clause-read t c =
@@ -56,7 +66,8 @@ lines-more-init t c =
 pub lines-returns-in_err-next-clause-read : goal.lines-returns-in_err-next-clause-read
 lines-returns-in_err-next-clause-read t c =
     let p = err_from_is_err_and c.from_residual.result c.from_residual.ensures.1 in
-    rw (p.1, p.2) (lines-stop c.args.text.now (terminals c.args.text.now c.args.tokens.now) c.more.rest.now line_view _ c.more.invariant.0 (sym c.starts_line.ensures ∙ c.more-test.true) c.in_err-next.field-0.0 c.in_err-next.ensures.read)
+    rw (p.1, p.2) (lines-stop c.args.text.now (terminals c.args.text.now c.args.tokens.now) c.more.rest.now line_view _ c.more.invariant.0
+    (sym c.starts_line.ensures ∙ c.more-test.true) c.in_err-next.field-0.0 c.in_err-next.ensures.read)
 
 pub lines-returns-in_err-push-clause-read : goal.lines-returns-in_err-push-clause-read
 lines-returns-in_err-push-clause-read t c =
@@ -68,8 +79,12 @@ lines-more-smaller t c =
     let b = c.in_ok-next.ensures.shorter in let i = c.more.invariant.1 in omega (arith, b, i)
 
 pub lines-more-preserved : goal.lines-more-preserved
-lines-more-preserved t c =
-    (lines-step c.args.text.now (terminals c.args.text.now c.args.tokens.now) c.more.rest.now line_view _ c.more.invariant.0 c.in_ok-next.behind.now c.in_ok-next.next _ (sym c.starts_line.ensures ∙ c.more-test.true) c.in_ok-next.ensures.read c.in_ok-push.ensures.items, let b = c.in_ok-next.ensures.shorter in let i = c.more.invariant.1 in omega (arith, b, i))
+lines-more-preserved t c = (
+  lines-step c.args.text.now (terminals c.args.text.now c.args.tokens.now) c.more.rest.now line_view _ c.more.invariant.0 c.in_ok-next.behind.now c.in_ok-next.next _
+      (sym c.starts_line.ensures ∙ c.more-test.true) c.in_ok-next.ensures.read c.in_ok-push.ensures.items,
+  let b = c.in_ok-next.ensures.shorter in
+      let i = c.more.invariant.1 in omega (arith, b, i),
+)
 
 pub lines-returns-clause-read : goal.lines-returns-clause-read
 lines-returns-clause-read t c =

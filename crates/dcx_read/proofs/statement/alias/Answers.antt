@@ -1,4 +1,4 @@
--- What each answer is read from.
+-- The word `as` in front wants a name behind it, and anything else is no alias.
 use Rattle.std.proofs.Common.{Some, [], refl}
 use Rattle.std.proofs.lemmas.Result.{err_from_is_err_and}
 use Rattle.dcx_read.specs.Terminals.{terminals}
@@ -15,8 +15,10 @@ returns-in_default-clause-read c =
 pub returns-in_err-word-clause-read : goal.returns-in_err-word-clause-read
 returns-in_err-word-clause-read c =
     let p = err_from_is_err_and c.from_residual.result c.from_residual.ensures.1 in
-    rw (p.1, p.2) (stops alias_s name_s (terminals c.args.text.now c.args.tokens.now) (terminals c.args.text.now c.in-Some.behind.now) ([]) _ c.args.text.now c.in_err-word.field-0.0 (alias-as c.args.text.now c.args.tokens.now c.in-Some.behind.now _ c.in-Some.ensures.front) c.in_err-word.ensures.read)
+    rw (p.1, p.2) (stops alias_s name_s (terminals c.args.text.now c.args.tokens.now) (terminals c.args.text.now c.in-Some.behind.now)
+    ([]) _ c.args.text.now c.in_err-word.field-0.0 (alias-as c.args.text.now c.args.tokens.now c.in-Some.behind.now _ c.in-Some.ensures.front) c.in_err-word.ensures.read)
 
 pub returns-clause-read : goal.returns-clause-read
 returns-clause-read c =
-    finish alias_s name_s (terminals c.args.text.now c.args.tokens.now) (terminals c.args.text.now c.in-Some.behind.now) (terminals c.args.text.now c.in_ok-word.rest.now) (λ n. Some n) c.in_ok-word.word _ (alias-as c.args.text.now c.args.tokens.now c.in-Some.behind.now _ c.in-Some.ensures.front) c.in_ok-word.ensures.read (refl)
+    finish alias_s name_s (terminals c.args.text.now c.args.tokens.now) (terminals c.args.text.now c.in-Some.behind.now) (terminals c.args.text.now c.in_ok-word.rest.now)
+    (λ n. Some n) c.in_ok-word.word _ (alias-as c.args.text.now c.args.tokens.now c.in-Some.behind.now _ c.in-Some.ensures.front) c.in_ok-word.ensures.read (refl)

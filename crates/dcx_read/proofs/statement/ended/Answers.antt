@@ -1,4 +1,4 @@
--- What each answer is read from.
+-- What the expression and the line's end behind it are read from.
 use Rattle.std.proofs.Common.{length}
 use Rattle.dcx_read.specs.declared.role.Role.TheVariants as roles
 use Rattle.dcx_syntax.specs.View.{expr_view}

@@ -1,4 +1,4 @@
--- The law of the lemma of its name.
+-- Where multipliers show a problem infeasible, no point is feasible.
 use Rattle.dcx_right.proofs.Optima.{infeasible_have_no_point}
 use Rattle.dcx_right.proofs.laws.infeasible_have_no_point.Goals as goal
 

@@ -1,4 +1,4 @@
--- The law of the lemma of its name.
+-- No feasible point is better than an optimal answer.
 use Rattle.dcx_right.proofs.Optima.{optima_are_least}
 use Rattle.dcx_right.proofs.laws.optima_are_least.Goals as goal
 

@@ -1,4 +1,4 @@
--- The law of the lemma of its name.
+-- The root box has all whole points.
 use Rattle.dcx_right.proofs.Trees.{root_has_all}
 use Rattle.dcx_right.proofs.laws.root_has_all.Goals as goal
 

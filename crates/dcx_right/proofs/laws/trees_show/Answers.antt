@@ -1,4 +1,4 @@
--- The law of the lemma of its name.
+-- No whole point of a tree's box is better than the tree's value, and without a value there is none.
 use Rattle.dcx_right.proofs.Trees.{trees_show}
 use Rattle.dcx_right.proofs.laws.trees_show.Goals as goal
 

@@ -1,4 +1,4 @@
--- The law of the lemma of its name.
+-- A tree at the root box with the objective of a whole point shows that no other is better.
 use Rattle.dcx_right.proofs.Trees.{trees_show_optima}
 use Rattle.dcx_right.proofs.laws.trees_show_optima.Goals as goal
 

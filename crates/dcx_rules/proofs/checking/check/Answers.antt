@@ -38,5 +38,6 @@ returns c =
     c.in_ok-nodes.ensures.ok ∙ ap (map finding_of) (c.deref.ensures.value ∙ sym c.deref-2.ensures.value) in
     let accepted : IsAccepted p = sym (accepts_is Plain p gs plain) ∙ c.in_default.ensures.none.0 refl in
     let dpp = dpp_is p c.deref-3.result.now parametrized accepted c.first_breach-2.result c.is_none-dpp.result c.is_none-dpp.ensures c.first_breach-2.ensures.none in
-    let verdict : IsVerdictOf p c.of.result = subst (IsVerdictOf p) (sym c.of.ensures) (verdict_is p gs plain c.in_ok-nodes.nodes.items c.in_ok-parametrized.parametrized.items c.is_none-dpp.result found c.in_ok-parametrized.ensures dpp) in
+    let verdict : IsVerdictOf p c.of.result = subst (IsVerdictOf p) (sym c.of.ensures)
+    (verdict_is p gs plain c.in_ok-nodes.nodes.items c.in_ok-parametrized.parametrized.items c.is_none-dpp.result found c.in_ok-parametrized.ensures dpp) in
     record { accepted = accepted; convex = accepted_is_convex p accepted; verdict = verdict; truth = λ s fit. findings_true p s fit c.of.result verdict; fault = tt }

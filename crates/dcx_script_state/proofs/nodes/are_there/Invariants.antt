@@ -1,3 +1,4 @@
+-- The arguments that are left are all nodes of the tree exactly where all arguments are.
 use Rattle.std.proofs.Common.{◌≡◌, drop}
 use Rattle.dcx_arena.specs.Nodes.{positions}
 use Rattle.dcx_script_values.specs.Nodes.{are_there}

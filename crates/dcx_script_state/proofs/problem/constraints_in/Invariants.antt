@@ -1,3 +1,4 @@
+-- The constraints so far are those among the values that are passed.
 use Rattle.std.proofs.Common.{◌≡◌, map, take}
 use Rattle.dcx_script_values.specs.Meant.{meant}
 use Rattle.dcx_script_state.specs.Declarations.{constraint_list}

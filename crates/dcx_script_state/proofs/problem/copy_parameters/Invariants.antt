@@ -1,3 +1,4 @@
+-- The copies so far are the parameters that are passed.
 use Rattle.std.proofs.Common.{◌≡◌, take}
 use Rattle.dcx_script_state.proofs.problem.copy_parameters.Given as goal
 

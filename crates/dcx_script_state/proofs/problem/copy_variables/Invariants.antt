@@ -1,3 +1,4 @@
+-- The copies so far are the variables that are passed.
 use Rattle.std.proofs.Common.{◌≡◌, take}
 use Rattle.dcx_script_state.proofs.problem.copy_variables.Given as goal
 

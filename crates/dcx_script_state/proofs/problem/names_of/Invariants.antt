@@ -1,3 +1,4 @@
+-- The set holds a name exactly where one of the parameters that are passed has it.
 use Rattle.std.proofs.Common.{◌≡◌, ℕ, List, take}
 use Rattle.std.specs.HashSet.{contains}
 use Rattle.std.specs.List.{list_any}

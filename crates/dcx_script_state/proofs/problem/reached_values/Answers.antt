@@ -19,5 +19,6 @@ loop-i-preserved c = elim c.match-name_at.branch [
   | in-Some+in_default-get w ↦
       absurd (no_array c.args.setting.now c.loop-i.i c.len-i-end.ensures.distinct (λ (x : Bor Array). x.now) w.get.result w.in-Some.name.now w.in-Some.ensures w.get.ensures w.in_default-get.not-Some)
   | in_default w ↦
-      absurd (no_name c.args.setting.now c.loop-i.i (λ (x : Bor (List ℕ)). x.now) c.name_at.result (omega (arith, c.loop-i-test.true, c.len-i-end.ensures.count)) c.name_at.ensures w.in_default.not-Some)
+      absurd (no_name c.args.setting.now c.loop-i.i (λ (x : Bor (List ℕ)). x.now) c.name_at.result
+      (omega (arith, c.loop-i-test.true, c.len-i-end.ensures.count)) c.name_at.ensures w.in_default.not-Some)
 ]

@@ -1,3 +1,4 @@
+-- The values so far are those of the entries passed whose names are reached.
 use Rattle.std.proofs.Common.{◌≡◌, take}
 use Rattle.std.specs.Prelude.{filter}
 use Rattle.std.specs.HashSet.{contains}

@@ -1,3 +1,4 @@
+-- The count that is tested is that of both lists, and too many are told.
 use Rattle.std.proofs.Common.{arith}
 use Rattle.dcx_script_values.proofs.Limits.{joined-over}
 use Rattle.dcx_script_values.proofs.items.joined.Goals as goal

@@ -1,3 +1,4 @@
+-- Behind what was there stand the values that are passed, each the same again.
 use Rattle.std.proofs.Common.{◌≡◌, ◌++◌, map, take}
 use Rattle.dcx_script_values.specs.Meant.{meant}
 use Rattle.dcx_script_values.proofs.items.push_shared.Given as goal

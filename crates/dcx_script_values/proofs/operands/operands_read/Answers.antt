@@ -1,3 +1,4 @@
+-- Where no list is nested or empty, the operands are read one after the other.
 use Rattle.std.proofs.Common.{◌≡◌, ◌∙◌, sym, false, map}
 use Rattle.std.specs.List.{list_any}
 use Rattle.dcx_script_values.specs.Kinds.{is_nested, is_empty}

@@ -1,3 +1,4 @@
+-- The items that are left are all numbers exactly where all items are.
 use Rattle.std.proofs.Common.{◌≡◌, map, drop}
 use Rattle.std.specs.List.{list_all}
 use Rattle.dcx_script_values.specs.Meant.{meant}

@@ -1,3 +1,4 @@
+-- A list is among the items that are left exactly where one is among all.
 use Rattle.std.proofs.Common.{◌≡◌, map, drop}
 use Rattle.std.specs.List.{list_any}
 use Rattle.dcx_script_values.specs.Meant.{meant}

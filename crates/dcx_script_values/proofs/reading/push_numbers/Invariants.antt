@@ -1,3 +1,4 @@
+-- Behind what was there stand the numbers of the values that are passed.
 use Rattle.std.proofs.Common.{◌≡◌, ◌++◌, map, take}
 use Rattle.dcx_script_values.specs.Meant.{meant}
 use Rattle.dcx_script_values.specs.Kinds.{number_of}

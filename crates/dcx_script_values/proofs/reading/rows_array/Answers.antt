@@ -1,3 +1,4 @@
+-- Rows of one length have as many numbers as their array has entries, and sides that don't fit have no array.
 use Rattle.std.proofs.Common.{◌≡◌, sym, ap, ◌∙◌, map, length, true, arith}
 use Rattle.dcx_shape.specs.Sides.{entries_of}
 use Rattle.dcx_script_values.specs.Meant.{meant}

@@ -1,3 +1,4 @@
+-- The numbers so far are those of the rows that are passed.
 use Rattle.std.proofs.Common.{◌≡◌, map, take}
 use Rattle.std.specs.List.{flat_map}
 use Rattle.dcx_script_values.specs.Meant.{meant}

@@ -1,3 +1,4 @@
+-- Of more rows than a side may be long there is no array.
 use Rattle.std.proofs.Common.{map, arith}
 use Rattle.std.proofs.lemmas.List.{length-map}
 use Rattle.dcx_script_values.specs.Meant.{meant}

@@ -1,3 +1,4 @@
+-- More numbers than a side may be long are no vector.
 use Rattle.std.proofs.Common.{sym, map, arith}
 use Rattle.std.proofs.lemmas.List.{length-map}
 use Rattle.dcx_script_values.specs.Meant.{meant}

@@ -1,3 +1,4 @@
+-- The side is the number of values, and of more than a side may be long there is no shape.
 use Rattle.std.proofs.Common.{◌≡◌, sym, ap, ◌∙◌, map, length, option_map, arith}
 use Rattle.std.proofs.lemmas.List.{length-map}
 use Rattle.dcx_shape.specs.declared.shape.Sides.TheVariants.{Vector}

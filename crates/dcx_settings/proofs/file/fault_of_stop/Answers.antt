@@ -1,3 +1,4 @@
+-- The token at which reading stops is the first unexpected one, and its place is told.
 use Rattle.std.proofs.Common.{subst}
 use Rattle.dcx_settings.specs.Terminal.{terminals}
 use Rattle.dcx_settings.specs.Reading.{StopsUnexpected}

@@ -1,3 +1,4 @@
+-- A division by 0 that is found is the first, since none stands before it.
 use Rattle.dcx_settings.proofs.file.first_division_by_zero.Goals as goal
 use Rattle.dcx_settings.proofs.Files.{first_at, none_at}
 

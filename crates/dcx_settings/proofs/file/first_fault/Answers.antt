@@ -1,3 +1,4 @@
+-- The first division by 0 is told as a bad number, at its place.
 use Rattle.dcx_settings.proofs.file.first_fault.Goals as goal
 use Rattle.dcx_settings.proofs.Files.{divided_at}
 

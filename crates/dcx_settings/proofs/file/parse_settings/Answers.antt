@@ -1,3 +1,4 @@
+-- A fault of the tokens is that of the file, and without one the settings are those of the tokens.
 use Rattle.dcx_settings.proofs.file.parse_settings.Goals as goal
 use Rattle.dcx_settings.proofs.Files.{tokens_refused, tokens_read}
 

@@ -10,7 +10,8 @@ use Rattle.dcx_settings.proofs.line.push_items.Goals as goal
 pub returns-in_err-first-clause-stop : goal.returns-in_err-first-clause-stop
 returns-in_err-first-clause-stop c =
     err_from (LineStopsAt c.args.text.now (terminals c.args.text.now c.args.tokens.now)) c.from_residual.result c.in_err-first.field-0.0 c.from_residual.ensures.1
-    (items_none c.args.names.now c.requires.unnamed c.args.text.now (terminals c.args.text.now c.args.tokens.now) c.in_err-first.field-0.0 (let l = length-map c.args.tokens.now (terminal_of c.args.text.now) in let s = c.requires.some in omega (arith, l, s)) c.requires.not_empty c.in_err-first.ensures.stop)
+    (items_none c.args.names.now c.requires.unnamed c.args.text.now (terminals c.args.text.now c.args.tokens.now) c.in_err-first.field-0.0
+    (let l = length-map c.args.tokens.now (terminal_of c.args.text.now) in let s = c.requires.some in omega (arith, l, s)) c.requires.not_empty c.in_err-first.ensures.stop)
 
 pub items-init : goal.items-init
 items-init c =
@@ -25,7 +26,8 @@ items-init c =
 pub returns-in_err-next-clause-stop : goal.returns-in_err-next-clause-stop
 returns-in_err-next-clause-stop c =
     err_from (LineStopsAt c.args.text.now (terminals c.args.text.now c.args.tokens.now)) c.from_residual-in_err-next.result c.in_err-next.field-0.0 c.from_residual-in_err-next.ensures.1
-    (items_stop c.items.names _ c.items.found.items _ c.items.invariant.0 _ c.in-Some.ensures.first (let l = length-map c.args.tokens.now (terminal_of c.args.text.now) in let s = c.requires.some in omega (arith, l, s)) c.requires.not_empty c.args.text.now c.in_err-next.field-0.0 c.in_err-next.ensures.stop)
+    (items_stop c.items.names _ c.items.found.items _ c.items.invariant.0 _ c.in-Some.ensures.first (let l = length-map c.args.tokens.now (terminal_of c.args.text.now) in
+    let s = c.requires.some in omega (arith, l, s)) c.requires.not_empty c.args.text.now c.in_err-next.field-0.0 c.in_err-next.ensures.stop)
 
 pub items-preserved : goal.items-preserved
 items-preserved c =
@@ -40,10 +42,13 @@ items-preserved c =
 pub returns-in_err-behind-clause-stop : goal.returns-in_err-behind-clause-stop
 returns-in_err-behind-clause-stop c =
     err_from (LineStopsAt c.args.text.now (terminals c.args.text.now c.args.tokens.now)) c.from_residual-in_err-behind.result c.in_err-behind.field-0.0 c.from_residual-in_err-behind.ensures.1
-    (items_open c.items.names _ c.items.found.items _ c.items.invariant.0 c.args.text.now c.items.rest.now refl (let l = length-map c.args.tokens.now (terminal_of c.args.text.now) in let s = c.requires.some in omega (arith, l, s)) c.requires.not_empty c.in_default.ensures.first c.in_err-behind.field-0.0 c.in_err-behind.ensures.stop.0 c.in_err-behind.ensures.stop.1)
+    (items_open c.items.names _ c.items.found.items _ c.items.invariant.0 c.args.text.now c.items.rest.now refl
+    (let l = length-map c.args.tokens.now (terminal_of c.args.text.now) in let s = c.requires.some in omega (arith, l, s)) c.requires.not_empty c.in_default.ensures.first
+    c.in_err-behind.field-0.0 c.in_err-behind.ensures.stop.0 c.in_err-behind.ensures.stop.1)
 
 pub returns-clause-ok : goal.returns-clause-ok
 returns-clause-ok c =
     let us = terminals c.args.text.now c.args.tokens.now in
     let rest = terminals c.args.text.now c.in_ok-behind.behind.now in
-    items_end c.items.names us c.items.found.items _ c.items.invariant.0 rest c.in_ok-behind.ensures.ok (let l = length-map c.args.tokens.now (terminal_of c.args.text.now) in let s = c.requires.some in omega (arith, l, s)) c.requires.not_empty
+    items_end c.items.names us c.items.found.items _ c.items.invariant.0 rest c.in_ok-behind.ensures.ok
+    (let l = length-map c.args.tokens.now (terminal_of c.args.text.now) in let s = c.requires.some in omega (arith, l, s)) c.requires.not_empty

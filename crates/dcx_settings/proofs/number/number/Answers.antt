@@ -9,10 +9,14 @@ pub returns-in-Some-clause-ok : goal.returns-in-Some-clause-ok
 returns-in-Some-clause-ok c = if_ok _ _ c.unsigned.result (λ x h. read_further _ _ _ _ _ x.0 (λ lines is n d. number_minus lines is n d _ _ c.in-Some.ensures.first) h) c.unsigned.ensures.ok
 
 pub returns-in-Some-clause-stop : goal.returns-in-Some-clause-stop
-returns-in-Some-clause-stop c = if_err _ _ c.unsigned.result (λ e h. stop_further number_from (size_from true) c.args.text.now (terminals c.args.text.now c.args.tokens.now) (terminals c.args.text.now c.in-Some.rest.now) e (λ lines is n d. number_minus lines is n d _ _ c.in-Some.ensures.first) h) c.unsigned.ensures.stop
+returns-in-Some-clause-stop c = if_err _ _ c.unsigned.result (λ e h. stop_further number_from (size_from true) c.args.text.now (terminals c.args.text.now c.args.tokens.now)
+    (terminals c.args.text.now c.in-Some.rest.now) e (λ lines is n d. number_minus lines is n d _ _ c.in-Some.ensures.first) h) c.unsigned.ensures.stop
 
 pub returns-in-None-clause-ok : goal.returns-in-None-clause-ok
-returns-in-None-clause-ok c = if_ok _ _ c.unsigned-in-None.result (λ x h. read_further _ _ _ _ _ x.0 (λ lines is n d. number_plain lines is n d _ c.in-None.ensures.first) h) c.unsigned-in-None.ensures.ok
+returns-in-None-clause-ok c = if_ok _ _ c.unsigned-in-None.result
+    (λ x h. read_further _ _ _ _ _ x.0 (λ lines is n d. number_plain lines is n d _ c.in-None.ensures.first) h) c.unsigned-in-None.ensures.ok
 
 pub returns-in-None-clause-stop : goal.returns-in-None-clause-stop
-returns-in-None-clause-stop c = if_err _ _ c.unsigned-in-None.result (λ e h. stop_further number_from (size_from false) c.args.text.now (terminals c.args.text.now c.args.tokens.now) (terminals c.args.text.now c.args.tokens.now) e (λ lines is n d. number_plain lines is n d _ c.in-None.ensures.first) h) c.unsigned-in-None.ensures.stop
+returns-in-None-clause-stop c =
+    if_err _ _ c.unsigned-in-None.result (λ e h. stop_further number_from (size_from false) c.args.text.now (terminals c.args.text.now c.args.tokens.now)
+    (terminals c.args.text.now c.args.tokens.now) e (λ lines is n d. number_plain lines is n d _ c.in-None.ensures.first) h) c.unsigned-in-None.ensures.stop

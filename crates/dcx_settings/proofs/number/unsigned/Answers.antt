@@ -5,10 +5,13 @@ use Rattle.dcx_settings.proofs.Numbers.{if_ok, if_err, read_further, stop_furthe
 use Rattle.dcx_settings.proofs.number.unsigned.Goals as goal
 
 pub returns-in-Some-clause-ok : goal.returns-in-Some-clause-ok
-returns-in-Some-clause-ok c = if_ok _ _ c.behind_digits.result (λ x h. read_further _ _ _ _ _ x.0 (λ lines is n d. size_digits lines is n d c.args.is_negative c.in-Some.front.num _ _ c.in-Some.ensures.first) h) c.behind_digits.ensures.ok
+returns-in-Some-clause-ok c = if_ok _ _ c.behind_digits.result (λ x h. read_further _ _ _ _ _ x.0
+    (λ lines is n d. size_digits lines is n d c.args.is_negative c.in-Some.front.num _ _ c.in-Some.ensures.first) h) c.behind_digits.ensures.ok
 
 pub returns-in-Some-clause-stop : goal.returns-in-Some-clause-stop
-returns-in-Some-clause-stop c = if_err _ _ c.behind_digits.result (λ e h. stop_further (size_from c.args.is_negative) (digits_from c.args.is_negative c.in-Some.front.num) c.args.text.now (terminals c.args.text.now c.args.tokens.now) (terminals c.args.text.now c.in-Some.rest.now) e (λ lines is n d. size_digits lines is n d c.args.is_negative c.in-Some.front.num _ _ c.in-Some.ensures.first) h) c.behind_digits.ensures.stop
+returns-in-Some-clause-stop c = if_err _ _ c.behind_digits.result (λ e h. stop_further (size_from c.args.is_negative)
+    (digits_from c.args.is_negative c.in-Some.front.num) c.args.text.now (terminals c.args.text.now c.args.tokens.now) (terminals c.args.text.now c.in-Some.rest.now) e
+    (λ lines is n d. size_digits lines is n d c.args.is_negative c.in-Some.front.num _ _ c.in-Some.ensures.first) h) c.behind_digits.ensures.stop
 
 pub returns-in-Some-eat_decimal-clause-ok : goal.returns-in-Some-eat_decimal-clause-ok
 returns-in-Some-eat_decimal-clause-ok c = decimal_read _ c.in-Some-eat_decimal.number c.signed.result _ _ c.in-Some-eat_decimal.ensures.first c.signed.ensures

@@ -14,7 +14,8 @@ use Rattle.dcx_settings.proofs.read.read_tokens.Goals as goal
 pub returns-in_err-next-clause-stop : goal.returns-in_err-next-clause-stop
 returns-in_err-next-clause-stop c =
     err_from (StopsUnexpected c.args.text.now (terminals c.args.text.now c.args.tokens.now)) c.from_residual.result c.in_err-next.field-0.0 c.from_residual.ensures.1
-    (lines_stop (terminals c.args.text.now c.args.tokens.now) (terminals c.args.text.now c.lines.rest.now) c.lines.found.items c.args.text.now c.in_err-next.field-0.0 c.lines.invariant c.in_err-next.ensures.stop)
+    (lines_stop (terminals c.args.text.now c.args.tokens.now)
+    (terminals c.args.text.now c.lines.rest.now) c.lines.found.items c.args.text.now c.in_err-next.field-0.0 c.lines.invariant c.in_err-next.ensures.stop)
 
 pub lines-preserved : goal.lines-preserved
 lines-preserved c =

@@ -18,4 +18,5 @@ returns-clause-ok c =
     let us = terminals c.args.text.now c.args.tokens.now in
     let rest = terminals c.args.text.now c.in_ok-found.rest.now in
     subst (λ fs. IsValueRead bracket us c.vector_shape-shape.result fs rest) (sym c.from_vec.ensures)
-    (vector_read us rest c.in_ok-found.found.items c.requires c.in_ok-found.ensures.ok c.vector_shape-shape.result (c.vector_shape-shape.ensures ∙ ap (λ k. Vector k) (let e = c.len.ensures in omega (arith, e))))
+    (vector_read us rest c.in_ok-found.found.items c.requires c.in_ok-found.ensures.ok c.vector_shape-shape.result
+    (c.vector_shape-shape.ensures ∙ ap (λ k. Vector k) (let e = c.len.ensures in omega (arith, e))))

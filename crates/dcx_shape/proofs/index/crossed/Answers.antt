@@ -38,14 +38,18 @@ pub entry_place-requires : goal.entry_place-requires
 entry_place-requires c =
     let wide : 0 < c.args.columns.count = (factor_pos c.loop-k.k c.args.rows.count c.args.columns.count c.loop-k-test.true).1 in
     record {
-      row = rw c.place-row.ensures (run_below c.args.rows.first c.args.rows.step c.args.rows.count _ _ c.requires.rows (div_below c.loop-k.k c.args.columns.count c.args.rows.count wide c.loop-k-test.true));
+      row = rw c.place-row.ensures (run_below c.args.rows.first c.args.rows.step c.args.rows.count _ _ c.requires.rows
+          (div_below c.loop-k.k c.args.columns.count c.args.rows.count wide c.loop-k-test.true));
       column = rw c.place-column.ensures (run_below c.args.columns.first c.args.columns.step c.args.columns.count _ _ c.requires.columns (mod_below c.loop-k.k c.args.columns.count wide));
     }
 
 pub loop-k-preserved : goal.loop-k-preserved
 loop-k-preserved c =
     let pushed : c.push.new.self.items ≡ c.loop-k.places.items ++ c.entry_place.result ∷ [] = search rules in
-    each_pushed (λ q p. p ≡ row_place (sides_of c.args.from) (run_place c.args.rows (q / c.args.columns.count)) (run_place c.args.columns (q % c.args.columns.count))) c.loop-k.places.items c.push.new.self.items c.entry_place.result c.loop-k.k pushed c.loop-k.invariant.0 c.loop-k.invariant.1 (rw (c.entry_place.ensures, c.place-row.ensures, c.place-column.ensures) refl)
+    each_pushed (λ q p. p ≡ row_place (sides_of c.args.from) (run_place c.args.rows (q / c.args.columns.count)) (run_place c.args.columns (q % c.args.columns.count)))
+    c.loop-k.places.items c.push.new.self.items c.entry_place.result c.loop-k.k pushed c.loop-k.invariant.0 c.loop-k.invariant.1
+    (rw (c.entry_place.ensures, c.place-row.ensures, c.place-column.ensures) refl)
 
 pub returns-clause-ok : goal.returns-clause-ok
-returns-clause-ok c = rw c.from_vec.ensures (crossed_from_runs (sides_of c.args.from) c.args.rows c.args.columns c.loop-k.places.items (omega (arith, c.loop-k.invariant.0)) (λ k h. c.loop-k.invariant.1 k (omega arith)))
+returns-clause-ok c = rw c.from_vec.ensures (crossed_from_runs (sides_of c.args.from) c.args.rows c.args.columns c.loop-k.places.items (omega (arith, c.loop-k.invariant.0))
+    (λ k h. c.loop-k.invariant.1 k (omega arith)))

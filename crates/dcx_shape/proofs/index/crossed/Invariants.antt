@@ -6,4 +6,5 @@ use Rattle.dcx_shape.specs.Run.{run_place}
 use Rattle.dcx_shape.proofs.index.crossed.Given as goal
 
 abbrev pub invariant-loop-k : goal.invariant-loop-k
-invariant-loop-k l = (length l.places.items ≡ l.k) × ((q : ℕ) → q < l.k → get_or l.places.items q 0 ≡ row_place (sides_of l.from) (run_place l.rows (q / l.columns.count)) (run_place l.columns (q % l.columns.count)))
+invariant-loop-k l = (length l.places.items ≡ l.k)
+    × ((q : ℕ) → q < l.k → get_or l.places.items q 0 ≡ row_place (sides_of l.from) (run_place l.rows (q / l.columns.count)) (run_place l.columns (q % l.columns.count)))

@@ -43,7 +43,10 @@ crossed-requires-clause-few c =
 
 pub returns-in_err-places-clause-empty : goal.returns-in_err-places-clause-empty
 returns-in_err-places-clause-empty c =
-    never_fault (sides_of c.args.from) c.args.picks.now (places_of c.in_ok-rows.rows) (places_of c.in_ok-rows.columns) c.from_residual-in_err-places.result Empty c.in_ok-rows.ensures.ok (λ e. let p = err_from_is_err_and c.from_residual-in_err-places.result c.from_residual-in_err-places.ensures.1 in let fault : c.in_err-places.field-0.0 ≡ Memory = c.in_err-places.ensures.fault in cc (p.1, p.2))
+    never_fault (sides_of c.args.from) c.args.picks.now (places_of c.in_ok-rows.rows)
+    (places_of c.in_ok-rows.columns) c.from_residual-in_err-places.result Empty c.in_ok-rows.ensures.ok
+    (λ e. let p = err_from_is_err_and c.from_residual-in_err-places.result c.from_residual-in_err-places.ensures.1 in let fault : c.in_err-places.field-0.0
+    ≡ Memory = c.in_err-places.ensures.fault in cc (p.1, p.2))
 
 pub returns-clause-ok : goal.returns-clause-ok
 returns-clause-ok c =
@@ -53,7 +56,12 @@ returns-clause-ok c =
       rows = places_of rows;
       columns = places_of columns;
       takes = c.in_ok-rows.ensures.ok;
-      sides = rw (length-places_from rows.first rows.step rows.count, length-places_from columns.first columns.step columns.count, ← c.outer_pick.ensures, ← c.inner_pick.ensures) c.kept_shape-to.ensures;
+      sides = rw (
+        length-places_from rows.first rows.step rows.count,
+        length-places_from columns.first columns.step columns.count,
+        ← c.outer_pick.ensures,
+        ← c.inner_pick.ensures,
+      ) c.kept_shape-to.ensures;
       crossed = c.in_ok-places.ensures.ok;
     }
 

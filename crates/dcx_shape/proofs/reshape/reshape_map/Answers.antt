@@ -23,7 +23,8 @@ loop-k-smaller c = search rules
 pub loop-k-preserved : goal.loop-k-preserved
 loop-k-preserved c =
     let pushed : c.push.new.self.items ≡ c.loop-k.places.items ++ c.source.result ∷ [] = search rules in
-    each_pushed (IsSource c.args.by_columns (sides_of c.args.from) (sides_of c.args.to)) c.loop-k.places.items c.push.new.self.items c.source.result c.loop-k.k pushed c.loop-k.invariant.0 c.loop-k.invariant.1 c.source.ensures.source
+    each_pushed (IsSource c.args.by_columns (sides_of c.args.from) (sides_of c.args.to)) c.loop-k.places.items c.push.new.self.items c.source.result c.loop-k.k pushed
+    c.loop-k.invariant.0 c.loop-k.invariant.1 c.source.ensures.source
 
 reshaped : (c : goal.After-from_vec) → IsReshape c.args.by_columns (sides_of c.args.from) (sides_of c.args.to) c.from_vec.result
 reshaped c =

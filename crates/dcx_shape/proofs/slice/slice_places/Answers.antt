@@ -10,7 +10,8 @@ use Rattle.dcx_shape.proofs.slice.slice_places.Goals as goal
 
 pub returns-clause-within : goal.returns-clause-within
 returns-clause-within c =
-    IfOk-weaker c.places.result (λ places. places ≡ places_of c.slice_run-run.result) (All (λ p. p < c.args.size)) (λ places same. rw same (slice_below c.args.size c.args.slice (places_of c.slice_run-run.result) c.requires c.slice_run-run.ensures)) c.places.ensures.ok
+    IfOk-weaker c.places.result (λ places. places ≡ places_of c.slice_run-run.result) (All (λ p. p < c.args.size))
+    (λ places same. rw same (slice_below c.args.size c.args.slice (places_of c.slice_run-run.result) c.requires c.slice_run-run.ensures)) c.places.ensures.ok
 
 pub returns-clause-empty : goal.returns-clause-empty
 returns-clause-empty c =

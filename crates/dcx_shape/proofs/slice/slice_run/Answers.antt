@@ -28,7 +28,9 @@ first_fits : (n : ℕ) (start first : ℤ) → n < 2 ^ 32 → FitsSigned w64 sta
 first_fits n start first small begin best h e = rw (to_z-of_z w64 first best, e, to_z-of_z w64 start begin) (start_fits n start small h)
 
 -- what the code computes is the run of the slice
-computed : (n : ℕ) (s : Slice) (start stop first : ℤ) (count : ℕ) → s.step ≢ pos 0 → FitsSigned w64 s.step → FitsSigned w64 start → FitsSigned w64 stop → FitsSigned w64 first → start ≡ start_for n (read s.step) s.start → stop ≡ stop_for n (read s.step) s.stop → first ≡ int_max (read start) (pos 0) → ((k : ℕ) → (k < count) ↔ IsBefore (read s.step) (read start +ℤ pos k *ℤ read s.step) (read stop)) → IsRunOf n s (unsigned_abs (read first)) (read s.step) count
+computed : (n : ℕ) (s : Slice) (start stop first : ℤ) (count : ℕ) → s.step ≢ pos 0 → FitsSigned w64 s.step → FitsSigned w64 start → FitsSigned w64 stop → FitsSigned w64 first
+    → start ≡ start_for n (read s.step) s.start → stop ≡ stop_for n (read s.step) s.stop → first ≡ int_max (read start) (pos 0)
+    → ((k : ℕ) → (k < count) ↔ IsBefore (read s.step) (read start +ℤ pos k *ℤ read s.step) (read stop)) → IsRunOf n s (unsigned_abs (read first)) (read s.step) count
 computed n s start stop first count ne step begin end best is_start is_stop is_first some =
     let from : pos (unsigned_abs (read first)) ≡ int_max start (pos 0) = omega (arith, ints, clamps) in
     let before = simp (to_z-of_z w64 start begin, to_z-of_z w64 stop end) at some in
@@ -44,10 +46,12 @@ pub steps-count-requires-clause-step : goal.steps-count-requires-clause-step
 steps-count-requires-clause-step c = search rules
 
 pub steps-count-requires-clause-up : goal.steps-count-requires-clause-up
-steps-count-requires-clause-up c = near c.args.size c.slice_stop-stop.result c.slice_start-start.result (omega arith) (search rules) (search rules) (ends c.args.size c.args.slice _ _ c.slice_start-start.ensures c.slice_stop-stop.ensures).up
+steps-count-requires-clause-up c = near c.args.size c.slice_stop-stop.result c.slice_start-start.result (omega arith) (search rules) (search rules)
+    (ends c.args.size c.args.slice _ _ c.slice_start-start.ensures c.slice_stop-stop.ensures).up
 
 pub steps-count-requires-clause-down : goal.steps-count-requires-clause-down
-steps-count-requires-clause-down c = near c.args.size c.slice_start-start.result c.slice_stop-stop.result (omega arith) (search rules) (search rules) (ends c.args.size c.args.slice _ _ c.slice_start-start.ensures c.slice_stop-stop.ensures).down
+steps-count-requires-clause-down c = near c.args.size c.slice_start-start.result c.slice_stop-stop.result (omega arith) (search rules) (search rules)
+    (ends c.args.size c.args.slice _ _ c.slice_start-start.ensures c.slice_stop-stop.ensures).down
 
 pub max-first-requires : goal.max-first-requires
 max-first-requires c = search rules
@@ -55,13 +59,18 @@ max-first-requires c = search rules
 pub overflow_cast-first : goal.overflow_cast-first
 overflow_cast-first c =
     let near : AreNear c.args.size c.slice_start-start.result c.slice_stop-stop.result = ends c.args.size c.args.slice _ _ c.slice_start-start.ensures c.slice_stop-stop.ensures in
-    let fits : FitsUnsigned w32 (read c.max-first.result) = first_fits c.args.size c.slice_start-start.result c.max-first.result (omega arith) (search rules) (search rules) near.first c.max-first.ensures.value in
+    let fits : FitsUnsigned w32 (read c.max-first.result) =
+    first_fits c.args.size c.slice_start-start.result c.max-first.result (omega arith) (search rules) (search rules) near.first c.max-first.ensures.value in
     search (rules, fits)
 
 pub invariant_of-result : goal.invariant_of-result
 invariant_of-result c =
     let small : c.args.size < 2 ^ 32 = omega arith in
-    record { fits = run_fits c.args.size c.args.slice _ _ _ (computed c.args.size c.args.slice _ _ _ _ c.requires (search rules) (search rules) (search rules) (search rules) c.slice_start-start.ensures c.slice_stop-stop.ensures c.max-first.ensures.value c.steps-count.ensures) small }
+    record {
+      fits = run_fits c.args.size c.args.slice _ _ _ (computed c.args.size c.args.slice _ _ _ _ c.requires (search rules) (search rules) (search rules)
+          (search rules) c.slice_start-start.ensures c.slice_stop-stop.ensures c.max-first.ensures.value c.steps-count.ensures) small;
+    }
 
 pub returns : goal.returns
-returns c = slice_runs c.args.size c.args.slice _ _ _ (computed c.args.size c.args.slice _ _ _ _ c.requires (search rules) (search rules) (search rules) (search rules) c.slice_start-start.ensures c.slice_stop-stop.ensures c.max-first.ensures.value c.steps-count.ensures)
+returns c = slice_runs c.args.size c.args.slice _ _ _ (computed c.args.size c.args.slice _ _ _ _ c.requires (search rules) (search rules) (search rules)
+    (search rules) c.slice_start-start.ensures c.slice_stop-stop.ensures c.max-first.ensures.value c.steps-count.ensures)

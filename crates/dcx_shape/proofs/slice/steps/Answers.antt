@@ -12,4 +12,5 @@ returns c =
     let stop : FitsSigned w64 c.args.stop = c.ranges.stop in
     let step : FitsSigned w64 c.args.step = c.ranges.step in
     let size = simp to_z-of_z at c.unsigned_abs.ensures.value in
-    steps_before c.args.step c.args.start c.args.stop c.gap.result c.div_ceil.result c.requires.step (simp to_z-of_z at c.gap.ensures.ahead) (c.div_ceil.ensures ∙ ap (λ s. div_ceil c.gap.result s) size)
+    steps_before c.args.step c.args.start c.args.stop c.gap.result c.div_ceil.result c.requires.step (simp to_z-of_z at c.gap.ensures.ahead)
+    (c.div_ceil.ensures ∙ ap (λ s. div_ceil c.gap.result s) size)

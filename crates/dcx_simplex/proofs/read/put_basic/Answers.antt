@@ -19,11 +19,13 @@ rows-preserved g c =
     let x = c.turned.result in
     let xs = c.rows.xs in
     let in_i : i + 2 < length t.rows = omega (arith, c.rows-i-end.ensures.count, c.rows-test.true) in
-    let v : value x ≡ turned_if c.args.is_negated (whole (entry_at t i c.args.column) /ℚ whole (entry_at t i (basic_at t.basis i))) = c.turned.ensures ∙ ap (turned_if c.args.is_negated) c.ratio-x.ensures in
+    let v : value x ≡ turned_if c.args.is_negated (whole (entry_at t i c.args.column) /ℚ whole (entry_at t i (basic_at t.basis i))) = c.turned.ensures
+    ∙ ap (turned_if c.args.is_negated) c.ratio-x.ensures in
     let in_xs : j < length xs = omega (arith, c.requires.readable.basics i in_i, c.basis-j.ensures, c.requires.len, c.rows.auto.xs) in
     record {
       basic = below_more (λ k. rat_at (numbers (set xs j x)) (basic_at t.basis k) ≡ turned_if c.args.is_negated (whole (entry_at t k c.args.column) /ℚ whole (entry_at t k (basic_at t.basis k)))) i
-          (λ k l. number-set_other xs j x (basic_at t.basis k) (λ same. let a = c.requires.readable.apart k i (omega (arith, in_i, l)) in_i (same ∙ c.basis-j.ensures) in absurd (omega (arith, a, l))) ∙ c.rows.invariant.basic k l)
+          (λ k l. number-set_other xs j x (basic_at t.basis k) (λ same. let a = c.requires.readable.apart k i (omega (arith, in_i, l)) in_i (same ∙ c.basis-j.ensures) in
+          absurd (omega (arith, a, l))) ∙ c.rows.invariant.basic k l)
           (ap (rat_at (numbers (set xs j x))) (sym c.basis-j.ensures) ∙ number-set_same xs j x in_xs ∙ v);
       other = λ k h. number-set_other xs j x k (λ same. h i (omega arith) (sym c.basis-j.ensures ∙ sym same)) ∙ c.rows.invariant.other k (λ l m. h l (omega (arith, m)));
     }

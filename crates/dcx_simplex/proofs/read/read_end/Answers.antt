@@ -109,4 +109,5 @@ returns-in-Unbounded-clause-right g c =
     let u = g.T.Tableau.table c.args.tableau.now in
     let f : IsFinished p u (lp.Unbounded c.in-Unbounded.pivots c.in-Unbounded.column) = subst (IsFinished p u) c.in-Unbounded.is c.requires in
     IfOk-weaker c.read_ray.result (λ a. IsReading p.rows p.columns u status.Unbounded a × IsRayReading p.columns u c.in-Unbounded.column a) (IsRight p)
-    (λ a r. subst (λ s. IsRightAs s p a) (sym r.0.status) (right_unbounded p u f.0 c.in-Unbounded.pivots c.in-Unbounded.column f.1 a r.0 r.1)) (if_ok_both (IsReading p.rows p.columns u status.Unbounded) (IsRayReading p.columns u c.in-Unbounded.column) c.read_ray.result c.read_ray.ensures.reading c.read_ray.ensures.ray)
+    (λ a r. subst (λ s. IsRightAs s p a) (sym r.0.status) (right_unbounded p u f.0 c.in-Unbounded.pivots c.in-Unbounded.column f.1 a r.0 r.1))
+    (if_ok_both (IsReading p.rows p.columns u status.Unbounded) (IsRayReading p.columns u c.in-Unbounded.column) c.read_ray.result c.read_ray.ensures.reading c.read_ray.ensures.ray)

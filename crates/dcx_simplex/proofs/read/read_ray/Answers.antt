@@ -25,6 +25,7 @@ returns-clause-ray g c =
     let t = g.T.Tableau.table c.args.tableau.now in
     record {
       ray = ap length c.from_vec.ensures ∙ c.in_ok-changes.ensures.len ∙ c.requires.columns;
-      change = λ j h. subst (λ (xs : List Frac). IsColumnChange t c.args.column j (rat_at (numbers xs) j)) (sym c.from_vec.ensures) (c.in_ok-changes.ensures.changes j (omega (arith, h, c.requires.columns)));
+      change = λ j h. subst (λ (xs : List Frac). IsColumnChange t c.args.column j (rat_at (numbers xs) j)) (sym c.from_vec.ensures)
+          (c.in_ok-changes.ensures.changes j (omega (arith, h, c.requires.columns)));
       slope = c.cost_ratio-answer.ensures;
     }

@@ -26,7 +26,9 @@ rows-preserved g c =
     record {
       count = (let l = length-append notes (note ∷ []) in let n = ap length items in let k = c.rows.invariant.count in omega (arith, l, n, k));
       reduced_costs = subst (λ (ns : List RowNote). (k : ℕ) → k < i + 1 → rat_at (map reduced_cost_of ns) k ≡ reduced_cost_at t c.args.cost (get_or c.args.own.now k 0)) (sym items)
-          (λ k l. ap (λ xs. rat_at xs k) (map-append reduced_cost_of notes (note ∷ [])) ∙ rat_at-more (map reduced_cost_of notes) (reduced_cost_of note) i (λ k. reduced_cost_at t c.args.cost (get_or c.args.own.now k 0)) (length-map notes reduced_cost_of ∙ c.rows.invariant.count) c.rows.invariant.reduced_costs v k l);
+          (λ k l. ap (λ xs. rat_at xs k) (map-append reduced_cost_of notes (note ∷ []))
+          ∙ rat_at-more (map reduced_cost_of notes) (reduced_cost_of note) i (λ k. reduced_cost_at t c.args.cost (get_or c.args.own.now k 0))
+          (length-map notes reduced_cost_of ∙ c.rows.invariant.count) c.rows.invariant.reduced_costs v k l);
       factors = ap (map factor_of) items ∙ along_more factor_of row_factor notes rows note row i in_rows c.index-rows-i.is c.rows.invariant.factors refl;
       negated = ap (map was_negated) items ∙ along_more was_negated is_negated notes rows note row i in_rows c.index-rows-i.is c.rows.invariant.negated refl;
     }

@@ -12,4 +12,5 @@ returns g c =
     let t = g.T.Tableau.table c.args.tableau.now in
     let u = g.T.Tableau.table c.phase.new.tableau in
     let ec : c.rows-cost.result + 1 ≡ phase_row t = omega (arith, c.rows-cost.ensures.count) in
-    first_is c.args.limit t u c.phase.new.pivots (c.rows-cost.result + 1) c.columns-columns.result c.args.pivots.now c.phase.result ec c.columns-columns.ensures c.requires.none c.requires.artificials c.phase.ensures.leads c.phase.ensures.ends
+    first_is c.args.limit t u c.phase.new.pivots (c.rows-cost.result + 1) c.columns-columns.result c.args.pivots.now c.phase.result ec c.columns-columns.ensures c.requires.none
+    c.requires.artificials c.phase.ensures.leads c.phase.ensures.ends

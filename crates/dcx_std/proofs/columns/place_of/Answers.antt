@@ -1,3 +1,4 @@
+-- The column is at some place, so the search can't pass all of them.
 use Rattle.std.proofs.Common.{length, refl, sym, arith, rules}
 use Rattle.std.proofs.lemmas.Option.{slice_get_read}
 use Rattle.dcx_std.proofs.columns.place_of.Goals as goal

@@ -1,3 +1,4 @@
+-- One more row has its artificial where it starts with one.
 use Rattle.std.proofs.Common.{[], ◌∷◌, ◌++◌, ◌<◌, length, take, sym, ap, ◌∙◌, append_assoc, arith}
 use Rattle.std.specs.Prelude.{if◌then◌else◌}
 use Rattle.dcx_tab.specs.declared.rows.ColumnKind.TheVariants.{Artificial}

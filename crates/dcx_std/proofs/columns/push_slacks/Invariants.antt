@@ -1,7 +1,7 @@
+-- The slacks of the rows so far are put.
 use Rattle.std.proofs.Common.{◌≡◌, ◌++◌, take}
 use Rattle.dcx_std.specs.Columns.{slack_columns}
 use Rattle.dcx_std.proofs.columns.push_slacks.Given as goal
 
--- the slacks of the rows so far
 abbrev pub invariant-starts : goal.invariant-starts
 invariant-starts l = l.columns.items ≡ l.fn.columns.items ++ slack_columns (take l.row l.starts)

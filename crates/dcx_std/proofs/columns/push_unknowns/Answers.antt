@@ -1,3 +1,4 @@
+-- One more unknown has the columns of its kind.
 use Rattle.std.proofs.Common.{◌<◌, length, arith}
 use Rattle.dcx_std.proofs.Making.{unknown_step}
 use Rattle.dcx_std.proofs.columns.push_unknowns.Goals as goal

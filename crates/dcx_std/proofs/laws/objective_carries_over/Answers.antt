@@ -1,3 +1,4 @@
+-- The cost at columns is the objective at their unknowns.
 use Rattle.dcx_std.proofs.Solutions.{cost_is}
 use Rattle.dcx_std.proofs.laws.objective_carries_over.Goals as goal
 

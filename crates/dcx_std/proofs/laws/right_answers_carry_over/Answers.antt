@@ -1,3 +1,4 @@
+-- An answer that is right for the program is right for the rows.
 use Rattle.dcx_std.proofs.ScaledProgram.{scaled_program}
 use Rattle.dcx_std.proofs.RightAnswers.{shown_of}
 use Rattle.dcx_std.proofs.laws.right_answers_carry_over.Goals as goal

@@ -1,8 +1,8 @@
+-- The multiple so far leads by what is left to that of the form.
 use Rattle.std.proofs.Common.{◌≡◌, ◌<◌, ◌^◌, [], ◌∷◌, ◌++◌, map, drop}
 use Rattle.dcx_std.specs.Multiples.{multiple_from, denominator_of, multiple_of}
 use Rattle.dcx_std.proofs.multiple.least_multiple.Given as goal
 
--- the multiple so far leads by what is left to that of the form
 abbrev pub invariant-terms : goal.invariant-terms
 invariant-terms l = record {
   small : l.found < 2 ^ 127;

@@ -1,3 +1,4 @@
+-- A number times the other over their divisor is the least common multiple, and it is too large where the product is.
 use Rattle.std.proofs.Common.{◌<◌, sym, subst, ◌∙◌, arith}
 use Rattle.dcx_math.proofs.Divisors.{gcd-pos}
 use Rattle.dcx_std.proofs.Multiples.{multiple_is}

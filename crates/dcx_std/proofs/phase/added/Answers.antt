@@ -1,3 +1,4 @@
+-- The number of a row at a column is small enough to be a fraction.
 use Rattle.std.proofs.Common.{◌<◌, ◌^◌, sym, subst, unsigned_abs, to_z-of_z}
 use Rattle.std.specs.Int.{w128}
 use Rattle.std.proofs.lemmas.Int.{fits_signed_from_abs}

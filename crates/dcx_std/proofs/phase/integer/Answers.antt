@@ -1,3 +1,4 @@
+-- A number of less than 2 ^ 127 over 1 is representable, so the fraction is there and is the number.
 use Rattle.std.proofs.Common.{◌≢◌, pos, sym, ap, ◌∙◌, arith, to_z-of_z, unsigned_abs, ◌<◌, ◌^◌}
 use Rattle.std.proofs.lemmas.Int.{ints}
 use Rattle.dcx_math.specs.Rational.{whole}

@@ -1,3 +1,4 @@
+-- One more column has its sum, or its sum is the first that passes.
 use Rattle.std.proofs.Common.{[], ◌∷◌, ◌++◌, ◌+◌, ◌-◌, map, sym, ap, ◌∙◌, arith, to_z-of_z}
 use Rattle.std.specs.List.{range_with_len}
 use Rattle.std.specs.Int.{w128}
@@ -15,7 +16,8 @@ returns-in_err-sum c =
     let i = c.columns.column in
     let n = c.args.plain in
     let f = column_sum n c.args.rows.now in
-    rw (p.1, p.2) (sym (numerators_stop f (range_with_len i (n - i)) (range_with_len (i + 1) (n - (i + 1))) i c.columns.sums.items _ (range_next i n (omega arith)) (sym c.sum_at.ensures ∙ c.in_err-sum.was)) ∙ c.columns.invariant)
+    rw (p.1, p.2) (sym (numerators_stop f (range_with_len i (n - i)) (range_with_len (i + 1) (n - (i + 1))) i c.columns.sums.items _ (range_next i n (omega arith))
+    (sym c.sum_at.ensures ∙ c.in_err-sum.was)) ∙ c.columns.invariant)
 
 pub columns-preserved : goal.columns-preserved
 columns-preserved c =

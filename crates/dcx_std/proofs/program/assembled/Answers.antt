@@ -1,3 +1,4 @@
+-- The columns are those of unknowns, slacks and artificials: so the rows, the cost and the phase row are made.
 use Rattle.std.proofs.Common.{◌≡◌, ◌+◌, length, length-append, map, sym, ap, ◌∙◌, arith}
 use Rattle.std.proofs.lemmas.Result.{err_from_is_err_and}
 use Rattle.dcx_std.specs.Columns.{columns_of, artificial_columns}
@@ -28,7 +29,8 @@ int_rows-requires-clause-small c =
     let second = c.as_slice-2.result.now in
     let plain = c.in_ok-columns.columns.items in
     let a : cs ≡ columns_of rows.kinds (map (start_of (length rows.kinds)) w.rows.items) =
-    columns_are rows.kinds ks w.rows.items vs starts first second plain k v c.in_ok-starts.ensures c.as_slice.ensures.value c.as_slice-2.ensures.value c.in_ok-columns.ensures cs c.push_artificials.new.columns.items c.in_ok-push_artificials.ensures c.as_slice-all.ensures.value in
+    columns_are rows.kinds ks w.rows.items vs starts first second plain k v c.in_ok-starts.ensures c.as_slice.ensures.value c.as_slice-2.ensures.value c.in_ok-columns.ensures cs
+    c.push_artificials.new.columns.items c.in_ok-push_artificials.ensures c.as_slice-all.ensures.value in
     small_rows rows w c.requires.fits c.requires.whole ks vs cs k v a
 
 pub int_rows-requires-clause-there : goal.int_rows-requires-clause-there
@@ -45,7 +47,8 @@ int_rows-requires-clause-there c =
     let second = c.as_slice-2.result.now in
     let plain = c.in_ok-columns.columns.items in
     let a : cs ≡ columns_of rows.kinds (map (start_of (length rows.kinds)) w.rows.items) =
-    columns_are rows.kinds ks w.rows.items vs starts first second plain k v c.in_ok-starts.ensures c.as_slice.ensures.value c.as_slice-2.ensures.value c.in_ok-columns.ensures cs c.push_artificials.new.columns.items c.in_ok-push_artificials.ensures c.as_slice-all.ensures.value in
+    columns_are rows.kinds ks w.rows.items vs starts first second plain k v c.in_ok-starts.ensures c.as_slice.ensures.value c.as_slice-2.ensures.value c.in_ok-columns.ensures cs
+    c.push_artificials.new.columns.items c.in_ok-push_artificials.ensures c.as_slice-all.ensures.value in
     there_all rows w c.requires.fits c.requires.whole ks vs cs k v a
 
 pub int_rows-requires-clause-few : goal.int_rows-requires-clause-few
@@ -62,7 +65,8 @@ int_rows-requires-clause-few c =
     let second = c.as_slice-2.result.now in
     let plain = c.in_ok-columns.columns.items in
     let a : cs ≡ columns_of rows.kinds (map (start_of (length rows.kinds)) w.rows.items) =
-    columns_are rows.kinds ks w.rows.items vs starts first second plain k v c.in_ok-starts.ensures c.as_slice.ensures.value c.as_slice-2.ensures.value c.in_ok-columns.ensures cs c.push_artificials.new.columns.items c.in_ok-push_artificials.ensures c.as_slice-all.ensures.value in
+    columns_are rows.kinds ks w.rows.items vs starts first second plain k v c.in_ok-starts.ensures c.as_slice.ensures.value c.as_slice-2.ensures.value c.in_ok-columns.ensures cs
+    c.push_artificials.new.columns.items c.in_ok-push_artificials.ensures c.as_slice-all.ensures.value in
     omega (arith, few_all rows w c.requires.fits c.requires.whole ks vs cs k v a)
 
 pub cost_row-requires-clause-small : goal.cost_row-requires-clause-small
@@ -79,7 +83,8 @@ cost_row-requires-clause-small c =
     let second = c.as_slice-2.result.now in
     let plain = c.in_ok-columns.columns.items in
     let a : cs ≡ columns_of rows.kinds (map (start_of (length rows.kinds)) w.rows.items) =
-    columns_are rows.kinds ks w.rows.items vs starts first second plain k v c.in_ok-starts.ensures c.as_slice.ensures.value c.as_slice-2.ensures.value c.in_ok-columns.ensures cs c.push_artificials.new.columns.items c.in_ok-push_artificials.ensures c.as_slice-all.ensures.value in
+    columns_are rows.kinds ks w.rows.items vs starts first second plain k v c.in_ok-starts.ensures c.as_slice.ensures.value c.as_slice-2.ensures.value c.in_ok-columns.ensures cs
+    c.push_artificials.new.columns.items c.in_ok-push_artificials.ensures c.as_slice-all.ensures.value in
     cost_all rows w c.requires.fits c.requires.whole ks vs cs k v a
 
 pub cost_row-requires-clause-few : goal.cost_row-requires-clause-few
@@ -102,7 +107,8 @@ phase_row-requires-clause-widths c =
     let second = c.as_slice-2.result.now in
     let plain = c.in_ok-columns.columns.items in
     let a : cs ≡ columns_of rows.kinds (map (start_of (length rows.kinds)) w.rows.items) =
-    columns_are rows.kinds ks w.rows.items vs starts first second plain k v c.in_ok-starts.ensures c.as_slice.ensures.value c.as_slice-2.ensures.value c.in_ok-columns.ensures cs c.push_artificials.new.columns.items c.in_ok-push_artificials.ensures c.as_slice-all.ensures.value in
+    columns_are rows.kinds ks w.rows.items vs starts first second plain k v c.in_ok-starts.ensures c.as_slice.ensures.value c.as_slice-2.ensures.value c.in_ok-columns.ensures cs
+    c.push_artificials.new.columns.items c.in_ok-push_artificials.ensures c.as_slice-all.ensures.value in
     widths_all rows w c.requires.fits c.requires.whole ks vs cs k v a c.in_ok-ints.ints.items c.as_slice-3.result.now c.in_ok-ints.ensures c.as_slice-3.ensures.value
 
 pub phase_row-requires-clause-small : goal.phase_row-requires-clause-small
@@ -119,7 +125,8 @@ phase_row-requires-clause-small c =
     let second = c.as_slice-2.result.now in
     let plain = c.in_ok-columns.columns.items in
     let a : cs ≡ columns_of rows.kinds (map (start_of (length rows.kinds)) w.rows.items) =
-    columns_are rows.kinds ks w.rows.items vs starts first second plain k v c.in_ok-starts.ensures c.as_slice.ensures.value c.as_slice-2.ensures.value c.in_ok-columns.ensures cs c.push_artificials.new.columns.items c.in_ok-push_artificials.ensures c.as_slice-all.ensures.value in
+    columns_are rows.kinds ks w.rows.items vs starts first second plain k v c.in_ok-starts.ensures c.as_slice.ensures.value c.as_slice-2.ensures.value c.in_ok-columns.ensures cs
+    c.push_artificials.new.columns.items c.in_ok-push_artificials.ensures c.as_slice-all.ensures.value in
     smalls_all rows w c.requires.fits c.requires.whole ks vs cs k v a c.in_ok-ints.ints.items c.as_slice-3.result.now c.in_ok-ints.ensures c.as_slice-3.ensures.value
 
 pub returns-in_err-phase-clause-stops : goal.returns-in_err-phase-clause-stops
@@ -136,11 +143,15 @@ returns-in_err-phase-clause-stops c =
     let second = c.as_slice-2.result.now in
     let plain = c.in_ok-columns.columns.items in
     let a : cs ≡ columns_of rows.kinds (map (start_of (length rows.kinds)) w.rows.items) =
-    columns_are rows.kinds ks w.rows.items vs starts first second plain k v c.in_ok-starts.ensures c.as_slice.ensures.value c.as_slice-2.ensures.value c.in_ok-columns.ensures cs c.push_artificials.new.columns.items c.in_ok-push_artificials.ensures c.as_slice-all.ensures.value in
-    let m : c.len-plain.result ≡ plain_count cs = plain_is rows.kinds ks w.rows.items vs starts first second plain k v c.in_ok-starts.ensures c.as_slice.ensures.value c.as_slice-2.ensures.value c.in_ok-columns.ensures cs c.len-plain.result (c.len-plain.ensures ∙ c.in_ok-columns.columns.ok.0) a in
+    columns_are rows.kinds ks w.rows.items vs starts first second plain k v c.in_ok-starts.ensures c.as_slice.ensures.value c.as_slice-2.ensures.value c.in_ok-columns.ensures cs
+    c.push_artificials.new.columns.items c.in_ok-push_artificials.ensures c.as_slice-all.ensures.value in
+    let m : c.len-plain.result ≡ plain_count cs =
+    plain_is rows.kinds ks w.rows.items vs starts first second plain k v c.in_ok-starts.ensures c.as_slice.ensures.value c.as_slice-2.ensures.value c.in_ok-columns.ensures cs c.len-plain.result
+    (c.len-plain.ensures ∙ c.in_ok-columns.columns.ok.0) a in
     let p = err_from_is_err_and c.from_residual-in_err-phase.result c.from_residual-in_err-phase.ensures.1 in
     rw (p.1, p.2)
-    (stop_all rows w c.requires.fits c.requires.whole ks vs cs k v a c.in_ok-ints.ints.items c.as_slice-3.result.now c.in_ok-ints.ensures c.as_slice-3.ensures.value c.len-plain.result (length vs + 1) m (omega arith) c.phase_row.result c.phase_row.ensures c.in_err-phase.field-0.0 (sym c.at_row.ensures ∙ c.in_err-phase.was))
+    (stop_all rows w c.requires.fits c.requires.whole ks vs cs k v a c.in_ok-ints.ints.items c.as_slice-3.result.now c.in_ok-ints.ensures c.as_slice-3.ensures.value c.len-plain.result
+    (length vs + 1) m (omega arith) c.phase_row.result c.phase_row.ensures c.in_err-phase.field-0.0 (sym c.at_row.ensures ∙ c.in_err-phase.was))
 
 pub invariant_of-result : goal.invariant_of-result
 invariant_of-result c =
@@ -156,10 +167,15 @@ invariant_of-result c =
     let second = c.as_slice-2.result.now in
     let plain = c.in_ok-columns.columns.items in
     let a : cs ≡ columns_of rows.kinds (map (start_of (length rows.kinds)) w.rows.items) =
-    columns_are rows.kinds ks w.rows.items vs starts first second plain k v c.in_ok-starts.ensures c.as_slice.ensures.value c.as_slice-2.ensures.value c.in_ok-columns.ensures cs c.push_artificials.new.columns.items c.in_ok-push_artificials.ensures c.as_slice-all.ensures.value in
-    let m : c.len-plain.result ≡ plain_count cs = plain_is rows.kinds ks w.rows.items vs starts first second plain k v c.in_ok-starts.ensures c.as_slice.ensures.value c.as_slice-2.ensures.value c.in_ok-columns.ensures cs c.len-plain.result (c.len-plain.ensures ∙ c.in_ok-columns.columns.ok.0) a in
+    columns_are rows.kinds ks w.rows.items vs starts first second plain k v c.in_ok-starts.ensures c.as_slice.ensures.value c.as_slice-2.ensures.value c.in_ok-columns.ensures cs
+    c.push_artificials.new.columns.items c.in_ok-push_artificials.ensures c.as_slice-all.ensures.value in
+    let m : c.len-plain.result ≡ plain_count cs =
+    plain_is rows.kinds ks w.rows.items vs starts first second plain k v c.in_ok-starts.ensures c.as_slice.ensures.value c.as_slice-2.ensures.value c.in_ok-columns.ensures cs c.len-plain.result
+    (c.len-plain.ensures ∙ c.in_ok-columns.columns.ok.0) a in
     record {
-      form = form_all rows w c.requires.fits c.requires.whole ks vs cs k v a c.in_ok-ints.ints.items c.as_slice-3.result.now c.in_ok-ints.ensures c.as_slice-3.ensures.value c.len-plain.result (length vs + 1) m (omega arith) c.phase_row.result c.phase_row.ensures c.from_vec-2.result c.from_vec.result c.in_ok-objective.objective c.in_ok-phase.phase c.from_vec.ensures (c.from_vec-2.ensures ∙ sym c.as_slice-all.ensures.value) c.in_ok-objective.ensures (sym c.at_row.ensures ∙ c.in_ok-phase.was);
+      form = form_all rows w c.requires.fits c.requires.whole ks vs cs k v a c.in_ok-ints.ints.items c.as_slice-3.result.now c.in_ok-ints.ensures c.as_slice-3.ensures.value c.len-plain.result
+          (length vs + 1) m (omega arith) c.phase_row.result c.phase_row.ensures c.from_vec-2.result c.from_vec.result c.in_ok-objective.objective c.in_ok-phase.phase c.from_vec.ensures
+          (c.from_vec-2.ensures ∙ sym c.as_slice-all.ensures.value) c.in_ok-objective.ensures (sym c.at_row.ensures ∙ c.in_ok-phase.was);
     }
 
 pub returns-clause-made : goal.returns-clause-made
@@ -176,9 +192,14 @@ returns-clause-made c =
     let second = c.as_slice-2.result.now in
     let plain = c.in_ok-columns.columns.items in
     let a : cs ≡ columns_of rows.kinds (map (start_of (length rows.kinds)) w.rows.items) =
-    columns_are rows.kinds ks w.rows.items vs starts first second plain k v c.in_ok-starts.ensures c.as_slice.ensures.value c.as_slice-2.ensures.value c.in_ok-columns.ensures cs c.push_artificials.new.columns.items c.in_ok-push_artificials.ensures c.as_slice-all.ensures.value in
-    let m : c.len-plain.result ≡ plain_count cs = plain_is rows.kinds ks w.rows.items vs starts first second plain k v c.in_ok-starts.ensures c.as_slice.ensures.value c.as_slice-2.ensures.value c.in_ok-columns.ensures cs c.len-plain.result (c.len-plain.ensures ∙ c.in_ok-columns.columns.ok.0) a in
-    made_all rows w c.requires.fits c.requires.whole ks vs cs k v a c.in_ok-ints.ints.items c.as_slice-3.result.now c.in_ok-ints.ensures c.as_slice-3.ensures.value c.len-plain.result (length vs + 1) m (omega arith) c.phase_row.result c.phase_row.ensures _ c.from_vec.ensures (c.from_vec-2.ensures ∙ sym c.as_slice-all.ensures.value) c.in_ok-objective.ensures (sym c.at_row.ensures ∙ c.in_ok-phase.was)
+    columns_are rows.kinds ks w.rows.items vs starts first second plain k v c.in_ok-starts.ensures c.as_slice.ensures.value c.as_slice-2.ensures.value c.in_ok-columns.ensures cs
+    c.push_artificials.new.columns.items c.in_ok-push_artificials.ensures c.as_slice-all.ensures.value in
+    let m : c.len-plain.result ≡ plain_count cs =
+    plain_is rows.kinds ks w.rows.items vs starts first second plain k v c.in_ok-starts.ensures c.as_slice.ensures.value c.as_slice-2.ensures.value c.in_ok-columns.ensures cs c.len-plain.result
+    (c.len-plain.ensures ∙ c.in_ok-columns.columns.ok.0) a in
+    made_all rows w c.requires.fits c.requires.whole ks vs cs k v a c.in_ok-ints.ints.items c.as_slice-3.result.now c.in_ok-ints.ensures c.as_slice-3.ensures.value c.len-plain.result
+    (length vs + 1) m (omega arith) c.phase_row.result c.phase_row.ensures _ c.from_vec.ensures (c.from_vec-2.ensures ∙ sym c.as_slice-all.ensures.value) c.in_ok-objective.ensures
+    (sym c.at_row.ensures ∙ c.in_ok-phase.was)
 
 pub returns-in_err-starts-clause-made : goal.returns-in_err-starts-clause-made
 returns-in_err-starts-clause-made c = let p = err_from_is_err_and c.from_residual.result c.from_residual.ensures.1 in rw p.1 tt
@@ -196,7 +217,8 @@ pub returns-in_err-push_artificials-clause-made : goal.returns-in_err-push_artif
 returns-in_err-push_artificials-clause-made c = let p = err_from_is_err_and c.from_residual-in_err-push_artificials.result c.from_residual-in_err-push_artificials.ensures.1 in rw p.1 tt
 
 pub returns-in_err-push_artificials-clause-stops : goal.returns-in_err-push_artificials-clause-stops
-returns-in_err-push_artificials-clause-stops c = let p = err_from_is_err_and c.from_residual-in_err-push_artificials.result c.from_residual-in_err-push_artificials.ensures.1 in rw (p.1, p.2) c.requires.fits
+returns-in_err-push_artificials-clause-stops c = let p = err_from_is_err_and c.from_residual-in_err-push_artificials.result c.from_residual-in_err-push_artificials.ensures.1 in
+    rw (p.1, p.2) c.requires.fits
 
 pub returns-in_err-ints-clause-made : goal.returns-in_err-ints-clause-made
 returns-in_err-ints-clause-made c = let p = err_from_is_err_and c.from_residual-in_err-ints.result c.from_residual-in_err-ints.ensures.1 in rw p.1 tt

@@ -1,3 +1,4 @@
+-- One more row is made whole, or it is the first that stops.
 use Rattle.std.proofs.Common.{length, map, refl, sym, ap, ◌∙◌, subst, arith}
 use Rattle.std.specs.List.{All}
 use Rattle.std.proofs.lemmas.List.{take_all}
@@ -37,7 +38,8 @@ rows-preserved c =
     let is_made = gives_so i c.made_row.result w (row_made n row) (sym c.at_row.ensures ∙ c.in_ok-whole.was) c.made_row.ensures.made in
     record {
       made = made_next n rows i row c.rows.made.items c.push.new.self.items w (omega arith) c.index-rows-index.is c.rows.invariant.made is_made c.in_ok-push.ensures.items;
-      sparse = All-more (λ (r : Row Frac). IsSparseForm r.form) rows i row (omega arith) c.rows.invariant.sparse (subst (λ (r : Row Frac). IsSparseForm r.form) c.index-rows-index.is c.made_row.ensures.sparse);
+      sparse = All-more (λ (r : Row Frac). IsSparseForm r.form) rows i row (omega arith) c.rows.invariant.sparse
+          (subst (λ (r : Row Frac). IsSparseForm r.form) c.index-rows-index.is c.made_row.ensures.sparse);
     }
 
 pub returns-clause-rows : goal.returns-clause-rows

@@ -1,3 +1,4 @@
+-- The rows are made whole and then the objective row, and the first of them that stops is the stop.
 use Rattle.std.proofs.Common.{◌≡◌, ◌≤◌, length, map, sym, ap, ap₂, ◌∙◌, subst, arith}
 use Rattle.std.specs.List.{All}
 use Rattle.std.proofs.lemmas.Result.{err_from_is_err_and}
@@ -31,7 +32,8 @@ returns-in_err-made-clause-stops c =
     let p = err_from_is_err_and c.from_residual.result c.from_residual.ensures.1 in
     let rows = c.args.rows.now in
     let k : length c.as_slice-kinds.result.now ≡ length rows.kinds = ap length c.as_slice-kinds.ensures in
-    let same : passing_from 0 (map (row_made (length c.as_slice-kinds.result.now)) c.as_slice-list.result.now) ≡ passing_from 0 (map (row_made (length rows.kinds)) rows.rows) = ap₂ (λ n rs. passing_from 0 (map (row_made n) rs)) k c.as_slice-list.ensures in
+    let same : passing_from 0 (map (row_made (length c.as_slice-kinds.result.now)) c.as_slice-list.result.now) ≡ passing_from 0 (map (row_made (length rows.kinds)) rows.rows) =
+    ap₂ (λ n rs. passing_from 0 (map (row_made n) rs)) k c.as_slice-list.ensures in
     rw (p.1, p.2)
     (rows_stop (given rows.kinds rows.rows rows.objective) c.requires c.in_err-made.field-0.0 (subst (StopsAt c.in_err-made.field-0.0) same c.in_err-made.ensures.stops))
 
@@ -54,5 +56,6 @@ returns-clause-whole c =
       sparse = subst (All (λ (r : Row Frac). IsSparseForm r.form)) c.as_slice-list.ensures c.in_ok-made.ensures.sparse;
       sparse_cost = c.made_cost.ensures.sparse;
       are = sym (c.in_ok-made.ensures.rows ∙ ap₂ (λ n rs. map (row_made n) rs) k c.as_slice-list.ensures);
-      cost = ap (λ n. cost_made n rows.objective) (sym k) ∙ gives_so _ c.made_cost.result c.in_ok-cost.cost (cost_made (length c.as_slice-kinds.result.now) rows.objective) (sym c.at_row.ensures ∙ c.in_ok-cost.was) c.made_cost.ensures.made;
+      cost = ap (λ n. cost_made n rows.objective) (sym k) ∙ gives_so _ c.made_cost.result c.in_ok-cost.cost (cost_made (length c.as_slice-kinds.result.now) rows.objective)
+          (sym c.at_row.ensures ∙ c.in_ok-cost.was) c.made_cost.ensures.made;
     }

@@ -1,3 +1,4 @@
+-- One more column has its cost, and the numbers behind the coefficients are the right side and the entry of z.
 use Rattle.std.proofs.Common.{[], ◌∷◌, ◌++◌, ◌≡◌, ◌+◌, ◌<◌, ◌^◌, suc, map, sym, ap, ap₂, ◌∙◌, subst, unsigned_abs, arith, rules, SFits, to_z-of_z}
 use Rattle.std.specs.Int.{w128}
 use Rattle.std.proofs.lemmas.Int.{fits_signed_from_abs}

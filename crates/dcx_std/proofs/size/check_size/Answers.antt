@@ -1,3 +1,4 @@
+-- Counts that are capped at the largest number of 32 bits pass the limits exactly where the counts do.
 use Rattle.std.proofs.Common.{◌≡◌, ℕ, ◌+◌, ◌<◌, ◌≤◌, ◌⊎◌, inl, inr, List, length, refl, ap, ap₂, ◌∙◌, arith}
 use Rattle.std.specs.Prelude.{min, sum_by}
 use Rattle.dcx_frac.specs.declared.fraction.Frac.{Frac}
@@ -27,9 +28,13 @@ returns c =
     let count = c.capped_length-count.ensures ∙ ap (λ (rs : List (Row Frac)). capped (length rs)) c.as_slice-list.ensures in
     let unknowns = c.unknown_columns.ensures ∙ ap (λ (ks : List UnknownKind). capped (sum_by columns_for ks)) c.as_slice.ensures in
     let slacks = c.slack_columns.ensures ∙ ap (λ (rs : List (Row Frac)). capped (sum_by (λ r. slacks_for r.kind) rs)) c.as_slice-list.ensures in
-    let columns = capped_sum c.saturating_add-columns.result c.unknown_columns.result c.slack_columns.result (sum_by columns_for kinds) (sum_by (λ r. slacks_for r.kind) rows) c.saturating_add-columns.ensures unknowns slacks in
+    let columns = capped_sum c.saturating_add-columns.result c.unknown_columns.result c.slack_columns.result (sum_by columns_for kinds)
+    (sum_by (λ r. slacks_for r.kind) rows) c.saturating_add-columns.ensures unknowns slacks in
     record {
-      fits = (λ e. both_fit c.capped_length-count.result c.saturating_add-columns.result (length rows) (column_count kinds rows) count columns c.if-count-gt600.false c.if-columns-gt2400.false, λ h. refl);
+      fits = (
+        λ e. both_fit c.capped_length-count.result c.saturating_add-columns.result (length rows) (column_count kinds rows) count columns c.if-count-gt600.false c.if-columns-gt2400.false,
+        λ h. refl,
+      );
       told = tt;
     }
 
@@ -40,7 +45,8 @@ returns-then-count-gt600-clause-fits c =
     let count = c.capped_length-count.ensures ∙ ap (λ (rs : List (Row Frac)). capped (length rs)) c.as_slice-list.ensures in
     let unknowns = c.unknown_columns.ensures ∙ ap (λ (ks : List UnknownKind). capped (sum_by columns_for ks)) c.as_slice.ensures in
     let slacks = c.slack_columns.ensures ∙ ap (λ (rs : List (Row Frac)). capped (sum_by (λ r. slacks_for r.kind) rs)) c.as_slice-list.ensures in
-    let columns = capped_sum c.saturating_add-columns.result c.unknown_columns.result c.slack_columns.result (sum_by columns_for kinds) (sum_by (λ r. slacks_for r.kind) rows) c.saturating_add-columns.ensures unknowns slacks in
+    let columns = capped_sum c.saturating_add-columns.result c.unknown_columns.result c.slack_columns.result (sum_by columns_for kinds)
+    (sum_by (λ r. slacks_for r.kind) rows) c.saturating_add-columns.ensures unknowns slacks in
     (λ e. cc, λ h. absurd (one_is_larger c.capped_length-count.result c.saturating_add-columns.result (length rows) (column_count kinds rows) count columns c.then-count-gt600.either h.0 h.1))
 
 pub returns-then-count-gt600-clause-told : goal.returns-then-count-gt600-clause-told
@@ -50,4 +56,5 @@ returns-then-count-gt600-clause-told c =
     let unknowns = c.unknown_columns.ensures ∙ ap (λ (ks : List UnknownKind). capped (sum_by columns_for ks)) c.as_slice.ensures in
     let slacks = c.slack_columns.ensures ∙ ap (λ (rs : List (Row Frac)). capped (sum_by (λ r. slacks_for r.kind) rs)) c.as_slice-list.ensures in
     ap₂ TooLarge (c.capped_length-count.ensures ∙ ap (λ (rs : List (Row Frac)). capped (length rs)) c.as_slice-list.ensures)
-    (capped_sum c.saturating_add-columns.result c.unknown_columns.result c.slack_columns.result (sum_by columns_for kinds) (sum_by (λ r. slacks_for r.kind) rows) c.saturating_add-columns.ensures unknowns slacks)
+    (capped_sum c.saturating_add-columns.result c.unknown_columns.result c.slack_columns.result (sum_by columns_for kinds)
+    (sum_by (λ r. slacks_for r.kind) rows) c.saturating_add-columns.ensures unknowns slacks)

@@ -1,10 +1,11 @@
+-- One more term puts its coefficient in the place of its unknown, which no term before it names.
 use Rattle.std.proofs.Common.{◌<◌, ◌≤◌, sym, ap, ◌∙◌, subst, arith}
 use Rattle.std.proofs.lemmas.List.{length-set, take_all}
 use Rattle.std.proofs.lemmas.List.FromFn.{fill_by_all}
+use Rattle.dcx_math.specs.Rising.{IsRising}
 use Rattle.dcx_frac.specs.declared.fraction.Frac.{Frac}
 use Rattle.dcx_atom.specs.Formed.{zero_frac}
 use Rattle.dcx_linear.specs.declared.form.FormTerm.{FormTerm}
-use Rattle.dcx_linear.specs.Terms.{IsRising}
 use Rattle.dcx_linear.specs.FormTerms.{unknown_of}
 use Rattle.dcx_linear.specs.Widths.{terms_width}
 use Rattle.dcx_linear.proofs.Widths.{width_bounds}

@@ -1,3 +1,4 @@
+-- One more number is taken into the divisor.
 use Rattle.std.proofs.Common.{rules, ◌+◌, drop, sym, ap, ◌∙◌, arith, pos, slice_index_or, SFits, to_z-of_z}
 use Rattle.std.specs.Int.{w128}
 use Rattle.dcx_math.specs.Divisors.{gcd, gcd_of}

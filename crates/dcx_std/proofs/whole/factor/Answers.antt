@@ -1,3 +1,4 @@
+-- A quotient of positive numbers below 2 ^ 127 is representable, so the fraction is there.
 use Rattle.std.proofs.Common.{sym, ap, ◌∙◌, to_z-of_z}
 use Rattle.dcx_frac.proofs.Representable.{representable_quotient}
 use Rattle.dcx_tab.proofs.LineSteps.{positive-small}

@@ -1,3 +1,4 @@
+-- The fraction with the sign turned is the one of its value.
 use Rattle.std.proofs.Common.{sym, ap, ◌∙◌}
 use Rattle.dcx_atom.specs.Formed.{frac_at}
 use Rattle.dcx_atom.proofs.FormedSums.{frac_at-value}

@@ -1,3 +1,4 @@
+-- The coefficients with their signs turned stand before the constant and the one fraction that is 1.
 use Rattle.std.proofs.Common.{◌≡◌, [], ◌∷◌, ◌++◌, map, sym, ap, ap₂, ◌∙◌, append_assoc}
 use Rattle.dcx_atom.specs.Formed.{frac_at}
 use Rattle.dcx_atom.proofs.FormedSums.{frac_at-value}

@@ -1,3 +1,4 @@
+-- One more number is divided.
 use Rattle.std.proofs.Common.{[], ◌∷◌, ◌++◌, map, sym, ap, ap₂, ◌∙◌, unsigned_abs, pos, arith, rules, SFits, slice_index_or, to_z-of_z}
 use Rattle.std.specs.Int.{w128}
 use Rattle.std.proofs.lemmas.List.{map_more, take_all}

@@ -1,3 +1,4 @@
+-- A number below 2 ^ 127 is the same with a sign.
 use Rattle.std.proofs.Common.{arith}
 use Rattle.std.specs.Int.{w128}
 use Rattle.std.proofs.lemmas.Int.{fits_signed_from_abs, to_z_pos}

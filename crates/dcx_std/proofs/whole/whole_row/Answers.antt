@@ -1,3 +1,4 @@
+-- The multiple and the divisor are positive and below 2 ^ 127, and the row and its factor are made by both.
 use Rattle.std.proofs.Common.{◌≡◌, ◌<◌, ◌^◌, Ok, map, pos, sym, ap, ap₂, ◌∙◌, subst, unsigned_abs, arith, to_z-of_z}
 use Rattle.std.specs.Int.{w128}
 use Rattle.std.proofs.lemmas.Int.{ints, fits_signed_from_abs}

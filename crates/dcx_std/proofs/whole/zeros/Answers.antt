@@ -1,3 +1,4 @@
+-- One more zero is the one fraction that is 0.
 use Rattle.std.proofs.Common.{◌≡◌, ◌++◌, ◌∷◌, [], replicate, ap, ap₂, ◌∙◌, arith, rules}
 use Rattle.std.proofs.lemmas.List.{replicate_more}
 use Rattle.std.proofs.lemmas.Result.{err_from_is_err_and}

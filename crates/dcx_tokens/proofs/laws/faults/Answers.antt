@@ -1,3 +1,4 @@
+-- The first fault of a text is one of its tokens.
 use Rattle.dcx_tokens.proofs.Faults.{of_tokens}
 use Rattle.dcx_tokens.proofs.laws.faults.Goals as goal
 

@@ -1,3 +1,4 @@
+-- Two readings of a text have the same tokens and the same first fault.
 use Rattle.dcx_tokens.proofs.OneReading.{one_reading}
 use Rattle.dcx_tokens.proofs.laws.readings.Goals as goal
 

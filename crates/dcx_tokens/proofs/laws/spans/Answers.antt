@@ -1,3 +1,4 @@
+-- The spans of tokens are in order and inside the text, and have bytes where they should.
 use Rattle.dcx_tokens.proofs.Spans.{all_in_order, all_have_bytes}
 use Rattle.dcx_tokens.proofs.laws.spans.Goals as goal
 

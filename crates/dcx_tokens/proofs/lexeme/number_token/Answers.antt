@@ -1,3 +1,4 @@
+-- What begins as a number does is a number of one character at least.
 use Rattle.std.proofs.Common.{ap, sym, ◌∙◌}
 use Rattle.dcx_tokens.specs.Number.{number_at}
 use Rattle.dcx_tokens.proofs.Lengths.{number_some}

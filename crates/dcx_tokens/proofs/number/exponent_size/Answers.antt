@@ -1,3 +1,4 @@
+-- Where only what is up to 31 counts, a number may be cut at 31 before its digits go on.
 use Rattle.std.proofs.Common.{◌≡◌, ◌+◌, ◌*◌, drop, min, arith, sym, ◌∙◌, ap}
 use Rattle.std.specs.Char.{digit_value}
 use Rattle.dcx_tokens.proofs.Digits.{at_drop, min-after}

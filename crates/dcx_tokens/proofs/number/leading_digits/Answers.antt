@@ -1,3 +1,4 @@
+-- What is cut off in front is the run of digits, so all of it are digits.
 use Rattle.std.proofs.Common.{take, ap, ◌∙◌, subst, sym}
 use Rattle.std.specs.Char.{is_ascii_digit}
 use Rattle.std.specs.Str.Parse.{AllDigits}

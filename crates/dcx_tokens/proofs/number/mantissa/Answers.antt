@@ -1,3 +1,4 @@
+-- Thirty digits and their power of ten are small enough, and their quotient is the value.
 use Rattle.std.proofs.Common.{◌≡◌, ◌++◌, length, arith, pos, ap, ap₂, ◌∙◌, sym}
 use Rattle.dcx_math.specs.Rational.{whole, ◌/ℚ◌}
 use Rattle.std.specs.Str.Parse.{digits_value, digits_value_after}
@@ -29,5 +30,6 @@ pub returns : goal.returns
 returns c =
     let front = c.args.front.now in
     let behind = c.args.behind.now in
-    let n : c.with_digits-number.result ≡ digits_value 10 (front ++ behind) = c.with_digits-number.ensures.value ∙ ap (λ m. digits_value_after 10 m behind) c.with_digits.ensures.value ∙ sym (after-append 0 front behind) in
+    let n : c.with_digits-number.result ≡ digits_value 10 (front ++ behind) =
+    c.with_digits-number.ensures.value ∙ ap (λ m. digits_value_after 10 m behind) c.with_digits.ensures.value ∙ sym (after-append 0 front behind) in
     c.quotient.ensures ∙ ap₂ (λ m p. whole (pos m) /ℚ whole (pos p)) n c.pow.ensures

@@ -1,3 +1,4 @@
+-- A power of ten is small enough and not 0, and over 1 it is itself.
 use Rattle.std.proofs.Common.{◌^◌, arith, pos, ap, ◌∙◌, sym}
 use Rattle.std.specs.Prelude.{◌<ℤ◌}
 use Rattle.std.proofs.lemmas.Int.{ints}

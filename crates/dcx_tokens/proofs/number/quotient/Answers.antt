@@ -1,3 +1,4 @@
+-- A quotient of numbers up to 10^30 fits in 128 bits, so there is always one.
 use Rattle.std.proofs.Common.{◌≡◌, ◌≢◌, ◌<◌, ◌^◌, pos, arith, subst, IsSome}
 use Rattle.std.proofs.lemmas.Int.{ints, to_z_pos}
 use Rattle.std.specs.Int.{w128}

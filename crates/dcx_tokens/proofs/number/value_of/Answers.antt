@@ -1,3 +1,4 @@
+-- Within the limits the value is the mantissa times the power of ten, where that product fits.
 use Rattle.std.proofs.Common.{◌≡◌, true, cond, ap, ap₂, ◌∙◌, sym, arith, Option, None}
 use Rattle.std.specs.Result.{result_ok}
 use Rattle.std.specs.Str.Parse.{digits_value}

@@ -1,3 +1,4 @@
+-- The number stays below 10^30 with each digit, since there is room for those that are left.
 use Rattle.std.proofs.Common.{◌≡◌, ◌+◌, ◌*◌, ◌≤◌, ◌^◌, drop, arith, sym, ◌∙◌}
 use Rattle.std.specs.Char.{digit_value}
 use Rattle.dcx_tokens.proofs.Digits.{GoesOn, at_drop, stays_below}

@@ -1,9 +1,9 @@
+-- The characters that are left count on from the count so far, up to the closing quote.
 use Rattle.std.proofs.Common.{◌≡◌, ◌+◌, drop, false}
 use Rattle.std.specs.Prelude.{option_map}
 use Rattle.dcx_tokens.specs.Quoted.{up_to_quote}
 use Rattle.dcx_tokens.proofs.quoted.quoted_run.Given as goal
 
--- the rest counts on
 abbrev pub invariant-loop-c : goal.invariant-loop-c
 invariant-loop-c l = record {
   counted : l.count ≡ l.c-index;

@@ -1,3 +1,4 @@
+-- Each character moves the position on, within the bytes of the text, and behind the last one none is left.
 use Rattle.std.proofs.Common.{◌+◌, length, drop, sym, ap, ◌∙◌, arith}
 use Rattle.std.specs.Str.{chars}
 use Rattle.std.proofs.lemmas.Iterator.{YieldsList-from_chars}

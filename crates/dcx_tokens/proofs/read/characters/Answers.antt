@@ -1,3 +1,4 @@
+-- What is collected is what the text yields: its characters in order.
 use Rattle.std.proofs.lemmas.Iterator.{YieldsList-from_chars, items_from_collect}
 use Rattle.dcx_tokens.proofs.read.characters.Goals as goal
 

@@ -1,3 +1,4 @@
+-- At the start no byte is read, and the characters have as many bytes as the text.
 use Rattle.std.proofs.Common.{◌≡◌, ap, ◌∙◌, arith}
 use Rattle.dcx_tokens.specs.Position.{bytes_of}
 use Rattle.dcx_tokens.proofs.Bytes.{bytes_of-chars}

@@ -1,3 +1,4 @@
+-- A step reads on, the first step that stops tells the fault, and at the end the last line ends.
 use Rattle.std.proofs.Common.{◌≢◌, sym, ◌∙◌, subst}
 use Rattle.std.proofs.lemmas.Bool.{false≢true}
 use Rattle.dcx_tokens.specs.declared.fault.ReadFault.TheVariants as fault
@@ -10,7 +11,8 @@ pub loop-rest-preserved : goal.loop-rest-preserved
 loop-rest-preserved c =
     let back = c.split_at.ensures.back in
     record {
-      so_far = λ ts f more. c.loop-rest.invariant.so_far ts f (read_on _ _ c.loop-rest.rest.now c.c-item.result c.in-Ok.count ts f c.in-len1-up.len_at_least c.c-item.is c.in-Ok.ensures.gives (subst (λ xs. Reads (state_of c.step.new.self) xs ts f) back more));
+      so_far = λ ts f more. c.loop-rest.invariant.so_far ts f (read_on _ _ c.loop-rest.rest.now c.c-item.result c.in-Ok.count ts f c.in-len1-up.len_at_least c.c-item.is
+          c.in-Ok.ensures.gives (subst (λ xs. Reads (state_of c.step.new.self) xs ts f) back more));
       within = c.in-Ok.ensures.within;
       before = subst (λ xs. IsBefore c.step.new.self xs) (sym back) c.in-Ok.ensures.before;
       room = c.in-Ok.ensures.room;

@@ -1,3 +1,4 @@
+-- Each turn puts one copy more behind what was there, and after all turns there are so many.
 use Rattle.std.proofs.Common.{◌≡◌, ◌++◌, ◌∷◌, [], replicate, sym, ap, ◌∙◌, append_assoc, append-nil, arith, rules}
 use Rattle.std.proofs.lemmas.List.{replicate_more}
 use Rattle.std.proofs.lemmas.Result.{err_from_is_err_and}
@@ -13,7 +14,8 @@ pub loop-preserved : goal.loop-preserved
 loop-preserved c =
     let old = c.args.tokens.now.items in
     let token = c.args.token in
-    c.in_ok-push.ensures.items ∙ ap (λ ts. ts ++ token ∷ []) c.loop.invariant ∙ append_assoc old (replicate c.loop.counter token) (token ∷ []) ∙ ap (λ ts. old ++ ts) (replicate_more c.loop.counter token)
+    c.in_ok-push.ensures.items ∙ ap (λ ts. ts ++ token ∷ []) c.loop.invariant ∙ append_assoc old (replicate c.loop.counter token) (token ∷ [])
+    ∙ ap (λ ts. old ++ ts) (replicate_more c.loop.counter token)
 
 pub returns : goal.returns
 returns c =

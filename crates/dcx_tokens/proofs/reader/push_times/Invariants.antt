@@ -1,3 +1,4 @@
+-- Behind what was there stand as many copies as are counted.
 use Rattle.std.proofs.Common.{◌≡◌, ◌++◌, replicate}
 use Rattle.dcx_tokens.proofs.reader.push_times.Given as goal
 

@@ -1,3 +1,4 @@
+-- Testing the words from the first one on is testing whether one of them is it.
 use Rattle.std.proofs.Common.{List, ℕ, false, nat_eq, ap, ◌∙◌, Bor}
 use Rattle.std.specs.Cmp.Lexicographic.{pointwise}
 use Rattle.dcx_tokens.proofs.Words.{any_from, any_in_order}

@@ -1,3 +1,4 @@
+-- A script that isn't had or is refused ends the run.
 use Rattle.std.proofs.Common.{refl}
 use Rattle.dcx_words.specs.Commands.{check}
 use Rattle.dcx_top.proofs.Causes.{script_ends}

@@ -1,3 +1,4 @@
+-- The bytes that are fetched are those of the file, and a fault in them is a refusal of the certificate.
 use Rattle.std.proofs.Common.{subst}
 use Rattle.dcx_cert_lines.specs.Forms.{IsTextOf}
 use Rattle.dcx_cert_outline.specs.Drawn.{problem_outline}

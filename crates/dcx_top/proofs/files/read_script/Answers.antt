@@ -1,3 +1,4 @@
+-- The bytes that are fetched are those of the file, and a fault in them is a refusal of the script.
 use Rattle.std.proofs.Common.{Ok, subst}
 use Rattle.dcx_front.specs.Accepts.{Gives}
 use Rattle.dcx_top.proofs.Endings.{script_ending}

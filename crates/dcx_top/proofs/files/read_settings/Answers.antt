@@ -1,3 +1,4 @@
+-- A fault in the bytes that are fetched is a refusal of the settings file.
 use Rattle.dcx_top.proofs.Endings.{settings_ending}
 use Rattle.dcx_top.proofs.files.read_settings.Goals as goal
 

@@ -1,3 +1,4 @@
+-- A run with its cause is right.
 use Rattle.dcx_host.specs.Faults.{Rose}
 use Rattle.dcx_top.proofs.Right.{caused_are_right}
 use Rattle.dcx_top.proofs.laws.caused_are_right.Goals as goal

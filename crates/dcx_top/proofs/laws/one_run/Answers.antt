@@ -1,3 +1,4 @@
+-- Words and files have one run.
 use Rattle.dcx_host.specs.Faults.{Rose}
 use Rattle.dcx_top.proofs.OneRun.{only_run}
 use Rattle.dcx_top.proofs.laws.one_run.Goals as goal

@@ -12,4 +12,5 @@ pub place_of-requires-in-Map : goal.place_of-requires-in-Map
 place_of-requires-in-Map c = inr (lacking_map c.args.problem.now c.args.name.now (subst (λ (f : NotRanged). LacksRange c.args.problem.now c.args.name.now f) c.in-Map.is c.requires))
 
 pub place_of-requires-in-Coefficient : goal.place_of-requires-in-Coefficient
-place_of-requires-in-Coefficient c = inr (lacking_coefficient c.args.problem.now c.args.name.now (subst (λ (f : NotRanged). LacksRange c.args.problem.now c.args.name.now f) c.in-Coefficient.is c.requires))
+place_of-requires-in-Coefficient c =
+    inr (lacking_coefficient c.args.problem.now c.args.name.now (subst (λ (f : NotRanged). LacksRange c.args.problem.now c.args.name.now f) c.in-Coefficient.is c.requires))

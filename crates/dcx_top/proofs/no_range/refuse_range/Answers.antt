@@ -11,12 +11,16 @@ use Rattle.dcx_top.proofs.no_range.refuse_range.Goals as goal
 
 pub refused-requires : goal.refused-requires
 refused-requires c =
-    told_lacks c.problem-problem.result.now (program_in (option_copied c.map.result)) c.args.name.now c.in-Err.fault (subst (λ (z : Problem). IsKeptProgram z (program_in (option_copied c.map.result))) (sym c.problem-problem.ensures.problem) (kept_of c.args.session.now.problem c.map.result c.map.ensures.map)) c.in-Err.ensures
+    told_lacks c.problem-problem.result.now (program_in (option_copied c.map.result)) c.args.name.now c.in-Err.fault
+    (subst (λ (z : Problem). IsKeptProgram z (program_in (option_copied c.map.result))) (sym c.problem-problem.ensures.problem) (kept_of c.args.session.now.problem c.map.result c.map.ensures.map))
+    c.in-Err.ensures
 
 pub returns-in-Ok : goal.returns-in-Ok
 returns-in-Ok c =
     subst (λ (z : Problem). HasRange z c.args.name.now) c.problem-problem.ensures.problem
-    (told_has c.problem-problem.result.now (program_in (option_copied c.map.result)) c.args.name.now tt (subst (λ (z : Problem). IsKeptProgram z (program_in (option_copied c.map.result))) (sym c.problem-problem.ensures.problem) (kept_of c.args.session.now.problem c.map.result c.map.ensures.map)) c.in-Ok.ensures)
+    (told_has c.problem-problem.result.now (program_in (option_copied c.map.result)) c.args.name.now tt
+    (subst (λ (z : Problem). IsKeptProgram z (program_in (option_copied c.map.result))) (sym c.problem-problem.ensures.problem) (kept_of c.args.session.now.problem c.map.result c.map.ensures.map))
+    c.in-Ok.ensures)
 
 pub returns-in-Err : goal.returns-in-Err
 returns-in-Err c = subst (λ (z : Problem). IsRefusedForRange z c.args.name.now c.refused.result) c.problem-problem.ensures.problem c.refused.ensures

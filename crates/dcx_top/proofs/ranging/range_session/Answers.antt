@@ -1,3 +1,4 @@
+-- A parameter without a range is refused first, then a settings file that fails; else its lines are ranged.
 use Rattle.std.proofs.Common.{refl, sym, subst}
 use Rattle.dcx_tree.specs.declared.problem.Problem.{Problem}
 use Rattle.dcx_settings.proofs.Full.{items_full_in}
@@ -17,7 +18,8 @@ range_lines-requires-clause-full g c = let (bytes, there, spelled) = c.in-Ok.ens
 pub returns-in-Ok-clause-run : goal.returns-in-Ok-clause-run
 returns-in-Ok-clause-run g c = λ work begun same ends steps.
     let (bytes, there, spelled) = c.in-Ok.ensures.reads in
-    lines_ranged _ _ work c.args.settings.now c.args.name bytes c.in-Ok.lines c.args.limit begun c.args.steps.now c.range_lines.new.steps c.range_lines.result c.args.session.now.problem c.args.last.now same ends c.in_default.ensures there spelled steps c.range_lines.ensures
+    lines_ranged _ _ work c.args.settings.now c.args.name bytes c.in-Ok.lines c.args.limit begun c.args.steps.now c.range_lines.new.steps c.range_lines.result c.args.session.now.problem
+    c.args.last.now same ends c.in_default.ensures there spelled steps c.range_lines.ensures
 
 pub returns-in-Err-clause-run : goal.returns-in-Err-clause-run
 returns-in-Err-clause-run g c = λ work begun same ends steps.

@@ -1,3 +1,4 @@
+-- The settings of the script's solves are answered; a script that fails ends the run.
 use Rattle.std.proofs.Common.{refl}
 use Rattle.dcx_words.specs.Commands.{solve}
 use Rattle.dcx_top.proofs.Causes.{script_ends, solved}

@@ -1,3 +1,4 @@
+-- The settings that are lent are those of the script's solves.
 use Rattle.std.proofs.Common.{List, subst}
 use Rattle.dcx_point.specs.Pairs.{Pairs}
 use Rattle.dcx_report.specs.declared.run.Word.TheVariants.{Solve}

@@ -1,3 +1,4 @@
+-- A trial problem with a marked variable is refused.
 use Rattle.std.proofs.Common.{refl, inr}
 use Rattle.dcx_top.proofs.solving.solve_trial.Goals as goal
 

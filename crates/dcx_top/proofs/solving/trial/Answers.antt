@@ -1,3 +1,4 @@
+-- The script that is read is the trial's own, and each end of reading it causes its run.
 use Rattle.std.proofs.Common.{Ok, sym, subst, ◌∙◌}
 use Rattle.dcx_host.specs.Faults.{Rose}
 use Rattle.dcx_words.specs.Commands.{trial}

@@ -1,3 +1,4 @@
+-- A variable or a parameter declares the name that is its own.
 use Rattle.std.proofs.Common.{ap}
 use Rattle.dcx_top.specs.Stands.{name_of}
 use Rattle.dcx_top.proofs.Standing.{named_is}

@@ -1,3 +1,4 @@
+-- One more node doesn't declare the name, or it is the first that does.
 use Rattle.std.proofs.Common.{below_more}
 use Rattle.dcx_top.proofs.Standing.{not_named_at}
 use Rattle.dcx_top.proofs.stands.first_named.Goals as goal

@@ -1,3 +1,4 @@
+-- A node declares the name where its call does.
 use Rattle.dcx_top.proofs.Standing.{call_named}
 use Rattle.dcx_top.proofs.stands.is_named.Goals as goal
 

@@ -1,3 +1,4 @@
+-- A name that the problem has is declared by some node.
 use Rattle.dcx_top.proofs.Standing.{reached}
 use Rattle.dcx_top.proofs.stands.place_of.Goals as goal
 

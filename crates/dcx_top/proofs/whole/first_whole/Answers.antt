@@ -1,3 +1,4 @@
+-- One more variable isn't whole, or it is the first that is.
 use Rattle.std.proofs.Common.{below_more}
 use Rattle.dcx_top.proofs.Marked.{not_whole}
 use Rattle.dcx_top.proofs.whole.first_whole.Goals as goal

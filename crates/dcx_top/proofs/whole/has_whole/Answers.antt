@@ -1,3 +1,4 @@
+-- Where no first variable is found no variable is whole.
 use Rattle.dcx_top.proofs.Marked.{no_whole}
 use Rattle.dcx_top.proofs.whole.has_whole.Goals as goal
 

@@ -1,3 +1,4 @@
+-- The variable is whole where it is marked.
 use Rattle.dcx_top.proofs.Marked.{read_at, marked_is_whole}
 use Rattle.dcx_top.proofs.whole.is_whole.Goals as goal
 

@@ -12,7 +12,8 @@ kept-kept-requires c =
 pub invariant_of-result : goal.invariant_of-result
 invariant_of-result c =
     let made = c.in_ok-tree-2.ensures.next in
-    let w = handed_on c.args.source.now c.args.roots.now c.requires.objective c.requires.constraints c.requires.declared c.in_ok-tree.tree c.in_ok-tree-2.tree c.in_ok-tree.ends.items c.deref.result.now
+    let w = handed_on c.args.source.now c.args.roots.now c.requires.objective c.requires.constraints c.requires.declared c.in_ok-tree.tree c.in_ok-tree-2.tree
+    c.in_ok-tree.ends.items c.deref.result.now
     c.index-objective.result.now c.in_ok-tree-2.constraints.items c.from_vec-3.result c.in_ok-tree-2.variables.items c.from_vec.result c.in_ok-tree-2.parameters.items c.from_vec-2.result
     c.in_ok-tree-2.ensures.made c.deref.ensures.value c.from_vec-3.ensures c.from_vec.ensures c.from_vec-2.ensures c.in_ok-tree.ensures.gathered c.in_ok-tree.ensures.whole c.in_ok-tree.ensures.nodes
     c.index-objective.ensures (rw made at c.kept-kept.ensures.sides) (rw made at c.kept-kept.ensures.demands) (rw made at c.kept-kept.ensures.variables) (rw made at c.kept-kept.ensures.parameters) in
@@ -21,7 +22,8 @@ invariant_of-result c =
 pub returns-clause-ok : goal.returns-clause-ok
 returns-clause-ok c =
     let made = c.in_ok-tree-2.ensures.next in
-    let w = handed_on c.args.source.now c.args.roots.now c.requires.objective c.requires.constraints c.requires.declared c.in_ok-tree.tree c.in_ok-tree-2.tree c.in_ok-tree.ends.items c.deref.result.now
+    let w = handed_on c.args.source.now c.args.roots.now c.requires.objective c.requires.constraints c.requires.declared c.in_ok-tree.tree c.in_ok-tree-2.tree
+    c.in_ok-tree.ends.items c.deref.result.now
     c.index-objective.result.now c.in_ok-tree-2.constraints.items c.from_vec-3.result c.in_ok-tree-2.variables.items c.from_vec.result c.in_ok-tree-2.parameters.items c.from_vec-2.result
     c.in_ok-tree-2.ensures.made c.deref.ensures.value c.from_vec-3.ensures c.from_vec.ensures c.from_vec-2.ensures c.in_ok-tree.ensures.gathered c.in_ok-tree.ensures.whole c.in_ok-tree.ensures.nodes
     c.index-objective.ensures (rw made at c.kept-kept.ensures.sides) (rw made at c.kept-kept.ensures.demands) (rw made at c.kept-kept.ensures.variables) (rw made at c.kept-kept.ensures.parameters) in

@@ -25,5 +25,6 @@ loop-constraint-init c = ap positions c.in_ok-ids.ensures.items
 
 pub loop-constraint-preserved : goal.loop-constraint-preserved
 loop-constraint-preserved c =
-    roots_more c.args.objective c.args.constraints.now c.loop-constraint.constraint-index c.constraint-item.result c.loop-constraint.ids.items c.push.new.self.items c.push-in-loop-constraint.new.self.items
+    roots_more c.args.objective c.args.constraints.now c.loop-constraint.constraint-index c.constraint-item.result c.loop-constraint.ids.items c.push.new.self.items
+    c.push-in-loop-constraint.new.self.items
     c.loop-constraint-test.true c.constraint-item.is c.loop-constraint.invariant c.in_ok-push.ensures.items c.in_ok-push-2.ensures.items

@@ -46,7 +46,8 @@ loop-k-preserved c =
           let z : at ≡ n = omega (arith, e, c.nodes-count.ensures.count) in
           let up : (n + 1) + c.loop-k.k ≡ length nodes = omega (arith, e) in
           subst (λ m. IsMarking nodes roots m c.mark_args.new.marks.items) z
-          (marking_more nodes roots c.nodes-count.ensures.nodes at (n + 1) c.loop-k.marks.items c.mark_args.new.marks.items (omega (arith, z)) (c.loop-k.invariant.marking (n + 1) up) c.in_ok-mark_args.ensures.marked);
+          (marking_more nodes roots c.nodes-count.ensures.nodes at (n + 1) c.loop-k.marks.items c.mark_args.new.marks.items (omega (arith, z))
+          (c.loop-k.invariant.marking (n + 1) up) c.in_ok-mark_args.ensures.marked);
     }
 
 pub returns-clause-marked : goal.returns-clause-marked

@@ -9,7 +9,8 @@ use Rattle.dcx_tree.proofs.value.form_earlier.Goals.{then-reached-i+in_ok-node_v
 
 pub loop-i-init : goal.loop-i-init
 loop-i-init c =
-    subst (HasFormed c.args.tree.now c.args.setting.now c.args.point.now c.args.node.0 0) (sym c.new-arrays.ensures.items) (formed_none c.args.tree.now c.requires.nodes c.args.setting.now c.args.point.now c.args.node.0)
+    subst (HasFormed c.args.tree.now c.args.setting.now c.args.point.now c.args.node.0 0) (sym c.new-arrays.ensures.items)
+    (formed_none c.args.tree.now c.requires.nodes c.args.setting.now c.args.point.now c.args.node.0)
 
 pub node_value-requires-clause-given : goal.node_value-requires-clause-given
 node_value-requires-clause-given c =

@@ -1,4 +1,4 @@
--- One height more.
+-- One more height stands at the end.
 use Rattle.std.proofs.Common.{rules}
 use Rattle.dcx_trial.proofs.Ranges.{one_height_more}
 use Rattle.dcx_trial.proofs.script.heights.Goals as goal

@@ -1,4 +1,4 @@
--- The heights so far.
+-- The heights so far are those of the points passed.
 use Rattle.std.proofs.Common.{◌≡◌}
 use Rattle.dcx_trial.specs.Trial.{heights}
 use Rattle.dcx_trial.proofs.script.heights.Given as goal

@@ -1,4 +1,4 @@
--- One place more.
+-- One more place stands at the end.
 use Rattle.std.proofs.Common.{rules}
 use Rattle.dcx_trial.proofs.Ranges.{one_place_more}
 use Rattle.dcx_trial.proofs.script.places.Goals as goal

@@ -1,4 +1,4 @@
--- The places so far.
+-- The places so far are those of the points passed.
 use Rattle.std.proofs.Common.{◌≡◌}
 use Rattle.dcx_trial.specs.Trial.{places}
 use Rattle.dcx_trial.proofs.script.places.Given as goal

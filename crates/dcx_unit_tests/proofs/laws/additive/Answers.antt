@@ -1,4 +1,4 @@
--- The linearity law.
+-- The linearity law at 1 and 1: a linear call at a sum.
 use Rattle.std.proofs.Common.{pos}
 use Rattle.dcx_math.specs.Rational.{whole}
 use Rattle.dcx_atom.proofs.LinearSums.{value_combination}

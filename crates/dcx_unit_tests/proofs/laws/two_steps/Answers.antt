@@ -1,4 +1,4 @@
--- The recession law at 2.
+-- The recession law at 2: any call two steps along a ray.
 use Rattle.std.proofs.Common.{pos}
 use Rattle.dcx_math.specs.Rational.{whole}
 use Rattle.dcx_math.proofs.Orders.{whole-≤ℤ}

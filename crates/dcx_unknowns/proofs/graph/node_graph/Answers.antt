@@ -9,7 +9,8 @@ pub graph-requires : goal.graph-requires
 graph-requires c =
     let p = c.args.problem.now in
     let sides : map sides_of c.deref.result.now ≡ map (sides_at p.tree) (args_at p.tree c.args.node.0) = ap (map sides_of) c.deref.ensures.value ∙ c.in_ok-shapes.ensures in
-    atom_has_value p c.args.node.0 c.in-Atom.atom (map sides_of c.deref.result.now) (atom_node p c.args.node.0 c.in-Atom.atom (map sides_of c.deref.result.now) (c.call.ensures ∙ ap Some c.in-Atom.is) sides)
+    atom_has_value p c.args.node.0 c.in-Atom.atom (map sides_of c.deref.result.now)
+    (atom_node p c.args.node.0 c.in-Atom.atom (map sides_of c.deref.result.now) (c.call.ensures ∙ ap Some c.in-Atom.is) sides)
 
 pub returns-in-Atom : goal.returns-in-Atom
 returns-in-Atom c =

@@ -12,7 +12,8 @@ nodes-preserved c =
     let marks = marked c.args.reduced.now in
     elim c.if-reduced-i.branch [
       | then-reduced-i+in_ok-push_node w ↦
-          ap (λ v. v.items) w.kinds-is ∙ kinds_more nodes marks c.nodes.i c.nodes.kinds.items c.args.kinds.now.items w.push_node.new.kinds.items w.if-reduced-i.true c.nodes.invariant w.in_ok-push_node.ensures
+          ap (λ v. v.items) w.kinds-is ∙ kinds_more nodes marks c.nodes.i c.nodes.kinds.items c.args.kinds.now.items w.push_node.new.kinds.items w.if-reduced-i.true c.nodes.invariant
+          w.in_ok-push_node.ensures
       | else-reduced-i w ↦ ap (λ v. v.items) w.kinds-is ∙ kinds_no_more nodes marks c.nodes.i c.nodes.kinds.items c.args.kinds.now.items w.if-reduced-i.false c.nodes.invariant
     ]
 

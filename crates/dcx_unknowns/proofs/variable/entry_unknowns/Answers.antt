@@ -28,12 +28,14 @@ entries-preserved c =
     elim c.if-is_own.branch [
       | then-is_own+in_ok-push w ↦
           let own : is_own (demanded v) (sides_in v) c.entries.entry ≡ true = sym c.is_own.ensures ∙ w.if-is_own.true in
-          let s = own_listed_next c.args.first (demanded v) (sides_in v) c.entries.entry c.entries.unknowns.items w.push.new.self.items c.entries.invariant.listed c.entries.next own c.entries.invariant.next_is w.in_ok-push.ensures.items in
+          let s = own_listed_next c.args.first (demanded v) (sides_in v) c.entries.entry c.entries.unknowns.items w.push.new.self.items c.entries.invariant.listed c.entries.next own
+          c.entries.invariant.next_is w.in_ok-push.ensures.items in
           record { listed = ap (λ u. u.items) w.unknowns-is ∙ s.0; next_is = w.next-is ∙ s.1 }
       | else-is_own+in_ok-push-2 w ↦
           let other : is_own (demanded v) (sides_in v) c.entries.entry ≡ false = sym c.is_own.ensures ∙ w.if-is_own.false in
           let at = w.mirrored.ensures ∙ ap (λ xs. listed_for xs (source_of (demanded v) (sides_in v) c.entries.entry)) w.deref.ensures.value in
-          let s = other_listed_next c.args.first (demanded v) (sides_in v) c.entries.entry c.entries.unknowns.items w.push-else-is_own.new.self.items c.entries.invariant.listed c.entries.next w.mirrored.result c.requires.square there other
+          let s = other_listed_next c.args.first (demanded v) (sides_in v) c.entries.entry c.entries.unknowns.items w.push-else-is_own.new.self.items c.entries.invariant.listed c.entries.next
+          w.mirrored.result c.requires.square there other
           c.entries.invariant.next_is at w.in_ok-push-2.ensures.items in
           record { listed = ap (λ u. u.items) w.unknowns-is ∙ s.0; next_is = w.next-is ∙ s.1 }
     ]

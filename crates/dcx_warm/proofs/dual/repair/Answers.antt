@@ -16,12 +16,14 @@ returns-in_default-clause-repairs g c =
 pub returns-in_default-entering-clause-none : goal.returns-in_default-entering-clause-none
 returns-in_default-entering-clause-none g c =
     let t = g.T.Tableau.table c.pivots.tableau in
-    none_enters c.args.limit (g.T.Tableau.table c.args.tableau.now) c.args.pivots.now t c.pivots.pivots c.in-Some.row c.pivots.invariant.alike c.pivots.invariant.sound c.in-Some.ensures.found c.in_default-entering.ensures.none
+    none_enters c.args.limit (g.T.Tableau.table c.args.tableau.now) c.args.pivots.now t c.pivots.pivots c.in-Some.row c.pivots.invariant.alike c.pivots.invariant.sound c.in-Some.ensures.found
+    c.in_default-entering.ensures.none
 
 pub returns-then-not-step-clause-none : goal.returns-then-not-step-clause-none
 returns-then-not-step-clause-none g c =
     let t = g.T.Tableau.table c.pivots.tableau in
-    refused c.args.limit (g.T.Tableau.table c.args.tableau.now) c.args.pivots.now t c.pivots.pivots c.in-Some.row c.in-Some-entering.column c.pivots.invariant.alike c.pivots.invariant.sound c.in-Some.ensures.found c.in-Some-entering.ensures.found c.if-not-step.ensures.refused
+    refused c.args.limit (g.T.Tableau.table c.args.tableau.now) c.args.pivots.now t c.pivots.pivots c.in-Some.row c.in-Some-entering.column c.pivots.invariant.alike c.pivots.invariant.sound
+    c.in-Some.ensures.found c.in-Some-entering.ensures.found c.if-not-step.ensures.refused
 
 pub pivots-preserved : goal.pivots-preserved
 pivots-preserved g c =

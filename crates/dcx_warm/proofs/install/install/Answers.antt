@@ -33,7 +33,8 @@ returns-then-not-step-clause-none g c =
     let l : IsListed c.args.columns.now c.columns.column = search rules in
     let b : ¬ (IsBasic t c.columns.column) = search rules in
     let taken : IsTaken c.args.columns.now t c.columns.column = record { listed = l; not_basic = b; least = c.columns.invariant.basic } in
-    refused c.args.columns.now c.args.limit (g.T.Tableau.table c.args.tableau.now) c.args.pivots.now t c.columns.pivots c.in-Some.row c.columns.column c.columns.invariant.alike taken c.in-Some.ensures.found c.if-not-step.ensures.refused
+    refused c.args.columns.now c.args.limit (g.T.Tableau.table c.args.tableau.now) c.args.pivots.now t c.columns.pivots c.in-Some.row c.columns.column c.columns.invariant.alike taken
+    c.in-Some.ensures.found c.if-not-step.ensures.refused
 
 pub columns-preserved : goal.columns-preserved
 columns-preserved g c =
@@ -51,7 +52,8 @@ columns-preserved g c =
     record {
       sound = subst IsSound (sym e) (sound_next t r d c.columns.invariant.sound (is_pivot c.args.columns.now t d r gives));
       plain = ap (λ (u : Table). u.plain) e ∙ c.columns.invariant.plain;
-      basic = subst (λ (u : Table). (k : ℕ) → k < d + 1 → IsListed c.args.columns.now k → IsBasic u k) (sym e) (basic_more c.args.columns.now t r d c.columns.invariant.sound gives c.columns.invariant.basic);
+      basic = subst (λ (u : Table). (k : ℕ) → k < d + 1 → IsListed c.args.columns.now k → IsBasic u k) (sym e)
+          (basic_more c.args.columns.now t r d c.columns.invariant.sound gives c.columns.invariant.basic);
       alike = subst (λ k. InstallsAlike c.args.columns.now c.args.limit s c.args.pivots.now (g.T.Tableau.table c.step.new.tableau) k) (sym c.if-not-step.ensures.counted)
           (subst (λ (u : Table). InstallsAlike c.args.columns.now c.args.limit s c.args.pivots.now u (n + 1)) (sym e) next);
     }

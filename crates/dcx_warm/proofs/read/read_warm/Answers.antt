@@ -16,4 +16,6 @@ pub read_costs-requires-clause-columns : goal.read_costs-requires-clause-columns
 read_costs-requires-clause-columns g c = columns_are c.args.program.now (g.T.Tableau.table c.args.tableau.now) c.requires
 
 pub returns-clause-right : goal.returns-clause-right
-returns-clause-right g c = IfOk-weaker c.read_costs.result (IsReading c.args.program.now.rows c.args.program.now.columns (g.T.Tableau.table c.args.tableau.now) status.Optimal) (IsRight c.args.program.now) (is_right c.args.program.now (g.T.Tableau.table c.args.tableau.now) c.requires) c.read_costs.ensures.reading
+returns-clause-right g c =
+    IfOk-weaker c.read_costs.result (IsReading c.args.program.now.rows c.args.program.now.columns (g.T.Tableau.table c.args.tableau.now) status.Optimal) (IsRight c.args.program.now)
+    (is_right c.args.program.now (g.T.Tableau.table c.args.tableau.now) c.requires) c.read_costs.ensures.reading

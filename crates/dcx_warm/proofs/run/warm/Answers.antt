@@ -53,4 +53,5 @@ returns-clause-optimal g c =
       costs = least;
       repairs = c.if-not-repair.ensures.repairs;
     } in
-    λ p e. ends_optimal p c.args.limit c.args.columns.now u c.repair.new.pivots (subst (λ (x : Table). IsColumnList x.plain c.args.columns.now) e c.requires.listed) (subst (λ (x : Table). WarmEnds c.args.limit c.args.columns.now x u c.repair.new.pivots) e ends)
+    λ p e. ends_optimal p c.args.limit c.args.columns.now u c.repair.new.pivots (subst (λ (x : Table). IsColumnList x.plain c.args.columns.now) e c.requires.listed)
+    (subst (λ (x : Table). WarmEnds c.args.limit c.args.columns.now x u c.repair.new.pivots) e ends)

@@ -1,3 +1,4 @@
+-- The chain of a node names its arguments: past its length there is none, and else its cell tells which.
 use Rattle.std.proofs.Common.{◌≤◌, length, sym, refl, arith}
 use Rattle.std.proofs.lemmas.Option.{slice_get_read, slice_get_past}
 use Rattle.dcx_arena.specs.Chains.{chain}

@@ -1,3 +1,4 @@
+-- The roots are in the order of what they reach; the part and the places of the roots are what gathering asks.
 use Rattle.std.proofs.Common.{◌≡◌, ◌∙◌, List, ℕ, ap, subst, length}
 use Rattle.dcx_arena.specs.Nodes.{Node, positions}
 use Rattle.dcx_arena.specs.Chains.{nodes_in}

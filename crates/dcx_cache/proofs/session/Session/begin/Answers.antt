@@ -1,3 +1,4 @@
+-- The map that is kept is there exactly where the problem has one, and only then are all nodes counted.
 use Rattle.dcx_cache.proofs.Kept.{kept_map}
 use Rattle.dcx_cache.proofs.session.Session.begin.Goals as goal
 

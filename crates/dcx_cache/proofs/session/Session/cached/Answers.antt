@@ -1,3 +1,4 @@
+-- A map is kept exactly where the problem has one, as the session's invariant says.
 use Rattle.std.proofs.Common.{◌↔◌, IsTrue, is_some, sym, ap, subst}
 use Rattle.dcx_tree.specs.declared.problem.Problem.{Problem}
 use Rattle.dcx_cache.specs.Programs.{HasMap}

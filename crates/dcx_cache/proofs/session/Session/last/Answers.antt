@@ -1,3 +1,4 @@
+-- The program and the answer that are lent are those of what was found last.
 use Rattle.std.proofs.Common.{refl, sym, ap, ◌∙◌}
 use Rattle.dcx_cache.specs.Sessions.{State}
 use Rattle.dcx_cache.proofs.session.Session.last.Goals as goal

@@ -27,7 +27,8 @@ pub returns-clause-answers : goal.returns-clause-answers
 returns-clause-answers g c = (
   c.in_ok-answer.found.reduced.program,
   c.in_ok-answer.found.solved,
-  subst (λ (p : Problem). IsAnswerOf p c.args.setting.now c.args.limit c.in_ok-answer.found.reduced.program c.in_ok-answer.found.solved c.in_ok-answer.answer) (ap (λ (s : State). s.problem) c.self.view_is)
+  subst (λ (p : Problem). IsAnswerOf p c.args.setting.now c.args.limit c.in_ok-answer.found.reduced.program c.in_ok-answer.found.solved c.in_ok-answer.answer)
+      (ap (λ (s : State). s.problem) c.self.view_is)
       (c.in_ok-answer.ensures {u = tt}).answer,
 )
 
@@ -80,8 +81,10 @@ returns-clause-shows g c =
     let s = c.args.setting.now in
     let known = c.in_ok-answer.ensures {u = tt} in
     let last = subst (λ r. OnOk r (c.keep.new.last ≡ Some l)) c.in-Ok.is c.keep.ensures.last in
-    let found : IsFound c.self.inside.problem s c.args.limit (is_some c.self.inside.map) a l = record { answer = known.answer; from_map = known.from_map ∙ lent_some c.as_ref-map.result c.self.inside.map c.as_ref-map.ensures.value } in
-    subst (λ (o : Option Last). Shows c.args.self.now.problem s c.args.limit c.args.self.now.cached a o) (sym last) (subst (λ (v : State). IsFound v.problem s c.args.limit v.cached a l) c.self.view_is found)
+    let found : IsFound c.self.inside.problem s c.args.limit (is_some c.self.inside.map) a l =
+    record { answer = known.answer; from_map = known.from_map ∙ lent_some c.as_ref-map.result c.self.inside.map c.as_ref-map.ensures.value } in
+    subst (λ (o : Option Last). Shows c.args.self.now.problem s c.args.limit c.args.self.now.cached a o) (sym last)
+    (subst (λ (v : State). IsFound v.problem s c.args.limit v.cached a l) c.self.view_is found)
 
 pub returns-clause-columns : goal.returns-clause-columns
 returns-clause-columns g c =

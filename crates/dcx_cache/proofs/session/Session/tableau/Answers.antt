@@ -1,3 +1,4 @@
+-- The tableau that is lent is that of what was found last.
 use Rattle.std.proofs.Common.{refl, sym, ap, ◌∙◌}
 use Rattle.dcx_cache.specs.Sessions.{State}
 use Rattle.dcx_cache.proofs.session.Session.tableau.Goals as goal

@@ -47,7 +47,8 @@ returns-clause-checked c =
     let marks = c.deref-3.result.now in
     let same : c.deref-2.result.now ≡ arrays = c.deref-2.ensures.value ∙ c.self.view_is in
     let from : AreMarkedFrom p.tree arrays roots marks =
-    subst (AreMarkedFrom p.tree arrays roots) (sym c.deref-3.ensures.value) (subst (λ (xs : List (Option Array)). AreMarkedFrom p.tree xs roots c.in_ok-marks.marks.items) same c.in_ok-marks.ensures.marked) in
+    subst (AreMarkedFrom p.tree arrays roots) (sym c.deref-3.ensures.value)
+    (subst (λ (xs : List (Option Array)). AreMarkedFrom p.tree xs roots c.in_ok-marks.marks.items) same c.in_ok-marks.ensures.marked) in
     let known : (i : ℕ) → IsReached p.tree roots i → IsMarked marks i ⊎ IsSome (array_at arrays i) = all_known p.tree arrays marks from.closed c.requires.values.closed roots from.starts in
     checked_weaker (forming_where p s x (IsMarked marks)) (forming p s x roots) c.form_marked.result
     (passes_where p s x marks arrays (IsReached p.tree roots) c.requires.values from.sound (λ i lt q. known i q))
@@ -61,7 +62,11 @@ returns-clause-kept c =
     let marks = c.deref-3.result.now in
     let same : c.deref-2.result.now ≡ arrays = c.deref-2.ensures.value ∙ c.self.view_is in
     let from : AreMarkedFrom p.tree arrays roots marks =
-    subst (AreMarkedFrom p.tree arrays roots) (sym c.deref-3.ensures.value) (subst (λ (xs : List (Option Array)). AreMarkedFrom p.tree xs roots c.in_ok-marks.marks.items) same c.in_ok-marks.ensures.marked) in
+    subst (AreMarkedFrom p.tree arrays roots) (sym c.deref-3.ensures.value)
+    (subst (λ (xs : List (Option Array)). AreMarkedFrom p.tree xs roots c.in_ok-marks.marks.items) same c.in_ok-marks.ensures.marked) in
     on_ok c.form_marked.result
-    (λ h i r. elim (all_known p.tree arrays marks from.closed c.requires.values.closed roots from.starts i r) [ inl m ↦ h i m | inr k ↦ stays_some arrays c.form_marked.new.self c.form_marked.ensures.stays i k ])
+    (λ h i r. elim (all_known p.tree arrays marks from.closed c.requires.values.closed roots from.starts i r) [
+      | inl m ↦ h i m
+      | inr k ↦ stays_some arrays c.form_marked.new.self c.form_marked.ensures.stays i k
+    ])
     c.form_marked.ensures.kept

@@ -33,7 +33,8 @@ returns-clause-checked c =
     let marks = c.args.fixed.now in
     let within : (i : ℕ) → IsMarked marks i → i < length p.tree = λ i m. let b = marked_within marks i m in omega (arith, b, c.requires.count) in
     let sound : (i : ℕ) → IsMarked marks i → IsFixedNode p i = λ i m. sym (c.requires.fixed i (within i m)) ∙ m in
-    let checked : Checked (forming_where p s [] (IsMarked marks)) c.form_marked.result = subst (λ (x : Pairs). Checked (forming_where p s x (IsMarked marks)) c.form_marked.result) c.empty-point.ensures c.form_marked.ensures.checked in
+    let checked : Checked (forming_where p s [] (IsMarked marks)) c.form_marked.result =
+    subst (λ (x : Pairs). Checked (forming_where p s x (IsMarked marks)) c.form_marked.result) c.empty-point.ensures c.form_marked.ensures.checked in
     checked_weaker (forming_where p s [] (IsMarked marks)) (forming_fixed p s) c.form_marked.result
     (passes_where p s [] marks c.args.self.now (IsFixedNode p) c.requires.values sound (λ i lt q. inl (c.requires.fixed i lt ∙ q)))
     (fails_where p s [] marks c.args.self.now (IsFixedNode p) c.requires.values sound (λ i lt q. inl (c.requires.fixed i lt ∙ q))) checked

@@ -6,13 +6,15 @@ use Rattle.dcx_cert_values.proofs.table.Values.form_marked.Goals as goal
 
 pub form_node-requires-clause-args : goal.form_node-requires-clause-args
 form_node-requires-clause-args c =
-    args_kept c.args.problem.now c.args.setting.now c.args.point.now c.args.marks.now c.args.self.now c.requires.closed c.loop-i.i c.loop-i.self c.loop-i.invariant (sym c.is_marked.ensures ∙ c.if-is_marked.true)
+    args_kept c.args.problem.now c.args.setting.now c.args.point.now c.args.marks.now c.args.self.now c.requires.closed c.loop-i.i c.loop-i.self c.loop-i.invariant
+    (sym c.is_marked.ensures ∙ c.if-is_marked.true)
 
 pub returns-in_err-form_node-clause-checked : goal.returns-in_err-form_node-clause-checked
 returns-in_err-form_node-clause-checked c =
     let r = err_from_is_err_and c.from_residual.result c.from_residual.ensures.1 in
     rw (r.1, r.2)
-    (first_unformed c.args.problem.now c.args.setting.now c.args.point.now c.args.marks.now c.args.self.now c.loop-i.i c.loop-i.self _ c.loop-i.invariant (omega (arith, c.requires.most, c.loop-i-test.true))
+    (first_unformed c.args.problem.now c.args.setting.now c.args.point.now c.args.marks.now c.args.self.now c.loop-i.i c.loop-i.self _ c.loop-i.invariant
+    (omega (arith, c.requires.most, c.loop-i-test.true))
     (sym c.is_marked.ensures ∙ c.if-is_marked.true) c.in_err-form_node.ensures.fault)
 
 pub returns-clause-checked : goal.returns-clause-checked

@@ -1,4 +1,4 @@
--- Nothing is kept.
+-- A table without values keeps what holds of kept values, at any setting and point.
 use Rattle.std.proofs.Common.{arith}
 use Rattle.dcx_cert_values.proofs.Keeping.{values_none}
 use Rattle.dcx_cert_values.proofs.table.Values.new.Goals as goal

@@ -119,7 +119,7 @@ invariant_of-self c =
     record {
       height = c.turn_row.ensures.height ∙ c.clear_rows-are_narrow.ensures.height ∙ s.height;
       width = c.turn_row.ensures.width ∙ c.clear_rows-are_narrow.ensures.width ∙ s.width;
-      room = (let w = with_items (with_items s.entries c.clear_rows-are_narrow.new.entries) c.turn_row.new.entries in sym w.ok.0 ∙ s.entries.ok.0 ∙ s.room);
+      room = (let w = with_items s.entries c.clear_rows-are_narrow.new.entries in sym w.ok.0 ∙ s.entries.ok.0 ∙ s.room);
       basis_size = length-set s.basis.items row column ∙ s.basis_size;
       row_count = s.row_count;
       column_count = s.column_count;

@@ -16,5 +16,6 @@ returns-clause-ok c =
 pub returns-clause-stop : goal.returns-clause-stop
 returns-clause-stop c =
     let args = sides_list c.args.args.now in
-    subst (λ (x : Largest). IfErr c.slopes.result (λ e. IfSome (chosen_sides x.k args) (λ s. IsSlopeStop (largest_meaning x.bend x.k) args (entries_of s) c.args.coefficients.now c.args.weights.now e)))
+    subst (λ (x : Largest). IfErr c.slopes.result
+    (λ e. IfSome (chosen_sides x.k args) (λ s. IsSlopeStop (largest_meaning x.bend x.k) args (entries_of s) c.args.coefficients.now c.args.weights.now e)))
     c.largest.ensures c.slopes.ensures.stop

@@ -13,4 +13,5 @@ running_slopes-requires-clause-weights c =
 pub returns-clause-stop : goal.returns-clause-stop
 returns-clause-stop c =
     let n = first_size c.args.args.now c.index-args-0.result c.size.result c.requires.shape c.index-args-0.is c.size.ensures.value in
-    err_at_vector (sides_list c.args.args.now) c.size.result (λ args size. IsSlopeStop running_meaning args size c.args.coefficients.now c.args.weights.now) c.running_slopes.result c.requires.shape n c.running_slopes.ensures.stop
+    err_at_vector (sides_list c.args.args.now) c.size.result
+    (λ args size. IsSlopeStop running_meaning args size c.args.coefficients.now c.args.weights.now) c.running_slopes.result c.requires.shape n c.running_slopes.ensures.stop

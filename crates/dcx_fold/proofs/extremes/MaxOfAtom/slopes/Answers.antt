@@ -11,11 +11,13 @@ use Rattle.dcx_fold.proofs.extremes.MaxOfAtom.slopes.Goals as goal
 pub returns-clause-ok : goal.returns-clause-ok
 returns-clause-ok c =
     let args = sides_list c.args.args.now in
-    subst (λ (x : Folding). IfOk c.slopes.result (λ g. IfSome (fold_sides x.axis args) (λ s. AreSlopesOf (fold_meaning x.fold x.axis) args (entries_of s) c.args.coefficients.now c.args.weights.now g)))
+    subst (λ (x : Folding). IfOk c.slopes.result
+    (λ g. IfSome (fold_sides x.axis args) (λ s. AreSlopesOf (fold_meaning x.fold x.axis) args (entries_of s) c.args.coefficients.now c.args.weights.now g)))
     c.folding.ensures c.slopes.ensures.ok
 
 pub returns-clause-stop : goal.returns-clause-stop
 returns-clause-stop c =
     let args = sides_list c.args.args.now in
-    subst (λ (x : Folding). IfErr c.slopes.result (λ e. IfSome (fold_sides x.axis args) (λ s. IsSlopeStop (fold_meaning x.fold x.axis) args (entries_of s) c.args.coefficients.now c.args.weights.now e)))
+    subst (λ (x : Folding). IfErr c.slopes.result
+    (λ e. IfSome (fold_sides x.axis args) (λ s. IsSlopeStop (fold_meaning x.fold x.axis) args (entries_of s) c.args.coefficients.now c.args.weights.now e)))
     c.folding.ensures c.slopes.ensures.stop

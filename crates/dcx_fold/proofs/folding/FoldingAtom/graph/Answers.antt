@@ -10,5 +10,6 @@ returns c =
     let p = c.args.self.now.fold in
     let axis = c.args.self.now.axis in
     let x = c.index-args-0.result in
-    ok_at_fold axis c.args.args.now x c.unwrap.result c.folded.result c.size-size.result (IsGraphOf (fold_meaning p axis)) c.fold_graph.result c.requires c.index-args-0.is c.unwrap.ensures c.folded.ensures c.size-size.ensures.value
+    ok_at_fold axis c.args.args.now x c.unwrap.result c.folded.result c.size-size.result
+    (IsGraphOf (fold_meaning p axis)) c.fold_graph.result c.requires c.index-args-0.is c.unwrap.ensures c.folded.ensures c.size-size.ensures.value
     (fold_graph_is p axis (sides_of x) c.size-size.result c.fold_graph.result c.fold_graph.ensures.kinds c.fold_graph.ensures.rows c.fold_graph.ensures.results)

@@ -1,4 +1,4 @@
--- The number found is the answer.
+-- The sum that is found is the answer, and where none fits, what was asked is told.
 use Rattle.std.specs.Option.{ok_or}
 use Rattle.std.proofs.Common.{◌∙◌, ap}
 use Rattle.dcx_math.specs.Rational.{◌+ℚ◌}
@@ -12,5 +12,6 @@ pub returns : goal.returns
 returns c =
     let x = c.args.self in
     let y = c.args.other in
-    let a = found_is Add x y (value x +ℚ value y) (sum_representable x y) c.sum.result c.ok_or.result (c.ok_or.ensures.value ∙ ap (ok_or c.sum.result) c.passing.ensures) c.sum.ensures.exists c.sum.ensures.value in
+    let a = found_is Add x y (value x +ℚ value y) (sum_representable x y) c.sum.result c.ok_or.result
+    (c.ok_or.ensures.value ∙ ap (ok_or c.sum.result) c.passing.ensures) c.sum.ensures.exists c.sum.ensures.value in
     record { sum = a.exact; fits = a.fits; told = a.told; answer = is_sum_of x y c.ok_or.result a }

@@ -134,8 +134,11 @@ returns-in_err-sum-clause-exists c =
     let lf : unsigned_abs c.in_ok-left.left < 2 ^ 127 = rw (l.1) (l.0) in
     let rf : unsigned_abs c.in_ok-right.right < 2 ^ 127 = rw (r.1) (r.0) in
     let li = back c.in_ok-left.left lf ∙ l.1 ∙ left_found e in
-    let ri = back c.in_ok-right.right rf ∙ r.1 ∙ right_found e in
-    (λ s. absurd (none_some c.from_residual-in_err-sum.result c.from_residual-in_err-sum.ensures s), λ h. absurd (c.in_err-sum.ensures (subst (λ z. unsigned_abs z < 2 ^ 127) (sym (ap₂ ◌+ℤ◌ li ri)) h.sum)))
+    let ri = back c.in_ok-right.right rf ∙ r.1 ∙ right_found e in (
+      λ s. absurd (none_some c.from_residual-in_err-sum.result c.from_residual-in_err-sum.ensures s),
+      λ h. absurd
+          (c.in_err-sum.ensures (subst (λ z. unsigned_abs z < 2 ^ 127) (sym (ap₂ ◌+ℤ◌ li ri)) h.sum)),
+    )
 
 pub returns-in_err-left-clause-exists : goal.returns-in_err-left-clause-exists
 returns-in_err-left-clause-exists c =
@@ -147,8 +150,11 @@ returns-in_err-left-clause-value c = rw c.from_residual.ensures tt
 
 pub returns-in_err-right-clause-exists : goal.returns-in_err-right-clause-exists
 returns-in_err-right-clause-exists c =
-    let e = (goal.at.returns-in_err-right-clause-exists c).After-gcd-g in
-    (λ s. absurd (none_some c.from_residual-in_err-right.result c.from_residual-in_err-right.ensures s), λ h. absurd (c.in_err-right.ensures (subst (λ z. unsigned_abs z < 2 ^ 127) (sym (right_found e)) h.right)))
+    let e = (goal.at.returns-in_err-right-clause-exists c).After-gcd-g in (
+      λ s. absurd (none_some c.from_residual-in_err-right.result c.from_residual-in_err-right.ensures s),
+      λ h. absurd
+          (c.in_err-right.ensures (subst (λ z. unsigned_abs z < 2 ^ 127) (sym (right_found e)) h.right)),
+    )
 
 pub returns-in_err-right-clause-value : goal.returns-in_err-right-clause-value
 returns-in_err-right-clause-value c = rw c.from_residual-in_err-right.ensures tt

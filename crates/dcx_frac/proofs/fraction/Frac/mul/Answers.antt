@@ -1,4 +1,4 @@
--- The number found is the answer.
+-- The product that is found is the answer, and where none fits, what was asked is told.
 use Rattle.std.specs.Option.{ok_or}
 use Rattle.std.proofs.Common.{◌∙◌, ap}
 use Rattle.dcx_math.specs.Rational.{◌*ℚ◌}
@@ -11,5 +11,6 @@ pub returns : goal.returns
 returns c =
     let x = c.args.self in
     let y = c.args.other in
-    let a = found_is Mul x y (value x *ℚ value y) (λ fit. fit) c.product.result c.ok_or.result (c.ok_or.ensures.value ∙ ap (ok_or c.product.result) c.passing.ensures) c.product.ensures.exists c.product.ensures.value in
+    let a = found_is Mul x y (value x *ℚ value y) (λ fit. fit) c.product.result c.ok_or.result
+    (c.ok_or.ensures.value ∙ ap (ok_or c.product.result) c.passing.ensures) c.product.ensures.exists c.product.ensures.value in
     record { product = a.exact; fits = a.fits; told = a.told; answer = is_product_of x y c.ok_or.result a }

@@ -16,6 +16,13 @@ returns-then-other-eq0 c =
     let z = (zero_num c.args.other).0 (bits_zero c.args.other.num c.args.other.num_fits c.if-other-eq0.true) in
     record { exists = (λ s. inr (inl z), λ h. refl); value = zero_right c.args.self c.args.other z }
 
+pub returns-then-other-eq1-clause-exists : goal.returns-then-other-eq1-clause-exists
+returns-then-other-eq1-clause-exists c =
+    let x : ¬ IsZero c.args.self = λ z. c.if-self-eq0.false (ap (of_z w128) ((zero_num c.args.self).1 z)) in
+    let y : ¬ IsZero c.args.other = λ z. c.if-other-eq0.false (ap (of_z w128) ((zero_num c.args.other).1 z)) in
+    let e = c.whole_sum.ensures.exists in
+    (λ s. inr (inr (e.0 s)), λ h. ⊎_elim (λ z. absurd (x z)) (λ k. ⊎_elim (λ z. absurd (y z)) e.1 k) h)
+
 pub returns : goal.returns
 returns c =
     let x : ¬ IsZero c.args.self = λ z. c.if-self-eq0.false (ap (of_z w128) ((zero_num c.args.self).1 z)) in

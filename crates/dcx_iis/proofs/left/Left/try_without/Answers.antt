@@ -9,7 +9,8 @@ use Rattle.dcx_iis.proofs.left.Left.try_without.Goals as goal
 use Rattle.dcx_iis.proofs.left.Left.try_without.Goals.{In_ok-point}
 
 -- what the step shows
-step_tried : (c : In_ok-point) (t : Tried) → c.in_ok-point.field-0 ≡ t → IsTried c.args.problem.now c.args.reduced.now.program c.args.limit (flagged (set c.args.self.now.kept.items c.args.constraint false)) t
+step_tried : (c : In_ok-point) (t : Tried) → c.in_ok-point.field-0 ≡ t
+    → IsTried c.args.problem.now c.args.reduced.now.program c.args.limit (flagged (set c.args.self.now.kept.items c.args.constraint false)) t
 step_tried c t is =
     subst (IsTried c.args.problem.now c.args.reduced.now.program c.args.limit (flagged (set c.args.self.now.kept.items c.args.constraint false))) is
     (subst (λ (flags : List Bool). IsTried c.args.problem.now c.args.reduced.now.program c.args.limit (flagged flags) c.in_ok-point.field-0) c.deref.ensures.value c.in_ok-point.ensures.tried)

@@ -1,3 +1,4 @@
+-- The constant and the terms that are taken are the form's, and what is left is 0.
 use Rattle.std.proofs.Common.{◌≡◌, List, sym, ap, ap₂, ◌∙◌, subst, arith}
 use Rattle.std.proofs.lemmas.List.{with_items_is}
 use Rattle.dcx_linear.specs.declared.form.FormTerm.{FormTerm}
@@ -22,5 +23,6 @@ returns g c =
     let slots = c.in_ok-terms.ensures {u = tt} in
     record {
       taken = same_parts c.replace-constant.ensures.value (c.from_vec.ensures ∙ slots.taken ∙ ap (listed_from g.C.Coef.number_of 0) c.deref_mut.ensures.value) ∙ c.self.view_is;
-      zero = same_parts (c.replace-constant.ensures.after ∙ c.zero.ensures) (ap (listed_from g.C.Coef.number_of 0) (with_items_is c.self.inside.slots c.take_terms.new.slots (omega arith)) ∙ slots.cleared);
+      zero = same_parts (c.replace-constant.ensures.after ∙ c.zero.ensures)
+          (ap (listed_from g.C.Coef.number_of 0) (with_items_is c.self.inside.slots c.take_terms.new.slots (omega arith)) ∙ slots.cleared);
     }

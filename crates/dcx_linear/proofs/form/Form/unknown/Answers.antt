@@ -1,3 +1,4 @@
+-- The coefficient 1 isn't 0, so the one term is kept, beside the constant 0.
 use Rattle.std.proofs.Common.{[], ◌∷◌, ap, ap₂, ◌∙◌}
 use Rattle.dcx_linear.specs.declared.form.Form.{Form}
 use Rattle.dcx_linear.specs.declared.form.FormTerm.{FormTerm}

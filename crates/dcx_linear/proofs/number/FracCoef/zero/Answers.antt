@@ -1,3 +1,4 @@
+-- There is one fraction that is 0.
 use Rattle.dcx_atom.proofs.FormedSums.{zero_frac-unique}
 use Rattle.dcx_linear.proofs.number.FracCoef.zero.Goals as goal
 

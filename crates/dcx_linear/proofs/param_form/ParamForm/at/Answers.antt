@@ -1,3 +1,4 @@
+-- Each term adds its coefficient times its entry, and the first product or sum that passes is the stop.
 use Rattle.std.proofs.Common.{ap, sym, ◌∙◌, ◌+◌, drop, arith}
 use Rattle.std.proofs.lemmas.List.{drop_all}
 use Rattle.std.proofs.lemmas.Result.{err_from_is_err_and}

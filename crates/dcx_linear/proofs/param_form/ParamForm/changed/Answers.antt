@@ -1,3 +1,4 @@
+-- The constant is changed before the terms, and the first of them that stops is the stop.
 use Rattle.std.proofs.Common.{Err, inl, inr, sym, subst, ◌∙◌}
 use Rattle.std.proofs.lemmas.Result.{err_from_is_err_and}
 use Rattle.dcx_linear.specs.Stops.{OnPass-weaker}
@@ -15,6 +16,13 @@ pub returns-in_err-changed : goal.returns-in_err-changed
 returns-in_err-changed c =
     let p = err_from_is_err_and c.from_residual-in_err-changed.result c.from_residual-in_err-changed.ensures.1 in
     rw (p.1, p.2)
-    (OnPass-weaker _ (λ passes. ChangesTerms key_of has_zero (change_gives_term c.args.change) c.as_slice-terms.result.now (Err passes)) (λ passes. change_gives_form c.args.change c.args.self.now (Err passes))
-    (λ passes h. (c.as_slice-terms.ensures.sparse, inr ((c.in_ok-constant.constant, sym c.in_ok-constant.was ∙ c.change_number.ensures), subst (λ ts. ChangesTerms key_of has_zero (change_gives_term c.args.change) ts (Err passes)) c.as_slice-terms.ensures.items h)))
+    (OnPass-weaker _ (λ passes. ChangesTerms key_of has_zero (change_gives_term c.args.change) c.as_slice-terms.result.now (Err passes))
+    (λ passes. change_gives_form c.args.change c.args.self.now (Err passes))
+    (λ passes h. (
+      c.as_slice-terms.ensures.sparse,
+      inr (
+        (c.in_ok-constant.constant, sym c.in_ok-constant.was ∙ c.change_number.ensures),
+        subst (λ ts. ChangesTerms key_of has_zero (change_gives_term c.args.change) ts (Err passes)) c.as_slice-terms.ensures.items h,
+      ),
+    ))
     (c.in_err-changed.ensures {u = tt}))

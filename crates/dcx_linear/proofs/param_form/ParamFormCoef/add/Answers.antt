@@ -1,3 +1,4 @@
+-- The constants are added before the terms, and the first of them that stops is the stop.
 use Rattle.std.proofs.Common.{Err, inl, inr, sym, subst, ◌∙◌}
 use Rattle.std.proofs.lemmas.Result.{err_from_is_err_and}
 use Rattle.dcx_linear.specs.Stops.{OnPass-weaker}
@@ -15,12 +16,14 @@ pub returns-in_err-sum : goal.returns-in_err-sum
 returns-in_err-sum c =
     let p = err_from_is_err_and c.from_residual-in_err-sum.result c.from_residual-in_err-sum.ensures.1 in
     rw (p.1, p.2)
-    (OnPass-weaker _ (λ passes. SumsTerms key_of has_zero sum_gives_term c.as_slice-terms.result.now c.as_slice-other_terms.result.now (Err passes)) (λ passes. sum_gives_form c.args.self.now c.args.other.now (Err passes))
+    (OnPass-weaker _ (λ passes. SumsTerms key_of has_zero sum_gives_term c.as_slice-terms.result.now c.as_slice-other_terms.result.now (Err passes))
+    (λ passes. sum_gives_form c.args.self.now c.args.other.now (Err passes))
     (λ passes h. (
       (c.as_slice-terms.ensures.sparse, c.as_slice-other_terms.ensures.sparse),
       inr (
         (c.in_ok-constant.constant, sym c.in_ok-constant.was ∙ c.add.ensures.answer),
-        subst (λ ts. SumsTerms key_of has_zero sum_gives_term ts c.args.other.now.terms (Err passes)) c.as_slice-terms.ensures.items (subst (λ ts. SumsTerms key_of has_zero sum_gives_term c.as_slice-terms.result.now ts (Err passes)) c.as_slice-other_terms.ensures.items h),
+        subst (λ ts. SumsTerms key_of has_zero sum_gives_term ts c.args.other.now.terms (Err passes)) c.as_slice-terms.ensures.items
+            (subst (λ ts. SumsTerms key_of has_zero sum_gives_term c.as_slice-terms.result.now ts (Err passes)) c.as_slice-other_terms.ensures.items h),
       ),
     ))
     (c.in_err-sum.ensures {u = tt}))

@@ -1,3 +1,4 @@
+-- The one term has the coefficient 1, which isn't 0, beside the constant 0.
 use Rattle.std.proofs.Common.{ℕ, List, [], ◌∷◌, ap, ap₂, ◌∙◌}
 use Rattle.dcx_atom.proofs.FormedSums.{zero_frac-unique}
 use Rattle.dcx_linear.specs.declared.param_form.ParamForm.{ParamForm}

@@ -1,3 +1,4 @@
+-- The number 0 as a form is made of the one fraction that is 0.
 use Rattle.std.proofs.Common.{ap, ◌∙◌}
 use Rattle.dcx_atom.proofs.FormedSums.{zero_frac-unique}
 use Rattle.dcx_linear.specs.ParamForms.{form_of_number}

@@ -1,3 +1,4 @@
+-- Positions and then entries are ordered as their keys are.
 use Rattle.std.proofs.Common.{◌∙◌, ap₂, arith}
 use Rattle.std.specs.Ordering.{ordering_then}
 use Rattle.dcx_linear.proofs.Keys.{pair_order}

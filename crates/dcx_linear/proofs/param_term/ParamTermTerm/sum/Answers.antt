@@ -1,3 +1,4 @@
+-- Terms with one key are of one position and one entry, and their coefficients are added.
 use Rattle.std.proofs.Common.{Ok, sym, ap, ◌∙◌, arith}
 use Rattle.std.proofs.lemmas.Result.{err_from_is_err_and}
 use Rattle.dcx_linear.specs.ParamTerms.{renewed}

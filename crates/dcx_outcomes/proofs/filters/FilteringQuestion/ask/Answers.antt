@@ -7,6 +7,7 @@ use Rattle.dcx_outcomes.proofs.filters.FilteringQuestion.ask.Goals as goal
 pub returns : goal.returns
 returns c = record {
   found = c.filter.ensures.found;
-  right = right_there c.args.problem.now c.args.setting.now (IsRight c.args.problem.now (setting_of c.args.problem.now c.args.setting.now)) c.filter.result c.requires.program.fitting c.filter.ensures.right;
+  right = right_there c.args.problem.now c.args.setting.now (IsRight c.args.problem.now (setting_of c.args.problem.now c.args.setting.now)) c.filter.result c.requires.program.fitting
+      c.filter.ensures.right;
   stops = c.filter.ensures.stops;
 }

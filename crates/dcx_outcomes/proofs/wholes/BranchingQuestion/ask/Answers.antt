@@ -11,5 +11,6 @@ branch-alloc-requires-clause-unknowns c = unknowns_there c.args.problem.now c.ar
 pub returns : goal.returns
 returns c = record {
   ends = c.branch-alloc.ensures.end;
-  right = right_there c.args.problem.now c.args.setting.now (IsRightFor c.args.problem.now (setting_of c.args.problem.now c.args.setting.now)) c.branch-alloc.result c.requires.program.fitting c.branch-alloc.ensures.right;
+  right = right_there c.args.problem.now c.args.setting.now (IsRightFor c.args.problem.now (setting_of c.args.problem.now c.args.setting.now)) c.branch-alloc.result c.requires.program.fitting
+      c.branch-alloc.ensures.right;
 }

@@ -19,7 +19,8 @@ invariant_of-self c =
 pub returns : goal.returns
 returns c = record {
   ok = on_ok c.push_named.result
-      (λ e. ap (λ (xs : List Parameter). record { variables = c.self.inside.variables.items; parameters = xs }) e ∙ ap (λ (d : Lists). record d { parameters = d.parameters ++ c.args.parameter ∷ [] }) c.self.view_is)
+      (λ e. ap (λ (xs : List Parameter). record { variables = c.self.inside.variables.items; parameters = xs }) e
+      ∙ ap (λ (d : Lists). record d { parameters = d.parameters ++ c.args.parameter ∷ [] }) c.self.view_is)
       c.push_named.ensures.pushed;
   err = on_err c.push_named.result (λ e. ap (λ (xs : List Parameter). record { variables = c.self.inside.variables.items; parameters = xs }) e ∙ c.self.view_is) c.push_named.ensures.same_items;
 }

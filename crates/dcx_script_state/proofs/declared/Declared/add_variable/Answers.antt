@@ -19,7 +19,8 @@ invariant_of-self c =
 pub returns : goal.returns
 returns c = record {
   ok = on_ok c.push_named.result
-      (λ e. ap (λ (xs : List Variable). record { variables = xs; parameters = c.self.inside.parameters.items }) e ∙ ap (λ (d : Lists). record d { variables = d.variables ++ c.args.variable ∷ [] }) c.self.view_is)
+      (λ e. ap (λ (xs : List Variable). record { variables = xs; parameters = c.self.inside.parameters.items }) e
+      ∙ ap (λ (d : Lists). record d { variables = d.variables ++ c.args.variable ∷ [] }) c.self.view_is)
       c.push_named.ensures.pushed;
   err = on_err c.push_named.result (λ e. ap (λ (xs : List Variable). record { variables = xs; parameters = c.self.inside.parameters.items }) e ∙ c.self.view_is) c.push_named.ensures.same_items;
 }

@@ -1,3 +1,4 @@
+-- The promotions so far, and then those of the nodes that are left, are those of all nodes.
 use Rattle.std.proofs.Common.{◌≡◌, drop}
 use Rattle.dcx_arena.specs.Nodes.{positions}
 use Rattle.dcx_script_values.specs.Nodes.{all_promoted}

@@ -1,3 +1,4 @@
+-- The nodes so far, and then those of the operands that are left, are those of all operands.
 use Rattle.std.proofs.Common.{◌≡◌, map, drop}
 use Rattle.dcx_arena.specs.Nodes.{positions}
 use Rattle.dcx_script_values.specs.Nodes.{all_pushed}

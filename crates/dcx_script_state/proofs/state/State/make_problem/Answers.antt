@@ -21,14 +21,17 @@ pub returns-then-not-is_objective : goal.returns-then-not-is_objective
 returns-then-not-is_objective c =
     let few = few_constraints c.args.values.now c.in_ok-constraints.constraints.items c.in_ok-constraints.ensures c.requires.few in
     let objective = objective_is c.self.inside.tree c.args.objective.node c.is_objective.result c.is_objective.ensures in
-    let may = elim c.then-not-is_objective.branch as (λ _. (is_objective c.self.inside.tree c.args.objective.node.0 && list_all (are_sides c.self.inside.tree) c.in_ok-constraints.constraints.items) ≡ false) [
+    let may = elim c.then-not-is_objective.branch as
+    (λ _. (is_objective c.self.inside.tree c.args.objective.node.0 && list_all (are_sides c.self.inside.tree) c.in_ok-constraints.constraints.items) ≡ false) [
       | then-not-is_objective-via-then-not-is_objective w ↦
           ap (λ a. a && list_all (are_sides c.self.inside.tree) c.in_ok-constraints.constraints.items) (objective ∙ w.if-not-is_objective.true)
       | then-not-is_objective-via-else-not-is_objective+then-not-are_constraints w ↦
           ap₂ (λ a b. a && b) (objective ∙ w.if-not-is_objective.false)
-          (constraints_are c.self.inside.tree c.in_ok-constraints.constraints.items w.deref.result.now w.are_constraints.result few w.deref.ensures.value w.are_constraints.ensures ∙ w.if-not-are_constraints.true)
+          (constraints_are c.self.inside.tree c.in_ok-constraints.constraints.items w.deref.result.now w.are_constraints.result few w.deref.ensures.value
+          w.are_constraints.ensures ∙ w.if-not-are_constraints.true)
     ] in
-    problem_refused c.args.place c.args.objective.sense c.args.objective.node.0 c.args.objective.place (map meant c.args.values.now) (state_of c.self.inside) c.args.self.now c.in_ok-constraints.constraints.items c.self.view_is c.in_ok-constraints.ensures may
+    problem_refused c.args.place c.args.objective.sense c.args.objective.node.0 c.args.objective.place (map meant c.args.values.now)
+    (state_of c.self.inside) c.args.self.now c.in_ok-constraints.constraints.items c.self.view_is c.in_ok-constraints.ensures may
 
 pub returns-then-is_some : goal.returns-then-is_some
 returns-then-is_some c =
@@ -36,8 +39,10 @@ returns-then-is_some c =
     let may =
     ap₂ (λ a b. a && b)
     (objective_is c.self.inside.tree c.args.objective.node c.is_objective.result c.is_objective.ensures ∙ c.if-not-is_objective.false)
-    (constraints_are c.self.inside.tree c.in_ok-constraints.constraints.items c.deref.result.now c.are_constraints.result few c.deref.ensures.value c.are_constraints.ensures ∙ c.if-not-are_constraints.false) in
-    problem_again c.args.place c.args.objective.sense c.args.objective.node.0 c.args.objective.place (map meant c.args.values.now) (state_of c.self.inside) c.args.self.now c.in_ok-constraints.constraints.items c.self.view_is c.in_ok-constraints.ensures may
+    (constraints_are c.self.inside.tree c.in_ok-constraints.constraints.items c.deref.result.now c.are_constraints.result few c.deref.ensures.value c.are_constraints.ensures
+    ∙ c.if-not-are_constraints.false) in
+    problem_again c.args.place c.args.objective.sense c.args.objective.node.0 c.args.objective.place (map meant c.args.values.now)
+    (state_of c.self.inside) c.args.self.now c.in_ok-constraints.constraints.items c.self.view_is c.in_ok-constraints.ensures may
     (is_none-seen asked_of c.self.inside.asked c.is_some.result c.is_some.ensures ∙ ap not c.if-is_some.true)
 
 pub invariant_of-self : goal.invariant_of-self
@@ -46,7 +51,8 @@ invariant_of-self c =
     c.self.invariant
     (c.is_objective.ensures.0 c.if-not-is_objective.false)
     (subst (AreConstraints c.self.inside.tree) c.deref.ensures.value (c.are_constraints.ensures.0 c.if-not-are_constraints.false))
-    (subst (λ (s : State). (name : List ℕ) → contains same_name c.in_ok-reached.reached name ≡ is_reached s.nodes (asked_for c.args.objective c.in_ok-constraints.constraints.items) name) (sym c.self.view_is)
+    (subst (λ (s : State). (name : List ℕ)
+    → contains same_name c.in_ok-reached.reached name ≡ is_reached s.nodes (asked_for c.args.objective c.in_ok-constraints.constraints.items) name) (sym c.self.view_is)
     (subst (λ (cs : List Constraint). (name : List ℕ) → contains same_name c.in_ok-reached.reached name ≡ is_reached c.args.self.now.nodes (asked_for c.args.objective cs) name) c.deref-2.ensures.value
     c.in_ok-reached.ensures))
 
@@ -56,6 +62,8 @@ returns c =
     let may =
     ap₂ (λ a b. a && b)
     (objective_is c.self.inside.tree c.args.objective.node c.is_objective.result c.is_objective.ensures ∙ c.if-not-is_objective.false)
-    (constraints_are c.self.inside.tree c.in_ok-constraints.constraints.items c.deref.result.now c.are_constraints.result few c.deref.ensures.value c.are_constraints.ensures ∙ c.if-not-are_constraints.false) in
-    problem_made c.args.place c.args.objective.sense c.args.objective.node.0 c.args.objective.place (map meant c.args.values.now) (state_of c.self.inside) c.args.self.now c.in_ok-constraints.constraints.items c.self.view_is c.in_ok-constraints.ensures may
+    (constraints_are c.self.inside.tree c.in_ok-constraints.constraints.items c.deref.result.now c.are_constraints.result few c.deref.ensures.value c.are_constraints.ensures
+    ∙ c.if-not-are_constraints.false) in
+    problem_made c.args.place c.args.objective.sense c.args.objective.node.0 c.args.objective.place (map meant c.args.values.now)
+    (state_of c.self.inside) c.args.self.now c.in_ok-constraints.constraints.items c.self.view_is c.in_ok-constraints.ensures may
     (is_none-seen asked_of c.self.inside.asked c.is_some.result c.is_some.ensures ∙ ap not c.if-is_some.false)

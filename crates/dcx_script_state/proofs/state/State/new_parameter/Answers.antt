@@ -38,6 +38,7 @@ returns c =
     ∙ ap (λ (x : Parameter). record (state_of c.self.inside) { parameters = c.self.inside.declared.parameters ++ x ∷ [] }) c.in_ok-listed.ensures
     ∙ ap (λ (s : State). record s { parameters = s.parameters ++ parameter_with c.args.name.now c.in_ok-shape.shape c.args.flags.nonneg c.args.flags.nonpos ∷ [] }) c.self.view_is in
     subst (Gives (λ (i : NodeId). i.0) c.put.result c.put.new.self)
-    (sym (parameter_pushed c.args.place c.args.name.now (extent_sides c.args.extent) c.args.flags.nonneg c.args.flags.nonpos c.args.self.now (state_of (record c.self.inside { declared = c.add_parameter.new.self }))
+    (sym (parameter_pushed c.args.place c.args.name.now (extent_sides c.args.extent) c.args.flags.nonneg c.args.flags.nonpos c.args.self.now
+    (state_of (record c.self.inside { declared = c.add_parameter.new.self }))
     c.in_ok-shape.shape c.in_ok-made.made c.in_ok-shape.ensures c.in_ok-made.ensures listed))
     c.put.ensures

@@ -13,7 +13,8 @@ pub invariant_of-self : goal.invariant_of-self
 invariant_of-self c =
     let listed = subst (λ (s : State). IsListed s.variables s.parameters c.args.call) (sym c.self.view_is) c.requires in
     let come = push_comes c.self.inside.tree c.args.call (positions c.args.args.now) c.args.place c.push.result c.push.new.self c.push.ensures.pushed c.push.ensures.same in
-    kept_after c.self.inside.tree c.push.new.self c.self.inside.declared.variables c.self.inside.declared.parameters c.self.inside.asked c.args.call come listed c.are_there.ensures.nodes c.self.invariant
+    kept_after c.self.inside.tree c.push.new.self c.self.inside.declared.variables c.self.inside.declared.parameters c.self.inside.asked c.args.call come listed
+    c.are_there.ensures.nodes c.self.invariant
 
 pub returns : goal.returns
 returns c =
@@ -22,5 +23,6 @@ returns c =
       | in-Ok w ↦ w.result-is ∙ sym (ap (seen_at c.args.place) w.in-Ok.is)
       | in-Err w ↦ w.result-is ∙ ap Err w.tree_fault.ensures ∙ sym (ap (seen_at c.args.place) w.in-Err.is)
     ] in
-    pushed_gives (state_of c.self.inside) c.args.self.now c.args.place c.args.call (positions c.args.args.now) c.self.view_is c.are_there.ensures.nodes there c.push.result c.match-push.result c.push.new.self
+    pushed_gives (state_of c.self.inside) c.args.self.now c.args.place c.args.call
+    (positions c.args.args.now) c.self.view_is c.are_there.ensures.nodes there c.push.result c.match-push.result c.push.new.self
     c.push.ensures.pushed is

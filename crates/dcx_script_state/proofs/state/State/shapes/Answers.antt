@@ -24,7 +24,8 @@ loop-operand-smaller c = search rules
 
 pub loop-operand-preserved : goal.loop-operand-preserved
 loop-operand-preserved c =
-    shape_next c.args.self.now.nodes c.args.operands.now c.loop-operand.operand-index c.operand-item.result c.loop-operand.shapes.items _ c.operand_shape.result c.loop-operand-test.true c.operand-item.is
+    shape_next c.args.self.now.nodes c.args.operands.now c.loop-operand.operand-index c.operand-item.result c.loop-operand.shapes.items _ c.operand_shape.result
+    c.loop-operand-test.true c.operand-item.is
     c.loop-operand.invariant c.operand_shape.ensures c.in_ok-push.ensures.items
 
 pub returns : goal.returns

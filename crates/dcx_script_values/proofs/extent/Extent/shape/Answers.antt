@@ -1,3 +1,4 @@
+-- Sides as they are told have the same shape as the sides that are asked for, or none as well.
 use Rattle.std.proofs.Common.{sym, ap, ◌∙◌}
 use Rattle.dcx_shape.specs.declared.shape.Sides.TheVariants.{Scalar, Vector, Matrix}
 use Rattle.dcx_array.specs.Shapes.{shape_with}

@@ -1,3 +1,4 @@
+-- A side that is too great for its type has no shape, and neither has the greatest of the type.
 use Rattle.dcx_script_values.proofs.ShapesAsked.{shape_with-told, shape_with-told_side}
 use Rattle.dcx_script_values.proofs.extent.Extent.told.Goals as goal
 

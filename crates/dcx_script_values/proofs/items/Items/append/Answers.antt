@@ -1,3 +1,4 @@
+-- One item more is counted, and what is deepest is the deeper of both; it stands behind the others.
 use Rattle.std.proofs.Common.{refl}
 use Rattle.dcx_script_values.proofs.Lists.{AreCounted-after, items_meant-after}
 use Rattle.dcx_script_values.proofs.items.Items.append.Goals as goal

@@ -1,3 +1,4 @@
+-- The items of both lists are counted together, and stand one list behind the other.
 use Rattle.std.proofs.Common.{refl}
 use Rattle.dcx_script_values.proofs.Lists.{items_meant-more, AreCounted-more}
 use Rattle.dcx_script_values.proofs.items.Items.extended.Goals as goal

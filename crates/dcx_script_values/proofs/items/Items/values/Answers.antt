@@ -1,3 +1,4 @@
+-- The values in order are the items, no more of them than are counted.
 use Rattle.std.proofs.Common.{sym, map, arith}
 use Rattle.dcx_script_values.specs.Meant.{meant}
 use Rattle.dcx_script_values.proofs.Lists.{items_of-values_of, length_le-count}

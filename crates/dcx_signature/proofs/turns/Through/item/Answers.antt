@@ -23,7 +23,8 @@ returns-in-Items c =
     let xs = c.values.result.now in
     let seen : through_seen c.args.self.now ≡ map meant xs = rw (c.in-Items.is, ← c.deref.ensures) (sym c.values.ensures.values) in
     let within : c.args.k < length xs = rw length-map at (rw seen at c.requires) in
-    item_given (through_seen c.args.self.now) c.args.k (meant c.index-values-k.result) c.share.result (rw seen (item_seen meant xs c.args.k c.index-values-k.result within c.index-values-k.is)) c.share.ensures
+    item_given (through_seen c.args.self.now) c.args.k (meant c.index-values-k.result) c.share.result
+    (rw seen (item_seen meant xs c.args.k c.index-values-k.result within c.index-values-k.is)) c.share.ensures
 
 pub returns-in-Range : goal.returns-in-Range
 returns-in-Range c =
@@ -41,4 +42,5 @@ returns-in-Numbers c =
     let f : Frac → Value = λ x. plain (number x) in
     let seen : through_seen c.args.self.now ≡ map f xs = rw (c.in-Numbers.is, c.as_slice.ensures, c.deref-in-Numbers.ensures) refl in
     let within : c.args.k < length xs = rw length-map at (rw seen at c.requires) in
-    item_given (through_seen c.args.self.now) c.args.k (plain (number c.index-as_slice-k.result)) c.number_value.result (rw seen (item_seen f xs c.args.k c.index-as_slice-k.result within c.index-as_slice-k.is)) c.number_value.ensures
+    item_given (through_seen c.args.self.now) c.args.k (plain (number c.index-as_slice-k.result)) c.number_value.result
+    (rw seen (item_seen f xs c.args.k c.index-as_slice-k.result within c.index-as_slice-k.is)) c.number_value.ensures

@@ -33,5 +33,6 @@ returns-clause-stop c =
     let nodes = c.args.self.now in
     let root = c.args.node.0 in
     err_weaker c.node_value.result
-    (λ e h. first_stop nodes c.in-Ok.ensures.nodes c.args.setting.now c.args.point.now root c.in_ok-arrays.arrays.items root e c.requires.there (reached_self nodes root) c.in_ok-arrays.ensures.some c.in_ok-arrays.ensures.values h)
+    (λ e h. first_stop nodes c.in-Ok.ensures.nodes c.args.setting.now c.args.point.now root c.in_ok-arrays.arrays.items root e c.requires.there
+    (reached_self nodes root) c.in_ok-arrays.ensures.some c.in_ok-arrays.ensures.values h)
     c.node_value.ensures.stop

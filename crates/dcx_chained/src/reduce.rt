@@ -1,0 +1,40 @@
+//! Rows divided by their common divisor.
+ghost use Rattle.std.specs.Prelude.{◌≡◌, ◌≢◌, ℕ, ◌<◌};
+ghost use Rattle.dcx_math.specs.Divisors.{gcd_of};
+ghost use Rattle.dcx_math.proofs.Primitive.{primitive_part};
+ghost use Rattle.dcx_tab.specs.Rows.{AllSmall};
+ghost use Rattle.dcx_links.specs.Matrix.{number_at, row_of};
+
+use crate::words::shared_divisor;
+use dcx_links::Links;
+
+/// The greatest common divisor of the numbers of a row, looked for until it is 1.
+fn row_divisor(links: &Links, i: u32) -> u128
+    requires { i < links.now.height }
+    ensures { result ≡ gcd_of (row_of links.now i) }
+{
+    let mut walk = links.row(i);
+    let mut found = 0u128;
+    'numbers: while let Some(number) = walk.next() {
+        found = shared_divisor(number.value.unsigned_abs(), found);
+        if found == 1 {
+            return 1;
+        }
+    }
+    found
+}
+
+/// Makes row `i` primitive.
+pub(crate) fn reduce_row(links: &mut Links, i: u32)
+    requires row { i < links.old.height }
+    requires small { AllSmall (row_of links.old i) }
+    ensures row { row_of links.new i ≡ primitive_part (row_of links.old i) }
+    ensures same { (k c : ℕ) → k ≢ i → number_at links.new k c ≡ number_at links.old k c }
+    ensures height { links.new.height ≡ links.old.height }
+    ensures width { links.new.width ≡ links.old.width }
+{
+    let found = row_divisor(links, i);
+    if found > 1 {
+        links.divide(i, found as i128);
+    }
+}

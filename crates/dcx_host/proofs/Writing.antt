@@ -1,0 +1,63 @@
+-- Bytes that are appended in two steps, and the pieces that were handed for them.
+use Rattle.std.proofs.Common.{◌≡◌, ℕ, ◌+◌, ◌-◌, List, [], ◌∷◌, ◌++◌, length, take, drop, refl, ◌∙◌, ap, sym, append_assoc, append-nil, None, Some, Ok, Err}
+use Rattle.std.proofs.Math.Seq.{take-add}
+use Rattle.std.proofs.lemmas.List.{take_rest}
+use Rattle.std.specs.declared.option.Option.{Option}
+use Rattle.std.specs.Io.KnownBytes.{Appends}
+use Rattle.dcx_host.specs.declared.sink.SinkFault.{SinkFault}
+use Rattle.dcx_host.specs.Pieces.{WriteHands, Hands, AreRests, HandsRests}
+
+pub Appends_none : (a : Option (List ℕ)) → Appends a a []
+Appends_none None = tt
+Appends_none (Some old) = sym (append-nil old)
+
+pub Appends_trans : (a b c : Option (List ℕ)) (xs ys zs : List ℕ) → Appends a b xs → Appends b c ys → xs ++ ys ≡ zs → Appends a c zs
+Appends_trans None b c xs ys zs h k e = tt
+Appends_trans (Some old) None c xs ys zs h k e = absurd h
+Appends_trans (Some old) (Some mid) None xs ys zs h k e = absurd k
+Appends_trans (Some old) (Some mid) (Some new) xs ys zs h k e =
+    k ∙ ap (λ v. v ++ ys) h ∙ append_assoc old xs ys ∙ ap (λ v. old ++ v) e
+
+-- all that is left
+whole_rest : (d : ℕ) (s : List ℕ) → take (length s - d) (drop d s) ≡ drop d s
+whole_rest d s = rw take_rest refl
+
+-- the bytes of a front and then of a front of the rest
+pub fronts : (d n : ℕ) (s : List ℕ) → take d s ++ take n (take (length s - d) (drop d s)) ≡ take (d + n) s
+fronts d n s = rw take_rest (sym (take-add d n s))
+
+-- ---- pieces
+Hands_none : (a : Option (List (List ℕ))) → Hands a a []
+Hands_none None = tt
+Hands_none (Some old) = sym (append-nil old)
+
+-- one piece more
+Hands_more : (a b c : Option (List (List ℕ))) (pieces : List (List ℕ)) (n : ℕ) (piece : List ℕ) → Hands a b pieces → WriteHands {E = SinkFault} b c (Ok n) piece → Hands a c (pieces ++ piece ∷ [])
+Hands_more None b c pieces n piece h k = tt
+Hands_more (Some old) None c pieces n piece h k = absurd h
+Hands_more (Some old) (Some mid) None pieces n piece h k = absurd k
+Hands_more (Some old) (Some mid) (Some new) pieces n piece h k = k ∙ ap (λ v. v ++ piece ∷ []) h ∙ append_assoc old pieces (piece ∷ [])
+
+-- and none more
+Hands_kept : (a b c : Option (List (List ℕ))) (pieces : List (List ℕ)) (e : SinkFault) (piece : List ℕ) → Hands a b pieces → WriteHands {E = SinkFault} b c (Err e) piece → Hands a c pieces
+Hands_kept None b c pieces e piece h k = tt
+Hands_kept (Some old) None c pieces e piece h k = absurd h
+Hands_kept (Some old) (Some mid) None pieces e piece h k = absurd k
+Hands_kept (Some old) (Some mid) (Some new) pieces e piece h k = k ∙ h
+
+rests_more : (text : List ℕ) (start done taken : ℕ) (pieces : List (List ℕ)) (piece : List ℕ) → AreRests text start pieces done → piece ≡ drop done text → AreRests text start (pieces ++ piece ∷ []) (done + taken)
+rests_more text start done taken [] piece h e = (e ∙ ap (λ n. drop n text) h, (taken, ap (λ n. n + taken) h))
+rests_more text start done taken (p ∷ pieces) piece (is, (t, h)) e = (is, (t, rests_more text (start + t) done taken pieces piece h e))
+
+-- a text of which nothing is handed yet
+pub hands_none : (a : Option (List (List ℕ))) (text : List ℕ) → HandsRests a a text 0
+hands_none a text = ([], Hands_none a, refl)
+
+-- a write that is handed the rest
+pub hands_more : (a b c : Option (List (List ℕ))) (text : List ℕ) (done n : ℕ) → HandsRests a b text done → WriteHands {E = SinkFault} b c (Ok n) (take (length text - done) (drop done text)) → HandsRests a c text (done + n)
+hands_more a b c text done n (pieces, h, r) k =
+    let rest = take (length text - done) (drop done text) in
+    (pieces ++ rest ∷ [], Hands_more a b c pieces n rest h k, rests_more text 0 done n pieces rest r (whole_rest done text))
+
+pub hands_kept : (a b c : Option (List (List ℕ))) (text piece : List ℕ) (done : ℕ) (e : SinkFault) → HandsRests a b text done → WriteHands {E = SinkFault} b c (Err e) piece → (n : ℕ) × HandsRests a c text n
+hands_kept a b c text piece done e (pieces, h, r) k = (done, (pieces, Hands_kept a b c pieces e piece h k, r))

@@ -1,0 +1,20 @@
+use Rattle.std.proofs.Common.{ℕ, arith, length-take, length-drop, zero-le, le_refl}
+use Rattle.dcx_host.proofs.Writing.{Appends_none, Appends_trans, fronts, hands_none, hands_more, hands_kept}
+use Rattle.dcx_host.proofs.write.write_all.Goals as goal
+
+pub loop-done-init : goal.loop-done-init
+loop-done-init g c = record { within = zero-le; front = Appends_none _; rests = hands_none _ _; later = le_refl _ }
+
+pub loop-done-preserved : goal.loop-done-preserved
+loop-done-preserved g c = record {
+  within = omega (arith, c.in_ok-done.ensures.size, length-take {A = ℕ}, length-drop {A = ℕ});
+  front = Appends_trans _ _ _ _ _ _ c.loop-done.invariant.front c.in_ok-done.ensures.written (fronts _ _ _);
+  rests = hands_more _ _ _ _ _ _ c.loop-done.invariant.rests c.in_ok-done.ensures.handed;
+  later = omega (arith, c.in_ok-done.ensures.never_falls);
+}
+
+pub returns-in_err-done-clause-rests : goal.returns-in_err-done-clause-rests
+returns-in_err-done-clause-rests g c = hands_kept _ _ _ _ _ _ _ c.loop-done.invariant.rests c.in_err-done.ensures.handed
+
+pub returns-clause-rests : goal.returns-clause-rests
+returns-clause-rests g c = (c.loop-done.done, c.loop-done.invariant.rests)

@@ -1,0 +1,5 @@
+use Rattle.dcx_top.proofs.SameReport as holds
+use Rattle.dcx_top.proofs.laws.same_contents_same_report.Goals as goal
+
+pub returns : goal.returns
+returns c = holds.same_contents_same_report
