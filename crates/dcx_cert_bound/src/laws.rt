@@ -1,7 +1,7 @@
 //! The laws above the definitions of `specs/`. There is no code: each clause is a statement about all certificates.
 ghost use Rattle.dcx_cert_bound.specs.Laws.{BoundsAreSettled, BoundsShowAnswers};
 
-/// The bound checks pass or fail and not both, with one fault.
+/// No bound check both passes and fails, and one that fails has one fault.
 pub fn bounds_are_settled()
     ensures { BoundsAreSettled }
 {}

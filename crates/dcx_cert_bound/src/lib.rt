@@ -8,7 +8,7 @@
 //! |---|---|
 //! | the checks and their faults: the values are formed, the coefficients collected, what reaches each variable is asked, and the total is at least what is stated | `check_bound`, `bound_checks` of `specs/Checks.antt` |
 //! | what reaches a variable may: 0 where an entry is free, of its sign where it has one; of a symmetric variable the sums of mirrored entries are 0, of a diagonal one the diagonal is | `specs/Variables.antt` |
-//! | the checks pass or fail and not both, with one fault | `laws::bounds_are_settled` |
+//! | no check both passes and fails, and one that fails has one fault | `laws::bounds_are_settled` |
 //! | where they pass, a feasible point of the stated value is optimal, or no point is feasible | `laws::bounds_show_answers` |
 //!
 //! That no step takes quadratic time is by design and in no contract.

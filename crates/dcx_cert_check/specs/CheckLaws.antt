@@ -19,7 +19,7 @@ use Rattle.dcx_cert_sections.specs.Laws.{IsSettled}
 use Rattle.dcx_cert_values.specs.Forming.{GivesParameters, GivesVariables}
 use Rattle.dcx_cert_check.specs.SingleChecks.{setting_fits, setting_is, point_inside, ray_inside, constraints_hold, value_is, start_bounded, duals_signed, gap_positive, slope_positive}
 
--- each check passes or fails and not both, with one fault
+-- no check both passes and fails, and one that fails has one fault
 pub record AreSettled : Type 0 where
   pub setting_fits : (p : Problem) (setting : Pairs) → IsSettled (setting_fits p setting)
   pub setting_is : (p : Problem) (told : Option Pairs) (setting : Pairs) → IsSettled (setting_is p told setting)

@@ -9,7 +9,7 @@ use Rattle.dcx_cert_sections.specs.Laws.{IsSettled}
 use Rattle.dcx_cert_check.specs.Checks.{checks_of}
 use Rattle.dcx_cert_check.specs.Shown.{IsShown}
 
--- a certificate passes its checks or fails with one fault, and not both
+-- no certificate both passes its checks and fails, and one that fails has one fault
 abbrev pub TellsOneThing : Type 0
 TellsOneThing = (p : Problem) (s : Pairs) (cert : Cert) → IsSettled (checks_of p s cert)
 

@@ -2,7 +2,7 @@
 ghost use Rattle.dcx_cert_check.specs.Laws.{TellsOneThing, PassedAreShown};
 ghost use Rattle.dcx_cert_check.specs.CheckLaws.{AreSettled, AreSound, AreGivenArrays};
 
-/// A certificate passes its checks or fails, and not both, with one fault.
+/// No certificate both passes its checks and fails, and one that fails has one fault.
 pub fn tells_one_thing()
     ensures { TellsOneThing }
 {}
@@ -12,7 +12,7 @@ pub fn passed_are_shown()
     ensures { PassedAreShown }
 {}
 
-/// Each check passes or fails and not both, with one fault.
+/// No check both passes and fails, and one that fails has one fault.
 pub fn checks_are_settled()
     ensures { AreSettled }
 {}

@@ -14,14 +14,14 @@
 //! | what must hold | where |
 //! |---|---|
 //! | what each check demands, and the fault that tells where it fails first | `specs/SingleChecks.antt` |
-//! | a check passes or fails and not both, with one fault | `laws::checks_are_settled` |
+//! | no check both passes and fails, and one that fails has one fault | `laws::checks_are_settled` |
 //! | what passes is a fitting setting, a point of the domain, a feasible point with the stated objective, multipliers of the problem | `laws::checks_are_sound` |
 //! | a setting that fits, and a point with the names and the shapes of the variables, give each leaf what it takes | `laws::arrays_are_given` |
 //! | the code answers what its check comes to, or that memory ran out | `check_fit`, `check_params`, `check_domain`, `check_ray_domain`, `check_constraints`, `check_value`, `check_start_bound`, `check_dual_signs`, `check_gap`, `check_descent` |
 //! | the checks of a certificate, in order | `specs/Checks.antt`: `checks_of` |
 //! | a certificate passes them, or the first that fails tells its fault | `certify`: `checked` |
 //! | what passes is right in the problem's own words: a feasible point of the stated value with multipliers whose Lagrangian bound is that value, or multipliers that show that no point is feasible, or a feasible point and a ray of unbounded descent | `certify`: `shown`, `laws::passed_are_shown`, `specs/Shown.antt` |
-//! | a certificate passes or fails, and not both, with one fault | `laws::tells_one_thing` |
+//! | no certificate both passes and fails, and one that fails has one fault | `laws::tells_one_thing` |
 #![tactic(auto)]
 
 mod checking;

@@ -9,7 +9,7 @@ use Rattle.dcx_tree.specs.Meaning.{setting_of, point_of, objective_at, IsAccepte
 use Rattle.dcx_cert_sections.specs.Laws.{IsSettled}
 use Rattle.dcx_cert_rays.specs.Rays.{ray_checks}
 
--- the checks of a ray pass or fail and not both, with one fault
+-- no check of a ray both passes and fails, and one that fails has one fault
 abbrev pub RayChecksAreSettled : Type 0
 RayChecksAreSettled = (p : Problem) (setting ray : Pairs) (slope : Frac) → IsSettled (ray_checks p setting ray slope)
 

@@ -1,7 +1,7 @@
 //! Laws above the definitions of `specs/`. There is no code: each clause is a statement about all rays.
 ghost use Rattle.dcx_cert_rays.specs.Laws.{RayChecksAreSettled, PassedIsUnbounded};
 
-/// The checks of a ray pass or fail and not both, with one fault.
+/// No check of a ray both passes and fails, and one that fails has one fault.
 pub fn ray_checks_are_settled()
     ensures { RayChecksAreSettled }
 {}

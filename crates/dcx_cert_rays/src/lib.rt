@@ -7,7 +7,7 @@
 //! |---|---|
 //! | the steepness that is formed is the exact one, or the first operation that passes 128 bits is named, nodes and entries rising | `form_below`, `specs/Steepness.antt` |
 //! | the first constraint and its first entry that are left along the ray, or an objective that doesn't fall by the slope | `check_ray`, `specs/Rays.antt` |
-//! | a ray passes or fails, and not both, with one fault | `laws::ray_checks_are_settled` |
+//! | no ray both passes and fails, and one that fails has one fault | `laws::ray_checks_are_settled` |
 //! | an accepted problem is unbounded along a ray that passes, from each feasible point | `laws::passed_is_unbounded` |
 #![tactic(auto)]
 

@@ -70,7 +70,7 @@ CertificatesAreOne = (p : Problem) (limit : ℕ) (settings : List Pairs) (c d : 
     → AreAlike p c.list d.list
 
 -- ---- refusals
--- sections pass or a first one is refused, with one number and one fault, and not both
+-- no sections both pass and have one that is refused first, and the first that is refused has one number and one fault
 pub record TellsOneRefusal (p : Problem) (settings : List Pairs) (list : List Section) : Type 0 where
   pub apart : (number : ℕ) (f : CertFault) → ArePassed p settings list → IsFirstRefused p settings list number f → ⊥
   pub one : (m n : ℕ) (f g : CertFault) → IsFirstRefused p settings list m f → IsFirstRefused p settings list n g → (m ≡ n) × (f ≡ g)

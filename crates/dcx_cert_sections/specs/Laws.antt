@@ -1,4 +1,4 @@
--- Checks that tell one thing: they pass or fail and not both, with one fault.
+-- Checks that tell one thing: none both passes and fails, and one that fails has one fault.
 use Rattle.std.specs.Prelude.{◌≡◌, ℕ}
 use Rattle.dcx_answer.specs.declared.cert_fault.CertFault.{CertFault}
 use Rattle.dcx_cert_sections.specs.Checks.{Check, nothing, in_turn, each_below}

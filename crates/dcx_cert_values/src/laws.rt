@@ -1,7 +1,7 @@
 //! The laws above the definitions of `specs/`. There is no code: each clause is a statement about all problems.
 ghost use Rattle.dcx_cert_values.specs.Laws.{AreSettledHere, DivisorsAreNotZero};
 
-/// Each check of forming passes or fails and not both, with one fault.
+/// No check of forming both passes and fails, and one that fails has one fault.
 pub fn checks_are_settled()
     ensures { AreSettledHere }
 {}

@@ -12,7 +12,7 @@
 //! | the same of the nodes that reach no variable | `Values::form_fixed` |
 //! | the same of the divisors of quotients, none of whose entries is 0 | `divisors` |
 //! | where the divisors of an accepted problem pass, nothing is divided by 0 at any point | `laws::divisors_are_not_zero` |
-//! | each of these checks passes or fails and not both, with one fault | `laws::checks_are_settled` |
+//! | none of these checks both passes and fails, and one that fails has one fault | `laws::checks_are_settled` |
 //! | the first entry at which two arrays don't stand to each other as a constraint asks | `first_broken`, `specs/Broken.antt` |
 #![tactic(auto)]
 
