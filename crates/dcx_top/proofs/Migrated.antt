@@ -18,7 +18,7 @@ use Rattle.dcx_top.specs.Whole.{RefusesWhole, Takes}
 use Rattle.dcx_top.specs.NoRange.{AllowsRange}
 use Rattle.dcx_top.specs.Runs.{GivesProblem, HasCertificate, ReadsSections, IsCertRefusedRun, misread, failed, IsRefusedRun}
 use Rattle.dcx_top.specs.Runs.{long_script, bad_script, for_whole, for_range, bad_settings, long_certificate, Causes}
-use Rattle.dcx_top.specs.OneRun.{IsAnswered}
+use Rattle.dcx_top.specs.OneRun.{IsAnswered, AreOneRun, told_same, told_solved, told_branched, told_tried, told_filtered, told_ranged}
 use Rattle.dcx_top.specs.Migrated.{Refuses, MigrateRefusesAsCertify}
 use Rattle.dcx_top.proofs.OneRun.{only_run}
 
@@ -96,15 +96,25 @@ module _ (words other : List (List ℕ)) (told : Option Files) (a b : Command) (
   cert_moved section fault (misread command files h) = misread b (files_moved command files) h
   cert_moved section fault (failed command sections reads h) = failed b sections (reads_moved command sections reads) h
 
+-- runs that tell the same are the same where one refuses
+one_refusal : (r s : Run) → Refuses r → AreOneRun r s → r ≡ s
+one_refusal r s h (told_same e) = e
+one_refusal r s h (told_solved word sense os qs m n e k alike) = absurd (subst Refuses e h)
+one_refusal r s h (told_branched word sense os qs e k alike) = absurd (subst Refuses e h)
+one_refusal r s h (told_tried size os qs e k alike) = absurd (subst Refuses e h)
+one_refusal r s h (told_filtered os qs e k alike) = absurd (subst Refuses e h)
+one_refusal r s h (told_ranged name sense os qs e k alike) = absurd (subst Refuses e h)
+
 -- a run that refuses is the one run of the other words too
 refused_alike : (words other : List (List ℕ)) (files : Files) (a b : Command) (before now old new past later from to : ℕ) (r s : Run) → command_of words ≡ Some a → command_of other ≡ Some b
     → Twins a b → Causes words (Some files) (Rose before now) old new r
     → Causes other (Some files) (Rose past later) from to s → IsAnswered r → IsAnswered s → Refuses r → r ≡ s
 refused_alike words other files a b before now old new past later from to (run.Refused t) s form meant twins h k i j is =
-    only_run other (Some files) (Rose before now) from from (run.Refused t) (refused_moved words other (Some files) a b form meant twins t h.0, inl refl) tt s past later from to k j
+    one_refusal (run.Refused t) s tt (only_run other (Some files) (Rose before now) from from (run.Refused t) (refused_moved words other (Some files) a b form meant twins t h.0, inl refl) tt s past later from to k j)
 refused_alike words other files a b before now old new past later from to (run.CertRefused section fault) s form meant twins h k i j is =
-    only_run other (Some files) (Rose before now) from from (run.CertRefused section fault)
-    (cert_moved words other (Some files) a b form meant twins section fault h.0, refl) tt s past later from to k j
+    one_refusal (run.CertRefused section fault) s tt
+    (only_run other (Some files) (Rose before now) from from (run.CertRefused section fault)
+    (cert_moved words other (Some files) a b form meant twins section fault h.0, refl) tt s past later from to k j)
 refused_alike words other files a b before now old new past later from to run.Usage s form meant twins h k i j is = absurd is
 refused_alike words other files a b before now old new past later from to (run.Checked c) s form meant twins h k i j is = absurd is
 refused_alike words other files a b before now old new past later from to (run.Solved word sense outcomes warm) s form meant twins h k i j is = absurd is

@@ -71,6 +71,7 @@ module _ (writing reading : List (List ℕ)) (script settings name : List ℕ) (
     }
 
     reads : length text ≤ 67108864 → ReadsSections reading (Some g) (certify script settings name) h.sections
+    unfolding files_are
     reads few = record {
       files = files_are;
       has = record {
