@@ -1,9 +1,9 @@
 //! A matrix of zeros.
-ghost use Rattle.std.specs.Prelude.{◌≡◌, ◌≤◌, ℕ, length, pos, IfOk};
+ghost use Rattle.std.specs.Prelude.{◌≡◌, ℕ, length, pos, IfOk};
 ghost use Rattle.dcx_links.specs.Lines.{none};
-ghost use Rattle.dcx_links.specs.Cells.{head_at, cell_at, AreFree, down, number_in, IsSound};
+ghost use Rattle.dcx_links.specs.Cells.{head_at, number_in, IsSound};
 
-use crate::store::{Cell, NONE, Store};
+use crate::store::{NONE, Store};
 use std::alloc::{AllocError, Global};
 
 /// So many links that lead nowhere.
@@ -16,27 +16,6 @@ pub(crate) fn make_heads(alloc: Global, count: u32) -> Result<Vec<u32>, AllocErr
         heads.push(NONE)?;
     }
     Ok(heads)
-}
-
-/// So many cells without a number, each with a link to the one before it.
-fn make_cells(alloc: Global, count: u32) -> Result<(Vec<Cell>, u32), AllocError>
-    ensures count { IfOk result (λ p. length p.0.items ≡ count) }
-    ensures zeros { IfOk result (λ p. (i : ℕ) → (cell_at p.0.items i).value ≡ pos 0) }
-    ensures free { IfOk result (λ p. AreFree p.0.items p.1 (down count)) }
-{
-    let mut cells = Vec::new(alloc);
-    let mut free = NONE;
-    for i in 0..count {
-        cells.push(Cell {
-            value: 0,
-            row: 0,
-            column: 0,
-            next_in_row: free,
-            next_in_column: NONE,
-        })?;
-        free = i;
-    }
-    Ok((cells, free))
 }
 
 /// A matrix of zeros, with the memory for each place.
@@ -52,11 +31,11 @@ pub(crate) fn store_of(alloc: Global, rows: u32, columns: u32) -> Result<Store, 
     }
     let row_heads = make_heads(alloc, rows)?;
     let column_heads = make_heads(alloc, columns)?;
-    let (cells, free) = make_cells(alloc, count as u32)?;
+    let cells = Vec::with_capacity(alloc, count as usize)?;
     Ok(Store {
         cells,
         row_heads,
         column_heads,
-        free,
+        free: NONE,
     })
 }
