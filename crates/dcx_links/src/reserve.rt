@@ -1,9 +1,9 @@
-//! A matrix of zeros.
-ghost use Rattle.std.specs.Prelude.{◌≡◌, ℕ, length, pos, IfOk};
+//! A matrix of zeros, and cells that are made as they are needed.
+ghost use Rattle.std.specs.Prelude.{◌≡◌, ◌≤◌, ℕ, length, pos, IfOk, vec_capacity};
 ghost use Rattle.dcx_links.specs.Lines.{none};
 ghost use Rattle.dcx_links.specs.Cells.{head_at, number_in, IsSound};
 
-use crate::store::{NONE, Store};
+use crate::store::{Cell, NONE, Store};
 use std::alloc::{AllocError, Global};
 
 /// So many links that lead nowhere.
@@ -38,4 +38,29 @@ pub(crate) fn store_of(alloc: Global, rows: u32, columns: u32) -> Result<Store, 
         column_heads,
         free: NONE,
     })
+}
+
+/// Makes a cell where none is free and there is room for one.
+pub(crate) fn make_free(store: &mut Store)
+    requires sound { IsSound store.old }
+    ensures sound { IsSound store.new }
+    ensures ready { store.new.free ≡ none → vec_capacity store.new.cells ≤ length store.new.cells.items }
+    ensures rows { length store.new.row_heads.items ≡ length store.old.row_heads.items }
+    ensures columns { length store.new.column_heads.items ≡ length store.old.column_heads.items }
+    ensures same { (r c : ℕ) → number_in store.new r c ≡ number_in store.old r c }
+{
+    if store.free != NONE {
+        return;
+    }
+    let at = store.cells.len();
+    if at < store.cells.capacity() {
+        store.cells.push_reserved(Cell {
+            value: 0,
+            row: 0,
+            column: 0,
+            next_in_row: NONE,
+            next_in_column: NONE,
+        });
+        store.free = at as u32;
+    }
 }

@@ -4,33 +4,9 @@ ghost use Rattle.dcx_links.specs.Lines.{none, IsSpot, link_of};
 ghost use Rattle.dcx_links.specs.Cells.{head_at, InRow, InColumn, IsAt, next_in_row_at, next_in_column_at, bound_in_row, bound_in_column, number_in, with_next_in_row, with_next_in_column, with_head, IsSound};
 
 use crate::number::number_at_spot;
+use crate::reserve::make_free;
 use crate::search::{Spot, column_spot, is_there, row_spot};
 use crate::store::{Cell, NONE, Store};
-
-/// Makes a cell where none is free and there is room for one.
-fn make_free(store: &mut Store)
-    requires sound { IsSound store.old }
-    ensures sound { IsSound store.new }
-    ensures ready { store.new.free ≡ none → vec_capacity store.new.cells ≤ length store.new.cells.items }
-    ensures rows { length store.new.row_heads.items ≡ length store.old.row_heads.items }
-    ensures columns { length store.new.column_heads.items ≡ length store.old.column_heads.items }
-    ensures same { (r c : ℕ) → number_in store.new r c ≡ number_in store.old r c }
-{
-    if store.free != NONE {
-        return;
-    }
-    let at = store.cells.len();
-    if at < store.cells.capacity() {
-        store.cells.push_reserved(Cell {
-            value: 0,
-            row: 0,
-            column: 0,
-            next_in_row: NONE,
-            next_in_column: NONE,
-        });
-        store.free = at as u32;
-    }
-}
 
 /// Makes the link of a row that comes from a cell, or else from the head, lead to another cell.
 fn link_row(cells: &mut Vec<Cell>, heads: &mut Vec<u32>, row: u32, from: Option<u32>, to: u32)

@@ -4,7 +4,7 @@ use Rattle.dcx_links.specs.declared.store.Cell.{Cell}
 use Rattle.dcx_links.specs.Lines.{none}
 use Rattle.dcx_links.specs.Cells.{IsStore}
 use Rattle.dcx_links.proofs.Empty.{pushed, number_push}
-use Rattle.dcx_links.proofs.write.make_free.Goals as goal
+use Rattle.dcx_links.proofs.reserve.make_free.Goals as goal
 
 pub returns-then-at-capacity-clause-sound : goal.returns-then-at-capacity-clause-sound
 returns-then-at-capacity-clause-sound c =
