@@ -1,6 +1,7 @@
 -- The rows of a matrix, entry by entry.
-use Rattle.std.proofs.Common.{◌≡◌, ℕ, ◌<◌, [], length, sym, ap, ◌∙◌, arith, pos}
-use Rattle.std.proofs.lemmas.List.{ext_get_or}
+use Rattle.std.proofs.Common.{◌≡◌, ℕ, ◌<◌, inl, inr, [], length, sym, ap, ◌∙◌, arith, pos}
+use Rattle.std.proofs.lemmas.Bool.{cases_lt}
+use Rattle.std.proofs.lemmas.List.{ext_get_or, get_or_past}
 use Rattle.dcx_tab.specs.Rows.{Row, entry, row_at}
 use Rattle.dcx_links.specs.Matrix.{Matrix, listed, number_at, row_of, column_of}
 use Rattle.dcx_links.proofs.Listed.{length-listed, get_or-listed, listed_same}
@@ -11,6 +12,13 @@ length-row_of m i = length-listed m.width (λ j. number_at m i j)
 
 pub entry-row_of : (m : Matrix) (i j : ℕ) → j < m.width → entry (row_of m i) j ≡ number_at m i j
 entry-row_of m i j lt = get_or-listed m.width (λ k. number_at m i k) j (pos 0) lt
+
+-- a row of a matrix of zeros
+pub zeros-row_of : (m : Matrix) (i : ℕ) → ((j : ℕ) → number_at m i j ≡ pos 0) → (j : ℕ) → entry (row_of m i) j ≡ pos 0
+zeros-row_of m i zeros j = elim (cases_lt j m.width) [
+  | inl lt ↦ entry-row_of m i j lt ∙ zeros j
+  | inr past ↦ get_or_past (row_of m i) j (pos 0) (let l = length-row_of m i in omega (arith, l, past))
+]
 
 pub length-column_of : (m : Matrix) (j : ℕ) → length (column_of m j) ≡ m.height
 length-column_of m j = length-listed m.height (λ i. number_at m i j)

@@ -4,7 +4,8 @@ ghost use Rattle.dcx_math.specs.Divisors.{gcd, divided};
 ghost use Rattle.dcx_tab.specs.Rows.{Row, entry};
 ghost use Rattle.dcx_chained.specs.NewRow.{Clears};
 
-use crate::words::{divided_by, shared_divisor};
+use crate::words::divided_by;
+use dcx_frac::gcd;
 use dcx_tab::Factors;
 
 /// The greatest common divisor of a positive number and another.
@@ -13,7 +14,7 @@ fn shared_by(p: i128, a: i128) -> i128
     ensures divisor { result ≡ pos (gcd (unsigned_abs p) (unsigned_abs a)) }
     ensures positive { pos 0 <ℤ result }
 {
-    shared_divisor(p.unsigned_abs(), a.unsigned_abs()) as i128
+    gcd(p.unsigned_abs(), a.unsigned_abs()) as i128
 }
 
 /// The least factors, where the entries at the pivot's column are `p` in its row and `a` in the other.

@@ -5,7 +5,7 @@ ghost use Rattle.dcx_math.proofs.Primitive.{primitive_part};
 ghost use Rattle.dcx_tab.specs.Rows.{AllSmall};
 ghost use Rattle.dcx_links.specs.Matrix.{number_at, row_of};
 
-use crate::words::shared_divisor;
+use dcx_frac::gcd;
 use dcx_links::Links;
 
 /// The greatest common divisor of the numbers of a row, looked for until it is 1.
@@ -16,7 +16,7 @@ fn row_divisor(links: &Links, i: u32) -> u128
     let mut walk = links.row(i);
     let mut found = 0u128;
     'numbers: while let Some(number) = walk.next() {
-        found = shared_divisor(number.value.unsigned_abs(), found);
+        found = gcd(number.value.unsigned_abs(), found);
         if found == 1 {
             return 1;
         }

@@ -17,13 +17,17 @@ module _ (At Now : ℕ → ℕ → ℕ → Type 0) (old : (i l q : ℕ) → Now 
   from_same l None b f = f
   from_same l (Some i) b (q, at, e) = (q, old i l q at, e)
 
-  link_same : (heads next next' : ℕ → ℕ) → ((k : ℕ) → next' k ≡ next k) → (l : ℕ) (s : Option ℕ) → link_of heads next' l s ≡ link_of heads next l s
-  link_same heads next next' same l None = refl
-  link_same heads next next' same l (Some i) = same i
+  link_same : (heads next next' : ℕ → ℕ) → ((k l q : ℕ) → At k l q → next' k ≡ next k) → (l : ℕ) (s : Option ℕ) (b : ℕ) → IsFrom At l s b → link_of heads next' l s ≡ link_of heads next l s
+  link_same heads next next' same l None b f = refl
+  link_same heads next next' same l (Some i) b (q, at, e) = same i l q at
 
   -- the same cells stand at the same places, with the same links
-  pub lines_same : (heads next next' : ℕ → ℕ) → ((k : ℕ) → next' k ≡ next k) → AreLines At heads next → AreLines Now heads next'
-  lines_same heads next next' same lines = record { linked = λ l s b f. rw (link_same heads next next' same l s) (next_same l b (link_of heads next l s) (lines.linked l s b (from_same l s b f))) }
+  pub lines_same : (heads next next' : ℕ → ℕ) → ((k l q : ℕ) → At k l q → next' k ≡ next k) → AreLines At heads next → AreLines Now heads next'
+  lines_same heads next next' same lines = record {
+    linked = λ l s b f.
+        let g = from_same l s b f in
+        rw (link_same heads next next' same l s b g) (next_same l b (link_of heads next l s) (lines.linked l s b g));
+  }
 
 module _ (cells : List Cell) (rh ch : List ℕ) (free : ℕ) (store : IsStore cells rh ch free) (j r c : ℕ) (here : IsAt cells j r c) (v : ℤ) (number : v ≢ pos 0) where
   abbrev pub other : List Cell
@@ -73,13 +77,12 @@ module _ (cells : List Cell) (rh ch : List ℕ) (free : ℕ) (store : IsStore ce
 
   pub changed : IsStore other rh ch free
   changed = record {
-    rows_linked = lines_same (InRow cells) (InRow other) before_at now_at (head_at rh) (next_in_row_at cells) (next_in_row_at other) (read_same (λ (y : Cell). y.next_in_row) (λ y. refl)) store.rows_linked;
-    columns_linked = lines_same (InColumn cells) (InColumn other) (λ i l q at. before_at i q l at) (λ i l q at. now_at i q l at) (head_at ch) (next_in_column_at cells) (next_in_column_at other) (read_same (λ (y : Cell). y.next_in_column) (λ y. refl)) store.columns_linked;
+    rows_linked = lines_same (InRow cells) (InRow other) before_at now_at (head_at rh) (next_in_row_at cells) (next_in_row_at other) (λ k l q at. read_same (λ (y : Cell). y.next_in_row) (λ y. refl) k) store.rows_linked;
+    columns_linked = lines_same (InColumn cells) (InColumn other) (λ i l q at. before_at i q l at) (λ i l q at. now_at i q l at) (head_at ch) (next_in_column_at cells) (next_in_column_at other) (λ k l q at. read_same (λ (y : Cell). y.next_in_column) (λ y. refl) k) store.columns_linked;
     row_within = λ i m q at. store.row_within i m q (before_at i m q at);
     column_within = λ i m q at. store.column_within i m q (before_at i m q at);
     one_cell = one_now;
     few = rw other_length store.few;
-    enough = rw other_length store.enough;
     order = store.order;
     freed = free_kept cells other other_length store.order free (λ k has y. (value_other k (not_j k y), read_same (λ (y : Cell). y.next_in_row) (λ y. refl) k)) store.freed;
     rest = λ i lt z. elim (cases_eq i j) [

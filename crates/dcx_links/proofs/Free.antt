@@ -2,7 +2,7 @@
 use Rattle.std.proofs.Common.{◌≡◌, ◌≢◌, ℕ, zero, suc, ◌+◌, ◌*◌, ◌<◌, ◌≤◌, ◌⊎◌, inl, inr, List, [], ◌∷◌, length, refl, sym, subst, ap, arith, pos}
 use Rattle.std.proofs.Math.Nat.{mul-le-mul_right}
 use Rattle.dcx_links.specs.declared.store.Cell.{Cell}
-use Rattle.dcx_links.specs.Lines.{Has}
+use Rattle.dcx_links.specs.Lines.{none, Has}
 use Rattle.dcx_links.specs.Cells.{cell_at, IsAt, IsStore, AreFree}
 use Rattle.dcx_math.proofs.Pigeons.{pigeons}
 
@@ -30,7 +30,7 @@ place_of cells w r c zero = r * w + c
 place_of cells w r c (suc i) = (cell_at cells i).row * w + (cell_at cells i).column
 
 module _ (cells : List Cell) (rh ch : List ℕ) (j : ℕ) (store : IsStore cells rh ch j) (r c : ℕ) (row_in : r < length rh) (column_in : c < length ch)
-    (empty : (i : ℕ) → ¬ IsAt cells i r c) where
+    (enough : j ≡ none → length rh * length ch ≤ length cells) (empty : (i : ℕ) → ¬ IsAt cells i r c) where
   module _ (full : (i : ℕ) → i < length cells → (cell_at cells i).value ≢ pos 0) where
     here : (i : ℕ) → i < length cells → IsAt cells i (cell_at cells i).row (cell_at cells i).column
     here i lt = record { number = full i lt; in_row = refl; in_column = refl }
@@ -54,11 +54,11 @@ module _ (cells : List Cell) (rh ch : List ℕ) (j : ℕ) (store : IsStore cells
         let same : i ≡ k = store.one_cell i k (cell_at cells k).row (cell_at cells k).column (record { number = at.number; in_row = f.0; in_column = f.1 }) to in
         omega (arith, same)
 
-    not_full : ⊥
-    not_full = let z = pigeons (length rh * length ch) (suc (length cells)) (place_of cells (length ch) r c) below different in let y = store.enough in omega (arith, z, y)
+    not_full : j ≢ none
+    not_full led = let z = pigeons (length rh * length ch) (suc (length cells)) (place_of cells (length ch) r c) below different in let y = enough led in omega (arith, z, y)
 
   pub some_free : (free : List ℕ) × AreFree cells j (j ∷ free) × ((i : ℕ) → i < length cells → (cell_at cells i).value ≡ pos 0 → Has (j ∷ free) i)
   some_free = elim store.order as (λ o. AreFree cells j o → ((i : ℕ) → i < length cells → (cell_at cells i).value ≡ pos 0 → Has o i) → (free : List ℕ) × AreFree cells j (j ∷ free) × ((i : ℕ) → i < length cells → (cell_at cells i).value ≡ pos 0 → Has (j ∷ free) i)) [
-    | [] ↦ λ f rest. absurd (not_full (λ i lt e. rest i lt e))
+    | [] ↦ λ f rest. absurd (not_full (λ i lt e. rest i lt e) f)
     | k ∷ ks ↦ λ f rest. let P : ℕ → Type 0 = λ n. AreFree cells j (n ∷ ks) × ((i : ℕ) → i < length cells → (cell_at cells i).value ≡ pos 0 → Has (n ∷ ks) i) in let g : P j = subst P (sym f.0) (f, rest) in (ks, g.0, g.1)
   ] store.freed store.rest

@@ -240,7 +240,6 @@ module _ (cells : List Cell) (rh ch : List ℕ) (j : ℕ) (store : IsStore cells
     column_within = λ i r c at. rw (length_head ch x.column t j) (elim (old_at i r c at) [ inl k ↦ store.column_within i r c k | inr (e, p, q) ↦ rw q column_in ]);
     one_cell = one_new;
     few = rw new_length store.few;
-    enough = rw (new_length, length_head rh x.row s j, length_head ch x.column t j) store.enough;
     order = free;
     freed = new_free;
     rest = new_rest;

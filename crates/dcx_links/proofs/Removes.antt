@@ -142,7 +142,6 @@ module _ (cells : List Cell) (rh ch : List ℕ) (free : ℕ) (store : IsStore ce
     column_within = λ i m q at. rw (length_head ch c t (next_in_column_at cells j)) (store.column_within i m q (left i m q at).0);
     one_cell = λ i k m q f g. store.one_cell i k m q (left i m q f).0 (left k m q g).0;
     few = rw less_length store.few;
-    enough = rw (less_length, length_head rh r s (next_in_row_at cells j), length_head ch c t (next_in_column_at cells j)) store.enough;
     order = j ∷ store.order;
     freed = less_free;
     rest = less_rest;

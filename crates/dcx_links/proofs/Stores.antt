@@ -54,6 +54,30 @@ module _ (cells : List Cell) (rh ch : List ℕ) (free : ℕ) (store : IsStore ce
     pub number_found : link ≢ none → (cell_at cells link).column ≡ column → (cell_at cells link).value ≡ cell_number cells row column
     number_found d e = sym (number_is cells store.one_cell link row column (found d e))
 
+  module _ (row column : ℕ) (s : Option ℕ) (b link : ℕ) (spot : IsSpot (InColumn cells) column row s b link) where
+    real_below : (i m q : ℕ) → InColumn cells i m q → i < none
+    real_below i m q at = at_real i q m at
+
+    pub empty_none_below : link ≡ none → (i : ℕ) → ¬ IsAt cells i row column
+    empty_none_below e i at = let z = nothing_from (InColumn cells) column b row link spot.next spot.within real_below e i row at in let y = spot.within in omega (arith, z, y)
+
+    leads_below : link ≢ none → Leads (InColumn cells) column b link
+    leads_below d = leads_on (InColumn cells) column b row link spot.next spot.within real_below d
+
+    pub link_within_below : link ≢ none → link < length cells
+    link_within_below d = at_within cells link (leads_below d).here.number
+
+    pub empty_other_below : link ≢ none → (cell_at cells link).row ≢ row → (i : ℕ) → ¬ IsAt cells i row column
+    empty_other_below d e i at =
+        let h = leads_below d in
+        let z = h.first i row at spot.within in
+        let y = spot.gap link h.position h.here h.beyond in
+        let x = h.here.in_row in
+        e (omega (arith, z, y, x))
+
+    pub number_found_below : link ≢ none → (cell_at cells link).row ≡ row → (cell_at cells link).value ≡ cell_number cells row column
+    number_found_below d e = let h = (leads_below d).here in sym (number_is cells store.one_cell link row column (record { number = h.number; in_row = e; in_column = h.in_column }))
+
   -- a walk along a row
   module _ (row b link : ℕ) (next : IsNext (InRow cells) row b link) where
     pub walk_leads : link ≢ none → Leads (InRow cells) row b link

@@ -67,11 +67,6 @@ abbrev pub AreFree : List Cell → ℕ → List ℕ → Type 0
 AreFree cells head [] = head ≡ none
 AreFree cells head (k ∷ ks) = (head ≡ k) × (k < length cells) × ((cell_at cells k).value ≡ pos 0) × (¬ Has ks k) × AreFree cells (next_in_row_at cells k) ks
 
--- the numbers below n, the largest first
-abbrev pub down : ℕ → List ℕ
-down zero = []
-down (suc n) = n ∷ down n
-
 -- what the cells keep
 pub record IsStore (cells : List Cell) (row_heads column_heads : List ℕ) (free : ℕ) : Type 0 where
   pub rows_linked : AreLines (InRow cells) (head_at row_heads) (next_in_row_at cells)
@@ -80,7 +75,6 @@ pub record IsStore (cells : List Cell) (row_heads column_heads : List ℕ) (free
   pub column_within : (i r c : ℕ) → IsAt cells i r c → c < length column_heads
   pub one_cell : (i j r c : ℕ) → IsAt cells i r c → IsAt cells j r c → i ≡ j
   pub few : length cells ≤ none
-  pub enough : length row_heads * length column_heads ≤ length cells
   pub order : List ℕ
   pub freed : AreFree cells free order
   pub rest : (i : ℕ) → i < length cells → (cell_at cells i).value ≡ pos 0 → Has order i

@@ -7,7 +7,8 @@
 //! A number is put at its place from the cell where the last number of its row, or of its column, was written, if that cell
 //! still stands before it, and else from the head. So numbers that are written by rising rows and columns find their places in
 //! one pass down each chain. A number is read from the cell before the place that was read last, if that stands in its row and
-//! before it, so that a row read by rising columns is passed once. Where a search begins decides nothing but the time.
+//! before it, or from the cell of its column that was seen last, if that stands before it, so that a row read by rising columns, and a
+//! column read by rising rows, is passed once. Where a search begins decides nothing but the time.
 #![tactic(auto)]
 
 pub mod laws;

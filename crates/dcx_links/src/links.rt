@@ -4,7 +4,7 @@ ghost use Prim.Native.Nat.{◌∣◌};
 ghost use Rattle.dcx_math.specs.Divisors.{divided};
 ghost use Rattle.dcx_links.specs.Matrix.{number_at, row_of, column_of};
 
-use crate::number::number_near;
+use crate::number::{Seen, number_near};
 use crate::pair::{Ahead, PairWalk};
 use crate::reserve::{make_heads, store_of};
 use crate::rewrite::{divide_row, multiply_row};
@@ -21,7 +21,7 @@ pub struct Links {
     store: Store,
     near_rows: Vec<u32>,
     near_columns: Vec<u32>,
-    seen: Cell<u32>,
+    seen: Seen,
 }
 
 impl Model for Links {
@@ -52,7 +52,10 @@ impl Links {
             store,
             near_rows,
             near_columns,
-            seen: Cell::new(NONE),
+            seen: Seen {
+                in_row: Cell::new(NONE),
+                in_column: Cell::new(NONE),
+            },
         })
     }
 

@@ -1,7 +1,7 @@
-//! A matrix of zeros.
-ghost use Rattle.std.specs.Prelude.{◌≡◌, ◌≤◌, ℕ, length, pos, IfOk};
+//! A matrix of zeros, and cells that are made as they are needed.
+ghost use Rattle.std.specs.Prelude.{◌≡◌, ◌≤◌, ℕ, length, pos, IfOk, vec_capacity};
 ghost use Rattle.dcx_links.specs.Lines.{none};
-ghost use Rattle.dcx_links.specs.Cells.{head_at, cell_at, AreFree, down, number_in, IsSound};
+ghost use Rattle.dcx_links.specs.Cells.{head_at, number_in, IsSound};
 
 use crate::store::{Cell, NONE, Store};
 use std::alloc::{AllocError, Global};
@@ -18,27 +18,6 @@ pub(crate) fn make_heads(alloc: Global, count: u32) -> Result<Vec<u32>, AllocErr
     Ok(heads)
 }
 
-/// So many cells without a number, each with a link to the one before it.
-fn make_cells(alloc: Global, count: u32) -> Result<(Vec<Cell>, u32), AllocError>
-    ensures count { IfOk result (λ p. length p.0.items ≡ count) }
-    ensures zeros { IfOk result (λ p. (i : ℕ) → (cell_at p.0.items i).value ≡ pos 0) }
-    ensures free { IfOk result (λ p. AreFree p.0.items p.1 (down count)) }
-{
-    let mut cells = Vec::new(alloc);
-    let mut free = NONE;
-    for i in 0..count {
-        cells.push(Cell {
-            value: 0,
-            row: 0,
-            column: 0,
-            next_in_row: free,
-            next_in_column: NONE,
-        })?;
-        free = i;
-    }
-    Ok((cells, free))
-}
-
 /// A matrix of zeros, with the memory for each place.
 pub(crate) fn store_of(alloc: Global, rows: u32, columns: u32) -> Result<Store, AllocError>
     ensures sound { IfOk result IsSound }
@@ -52,11 +31,36 @@ pub(crate) fn store_of(alloc: Global, rows: u32, columns: u32) -> Result<Store, 
     }
     let row_heads = make_heads(alloc, rows)?;
     let column_heads = make_heads(alloc, columns)?;
-    let (cells, free) = make_cells(alloc, count as u32)?;
+    let cells = Vec::with_capacity(alloc, count as usize)?;
     Ok(Store {
         cells,
         row_heads,
         column_heads,
-        free,
+        free: NONE,
     })
+}
+
+/// Makes a cell where none is free and there is room for one.
+pub(crate) fn make_free(store: &mut Store)
+    requires sound { IsSound store.old }
+    ensures sound { IsSound store.new }
+    ensures ready { store.new.free ≡ none → vec_capacity store.new.cells ≤ length store.new.cells.items }
+    ensures rows { length store.new.row_heads.items ≡ length store.old.row_heads.items }
+    ensures columns { length store.new.column_heads.items ≡ length store.old.column_heads.items }
+    ensures same { (r c : ℕ) → number_in store.new r c ≡ number_in store.old r c }
+{
+    if store.free != NONE {
+        return;
+    }
+    let at = store.cells.len();
+    if at < store.cells.capacity() {
+        store.cells.push_reserved(Cell {
+            value: 0,
+            row: 0,
+            column: 0,
+            next_in_row: NONE,
+            next_in_column: NONE,
+        });
+        store.free = at as u32;
+    }
 }

@@ -1,9 +1,10 @@
 //! Numbers put at places, and taken from them.
-ghost use Rattle.std.specs.Prelude.{◌≡◌, ◌≢◌, ℕ, ◌<◌, ◌^◌, length, pos, ◌-ℤ◌, unsigned_abs, IfSome};
-ghost use Rattle.dcx_links.specs.Lines.{IsSpot, link_of};
+ghost use Rattle.std.specs.Prelude.{◌≡◌, ◌≢◌, ℕ, ◌<◌, ◌≤◌, ◌^◌, length, pos, ◌-ℤ◌, unsigned_abs, IfSome, vec_capacity};
+ghost use Rattle.dcx_links.specs.Lines.{none, IsSpot, link_of};
 ghost use Rattle.dcx_links.specs.Cells.{head_at, InRow, InColumn, IsAt, next_in_row_at, next_in_column_at, bound_in_row, bound_in_column, number_in, with_next_in_row, with_next_in_column, with_head, IsSound};
 
 use crate::number::number_at_spot;
+use crate::reserve::make_free;
 use crate::search::{Spot, column_spot, is_there, row_spot};
 use crate::store::{Cell, NONE, Store};
 
@@ -12,6 +13,7 @@ fn link_row(cells: &mut Vec<Cell>, heads: &mut Vec<u32>, row: u32, from: Option<
     requires within { row < length heads.old.items }
     requires from { IfSome from (λ i. i < length cells.old.items) }
     ensures cells { cells.new.items ≡ with_next_in_row cells.old.items from to }
+    ensures room { vec_capacity cells.new ≡ vec_capacity cells.old }
     ensures heads { heads.new.items ≡ with_head heads.old.items row from to }
 {
     match from {
@@ -25,6 +27,7 @@ fn link_column(cells: &mut Vec<Cell>, heads: &mut Vec<u32>, column: u32, from: O
     requires within { column < length heads.old.items }
     requires from { IfSome from (λ i. i < length cells.old.items) }
     ensures cells { cells.new.items ≡ with_next_in_column cells.old.items from to }
+    ensures room { vec_capacity cells.new ≡ vec_capacity cells.old }
     ensures heads { heads.new.items ≡ with_head heads.old.items column from to }
 {
     match from {
@@ -43,6 +46,7 @@ fn insert_at(
     in_column: Spot,
 ) -> u32
     requires sound { IsSound store.old }
+    requires ready { store.old.free ≡ none → vec_capacity store.old.cells ≤ length store.old.cells.items }
     requires row { row < length store.old.row_heads.items }
     requires column { column < length store.old.column_heads.items }
     requires number { value ≢ pos 0 }
@@ -150,6 +154,7 @@ pub(crate) struct Near {
 /// Puts a number other than 0 at a place that has none.
 fn put_in(store: &mut Store, row: u32, column: u32, value: i128, in_row: Spot, near: u32) -> Near
     requires sound { IsSound store.old }
+    requires ready { store.old.free ≡ none → vec_capacity store.old.cells ≤ length store.old.cells.items }
     requires row { row < length store.old.row_heads.items }
     requires column { column < length store.old.column_heads.items }
     requires number { value ≢ pos 0 }
@@ -197,6 +202,7 @@ fn take_out(store: &mut Store, row: u32, column: u32, in_row: Spot, near: u32) -
 /// Answers the cells at the place, or before it, as far as it found them.
 fn put_at(store: &mut Store, row: u32, column: u32, value: i128, in_row: Spot, near: u32) -> Near
     requires sound { IsSound store.old }
+    requires ready { store.old.free ≡ none → vec_capacity store.old.cells ≤ length store.old.cells.items }
     requires row { row < length store.old.row_heads.items }
     requires column { column < length store.old.column_heads.items }
     requires in_row { IsSpot (InRow store.old.cells.items) row column in_row.from (bound_in_row store.old.cells.items in_row.from) in_row.link }
@@ -237,6 +243,7 @@ pub(crate) fn put(store: &mut Store, row: u32, column: u32, value: i128, near: N
     ensures there { number_in store.new row column ≡ value }
     ensures same { (r c : ℕ) → ¬ ((r ≡ row) × (c ≡ column)) → number_in store.new r c ≡ number_in store.old r c }
 {
+    make_free(store);
     let in_row = row_spot(&store.cells, &store.row_heads, row, column, near.in_row);
     put_at(store, row, column, value, in_row, near.in_column)
 }
@@ -253,6 +260,7 @@ pub(crate) fn lessen(store: &mut Store, row: u32, column: u32, by: i128, near: N
     ensures there { number_in store.new row column ≡ number_in store.old row column -ℤ by }
     ensures same { (r c : ℕ) → ¬ ((r ≡ row) × (c ≡ column)) → number_in store.new r c ≡ number_in store.old r c }
 {
+    make_free(store);
     let in_row = row_spot(&store.cells, &store.row_heads, row, column, near.in_row);
     let number = number_at_spot(store, row, column, in_row);
     put_at(store, row, column, number - by, in_row, near.in_column)

@@ -10,7 +10,7 @@ ghost use Rattle.dcx_linear.specs.Widths.{form_width};
 ghost use Rattle.dcx_std.specs.WholeRows.{coefficients, opposite, row_numbers, cost_numbers, numerators, divisor_of, whole_row_of, IsSparseForm};
 
 use crate::multiple::{least_multiple, whole_number};
-use dcx_frac::{Frac, gcd};
+use dcx_frac::{Frac, Passes, gcd};
 use dcx_linear::{CoefStop, Form, RowKind};
 use dcx_tab::Ints;
 use std::alloc::{AllocError, Global};
@@ -109,6 +109,18 @@ pub(crate) fn numerator(number: Frac) -> i128
     number.num()
 }
 
+/// The product of two numbers. Most numbers of a row are 0, and a product with 0 isn't formed.
+///
+/// `Passes` where the product passes 128 bits.
+fn times(by: &Frac, number: &Frac) -> Result<Frac, Passes>
+    ensures { result ≡ product_of by.now number.now }
+{
+    if number.is_zero() {
+        return Ok(Frac::zero());
+    }
+    by.mul(*number)
+}
+
 /// The products with a number, which are whole.
 ///
 /// `Passes` where a product passes 128 bits: the first one.
@@ -117,19 +129,22 @@ fn products(alloc: Global, by: &Frac, numbers: &[Frac]) -> Result<Vec<i128>, Coe
 {
     let mut products = Vec::with_capacity(alloc, numbers.len())?;
     'numbers: for number in numbers {
-        let product = by.mul(*number)?;
+        let product = times(by, number)?;
         products.push(numerator(product))?;
     }
     Ok(products)
 }
 
-/// The greatest common divisor.
+/// The greatest common divisor, looked for until it is 1.
 fn common_divisor(numbers: &[i128]) -> u128
     ensures { result ≡ gcd_of numbers.now }
 {
     let mut found = 0;
     'numbers: for number in numbers {
         found = gcd(found, number.unsigned_abs());
+        if found == 1 {
+            return 1;
+        }
     }
     found
 }
@@ -153,12 +168,12 @@ fn signed(number: u128) -> i128
     number as i128
 }
 
-/// The number divided. A division takes ten times as long as the test for 1, the usual divisor.
+/// The number divided.
 fn quotient(number: i128, by: i128) -> i128
     requires { pos 0 <ℤ by }
     ensures { result ≡ divided (unsigned_abs by) number }
 {
-    if by == 1 { number } else { number / by }
+    number / by
 }
 
 /// The numbers divided.
@@ -171,6 +186,17 @@ fn quotients(alloc: Global, numbers: &[i128], by: i128) -> Result<Vec<i128>, All
         quotients.push(quotient(*number, by))?;
     }
     Ok(quotients)
+}
+
+/// The numbers divided. The usual divisor is 1, and then nothing is to be done.
+fn reduced(alloc: Global, numbers: Vec<i128>, by: i128) -> Result<Vec<i128>, AllocError>
+    requires { pos 0 <ℤ by }
+    ensures { IfOk result (λ v. v.items ≡ map (divided (unsigned_abs by)) numbers.items) }
+{
+    if by == 1 {
+        return Ok(numbers);
+    }
+    quotients(alloc, &numbers, by)
 }
 
 /// The fraction `multiple / divisor`.
@@ -200,7 +226,7 @@ pub(crate) fn whole_row(
     let multiple = least_multiple(form)?;
     let products = products(alloc, &whole_number(multiple), numbers)?;
     let by = signed(divisor(&products));
-    let quotients = quotients(alloc, &products, by)?;
+    let quotients = reduced(alloc, products, by)?;
     Ok(WholeRow {
         kind,
         numbers: Ints::from_vec(quotients),

@@ -3,7 +3,7 @@ use Rattle.std.proofs.Common.{rules, arith, ◌≡◌, ◌∷◌, ◌++◌, [], 
 use Rattle.std.specs.Int.{w128}
 use Rattle.std.proofs.lemmas.Bool.{cases_eq}
 use Rattle.std.proofs.lemmas.List.{get_or-map}
-use Rattle.dcx_tab.specs.Rows.{Row, row_at}
+use Rattle.dcx_tab.specs.Rows.{Row, entry, row_at}
 use Rattle.dcx_tab.specs.Program.{tableau_row}
 use Rattle.dcx_links.specs.Matrix.{row_of}
 use Rattle.dcx_chained.proofs.build.put_rows.Goals as goal
@@ -52,4 +52,8 @@ rows-preserved c =
         | inl q ↦ subst (λ x. row_of c.put_line.new.links x ≡ row_at (map tableau_row c.args.rows.now) x) (sym q) here
         | inr d ↦ n.same k d ∙ v.there k (omega (arith, lt, d))
       ];
+      same = λ k le. n.same k (λ e. omega (arith, e, le)) ∙ v.same k (omega (arith, le));
     }
+
+pub put_line-requires-clause-zeros : goal.put_line-requires-clause-zeros
+put_line-requires-clause-zeros c = λ j. ap (λ (r : Row). entry r j) (c.rows.invariant.same c.rows.k (omega arith)) ∙ c.requires.zeros c.rows.k j

@@ -1,5 +1,5 @@
 -- The rows so far are put.
-use Rattle.std.proofs.Common.{◌≡◌, ℕ, ◌<◌, map}
+use Rattle.std.proofs.Common.{◌≡◌, ℕ, ◌<◌, ◌≤◌, map}
 use Rattle.dcx_tab.specs.Program.{tableau_row}
 use Rattle.dcx_tab.specs.Rows.{row_at}
 use Rattle.dcx_links.specs.Matrix.{row_of}
@@ -10,4 +10,5 @@ invariant-rows l = record {
   height : l.links.height ≡ l.initial.links.height;
   width : l.links.width ≡ l.initial.links.width;
   there : (k : ℕ) → k < l.k → row_of l.links k ≡ row_at (map tableau_row l.rows) k;
+  same : (k : ℕ) → l.k ≤ k → row_of l.links k ≡ row_of l.initial.links k;
 }

@@ -12,7 +12,7 @@ use Rattle.dcx_links.proofs.write.insert_at.Goals as goal
 pub index-requires : goal.index-requires
 index-requires c =
     let o = c.args.store.now in
-    let f = some_free o.cells.items o.row_heads.items o.column_heads.items o.free c.requires.sound c.args.row c.args.column c.requires.row c.requires.column c.requires.empty in
+    let f = some_free o.cells.items o.row_heads.items o.column_heads.items o.free c.requires.sound c.args.row c.args.column c.requires.row c.requires.column (λ e. let r = c.requires.ready e in let k = o.enough in omega (arith, r, k)) c.requires.empty in
     let l = o.cells.ok.0 in
     let z = f.1.1 in
     omega (arith, z, l)
@@ -20,7 +20,7 @@ index-requires c =
 pub index_mut-requires : goal.index_mut-requires
 index_mut-requires c =
     let o = c.args.store.now in
-    let f = some_free o.cells.items o.row_heads.items o.column_heads.items o.free c.requires.sound c.args.row c.args.column c.requires.row c.requires.column c.requires.empty in
+    let f = some_free o.cells.items o.row_heads.items o.column_heads.items o.free c.requires.sound c.args.row c.args.column c.requires.row c.requires.column (λ e. let r = c.requires.ready e in let k = o.enough in omega (arith, r, k)) c.requires.empty in
     let l = o.cells.ok.0 in
     let z = f.1.1 in
     omega (arith, z, l)
@@ -28,7 +28,7 @@ index_mut-requires c =
 pub returns-clause-sound : goal.returns-clause-sound
 returns-clause-sound c =
     let o = c.args.store.now in
-    let f = some_free o.cells.items o.row_heads.items o.column_heads.items o.free c.requires.sound c.args.row c.args.column c.requires.row c.requires.column c.requires.empty in
+    let f = some_free o.cells.items o.row_heads.items o.column_heads.items o.free c.requires.sound c.args.row c.args.column c.requires.row c.requires.column (λ e. let r = c.requires.ready e in let k = o.enough in omega (arith, r, k)) c.requires.empty in
     let a = c.args.in_row in
     let b = c.args.in_column in
     let p : IsSpot (InRow o.cells.items) c.args.row c.args.column a.from (bound_in_row o.cells.items a.from) a.link = c.requires.in_row in
@@ -44,7 +44,7 @@ returns-clause-sound c =
 pub returns-clause-there : goal.returns-clause-there
 returns-clause-there c =
     let o = c.args.store.now in
-    let f = some_free o.cells.items o.row_heads.items o.column_heads.items o.free c.requires.sound c.args.row c.args.column c.requires.row c.requires.column c.requires.empty in
+    let f = some_free o.cells.items o.row_heads.items o.column_heads.items o.free c.requires.sound c.args.row c.args.column c.requires.row c.requires.column (λ e. let r = c.requires.ready e in let k = o.enough in omega (arith, r, k)) c.requires.empty in
     let a = c.args.in_row in
     let b = c.args.in_column in
     let p : IsSpot (InRow o.cells.items) c.args.row c.args.column a.from (bound_in_row o.cells.items a.from) a.link = c.requires.in_row in
@@ -60,7 +60,7 @@ returns-clause-there c =
 pub returns-clause-same : goal.returns-clause-same
 returns-clause-same c =
     let o = c.args.store.now in
-    let f = some_free o.cells.items o.row_heads.items o.column_heads.items o.free c.requires.sound c.args.row c.args.column c.requires.row c.requires.column c.requires.empty in
+    let f = some_free o.cells.items o.row_heads.items o.column_heads.items o.free c.requires.sound c.args.row c.args.column c.requires.row c.requires.column (λ e. let r = c.requires.ready e in let k = o.enough in omega (arith, r, k)) c.requires.empty in
     let a = c.args.in_row in
     let b = c.args.in_column in
     let p : IsSpot (InRow o.cells.items) c.args.row c.args.column a.from (bound_in_row o.cells.items a.from) a.link = c.requires.in_row in

@@ -19,7 +19,7 @@ numbers-preserved c =
     let pushed = simp to_z-of_z at c.in_ok-push.ensures.items in
     let number = c.numerator.ensures.value in
     let next = numerators_more f (drop i xs) (drop (i + 1) xs) c.number-item.result c.numbers.products.items c.in_ok-product.product
-    (drop_at xs i c.number-item.result (omega arith) c.number-item.is) (sym c.mul.ensures.answer ∙ c.in_ok-product.was) in
+    (drop_at xs i c.number-item.result (omega arith) c.number-item.is) (sym c.times.ensures ∙ c.in_ok-product.was) in
     ap (λ zs. after zs (numerators (map f (drop (i + 1) xs)))) (pushed ∙ ap (λ z. c.numbers.products.items ++ z ∷ []) number) ∙ sym next ∙ c.numbers.invariant
 
 pub numbers-init : goal.numbers-init
@@ -41,7 +41,7 @@ returns-in_err-product c =
     let i = c.numbers.number-index in
     let x = c.number-item.result in
     rw (p.1, p.2) (sym (numerators_stop (product_of c.args.by.now) (drop i xs) (drop (i + 1) xs) x c.numbers.products.items _ (drop_at xs i x (omega arith) c.number-item.is)
-    (sym c.mul.ensures.answer ∙ c.in_err-product.was)) ∙ c.numbers.invariant)
+    (sym c.times.ensures ∙ c.in_err-product.was)) ∙ c.numbers.invariant)
 
 pub returns-in_err-push : goal.returns-in_err-push
 returns-in_err-push c = let p = err_from_is_err_and c.from_residual-in_err-push.result c.from_residual-in_err-push.ensures.1 in rw (p.1, p.2) tt

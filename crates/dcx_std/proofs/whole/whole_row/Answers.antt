@@ -48,6 +48,6 @@ returns c =
     let quotients = simp to_z-of_z at (c.in_ok-quotients.ensures {u = tt}) in
     let factor = simp to_z-of_z at c.factor.ensures in
     ap₂ (λ a b. Ok (record { kind = c.args.kind; numbers = a; factor = b }))
-    (c.from_vec.ensures ∙ quotients ∙ ap₂ (λ k l. map (divided (unsigned_abs k)) l) by c.deref-2.ensures.value)
+    (c.from_vec.ensures ∙ quotients ∙ ap (λ k. map (divided (unsigned_abs k)) zs) by)
     (factor ∙ ap₂ (λ a b. frac_at (whole a /ℚ whole b)) c.signed.ensures by)
     ∙ sym (whole_row_is c.args.kind c.args.form.now ns m zs is_multiple products)

@@ -1,11 +1,12 @@
 -- The cells have the rows of the first tableau.
 use Rattle.std.proofs.Common.{rules, arith, ◌≡◌, ℕ, ◌+◌, ◌<◌, ◌∷◌, ◌++◌, [], length, map, pos, refl, sym, ap, ◌∙◌, to_z-of_z, SFits}
 use Rattle.std.specs.Int.{w128}
-use Rattle.dcx_tab.specs.Rows.{Row, row_at}
+use Rattle.dcx_tab.specs.Rows.{Row, entry, row_at}
 use Rattle.dcx_tab.specs.Program.{plain_count, tableau_row, objective_row, phase_row}
 use Rattle.dcx_tab.proofs.Programs.{few_in_all, length_basis, plain_count_le, same_table}
 use Rattle.dcx_links.specs.Matrix.{row_of}
 use Rattle.dcx_chained.proofs.Lines.{first_rows, first_small, row_width}
+use Rattle.dcx_chained.proofs.RowReads.{zeros-row_of}
 use Rattle.dcx_chained.proofs.chained.Chained.build.Goals as goal
 
 pub overflow_cast-count : goal.overflow_cast-count
@@ -162,3 +163,17 @@ returns c =
     let at_phase : row_of m (length p.rows + 1) ≡ phase_row p.phase =
     ap (λ n. row_of m (n + 1)) (sym er) ∙ (simp to_z-of_z at c.put_line-2.ensures.row) ∙ ap (λ (xs : Row). xs ++ pos 0 ∷ p.phase.lead ∷ p.phase.right ∷ []) c.as_slice-2.ensures in
     same_table _ _ (first_rows p.rows p.columns p.objective p.phase p.form m high put at_objective at_phase) c.in_ok-basis.ensures kinds (c.plain_of.ensures ∙ ap plain_count c.as_slice-kinds.ensures)
+
+pub put_rows-requires-clause-zeros : goal.put_rows-requires-clause-zeros
+put_rows-requires-clause-zeros c = λ k j. zeros-row_of c.in_ok-links.links k (λ i. c.in_ok-links.ensures.zeros k i) j
+
+pub put_line-requires-clause-zeros : goal.put_line-requires-clause-zeros
+put_line-requires-clause-zeros c = λ j.
+    let k = length c.as_slice-rows.result.now in
+    ap (λ (r : Row). entry r j) (c.put_rows.ensures.same k (omega arith)) ∙ zeros-row_of c.in_ok-links.links k (λ i. c.in_ok-links.ensures.zeros k i) j
+
+pub put_line-requires-2-clause-zeros : goal.put_line-requires-2-clause-zeros
+put_line-requires-2-clause-zeros c = λ j.
+    let k = length c.as_slice-rows.result.now in
+    ap (λ (r : Row). entry r j) (c.put_line.ensures.same (k + 1) (λ e. omega (arith, e)) ∙ c.put_rows.ensures.same (k + 1) (omega arith))
+    ∙ zeros-row_of c.in_ok-links.links (k + 1) (λ i. c.in_ok-links.ensures.zeros (k + 1) i) j
