@@ -80,7 +80,7 @@ module _ (cells : List Cell) (rh ch : List ℕ) (free : ℕ) (store : IsStore ce
   new_cell : cell_at more (length cells) ≡ x
   new_cell = get_or-append_seam cells x [] blank
 
-  now_at : (i r c : ℕ) → IsAt cells i r c → IsAt more i r c
+  pub now_at : (i r c : ℕ) → IsAt cells i r c → IsAt more i r c
   now_at i r c at =
       let e = old_cell i (at_within cells i at.number) in
       record { number = λ z. at.number (sym (ap (λ (y : Cell). y.value) e) ∙ z); in_row = ap (λ (y : Cell). y.row) e ∙ at.in_row; in_column = ap (λ (y : Cell). y.column) e ∙ at.in_column }
