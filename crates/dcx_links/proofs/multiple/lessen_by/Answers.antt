@@ -1,5 +1,5 @@
 -- The next multiple is taken behind those so far, and its column stands before those of the others.
-use Rattle.std.proofs.Common.{rules, arith, ◌≡◌, ℕ, ◌<◌, ◌^◌, ◌-ℤ◌, ◌*ℤ◌, length, unsigned_abs, sym, ap, ◌∙◌, subst, inl, inr, to_z-of_z, SFits}
+use Rattle.std.proofs.Common.{rules, arith, ◌≡◌, ◌<◌, ◌^◌, ◌-ℤ◌, ◌*ℤ◌, unsigned_abs, sym, ap, ◌∙◌, subst, inl, inr, to_z-of_z, SFits}
 use Rattle.std.specs.Int.{w128}
 use Rattle.std.proofs.Math.ListN.{length-set}
 use Rattle.std.proofs.lemmas.Int.{fits_signed_from_abs}

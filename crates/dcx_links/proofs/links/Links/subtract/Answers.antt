@@ -1,5 +1,5 @@
 -- The cells have the differences, and the others as before.
-use Rattle.std.proofs.Common.{rules, ◌≡◌, ℕ, ◌<◌, ◌^◌, ◌-ℤ◌, ◌*ℤ◌, unsigned_abs, ap, sym, ◌∙◌, subst, to_z-of_z, SFits}
+use Rattle.std.proofs.Common.{rules, ◌≡◌, ◌<◌, ◌^◌, ◌-ℤ◌, ◌*ℤ◌, unsigned_abs, ap, sym, ◌∙◌, subst, to_z-of_z, SFits}
 use Rattle.std.specs.Int.{w128}
 use Rattle.dcx_links.specs.Cells.{number_in}
 use Rattle.dcx_links.specs.Entries.{column_at, value_at}
