@@ -3,10 +3,11 @@ from __future__ import annotations
 
 SCRIPT = """
 'use strict';
+const ranks = (row) => row.dataset.k.split(' ');
 for (const table of document.querySelectorAll('table.sortable')) {
   const body = table.tBodies[0];
   [...table.tHead.rows[0].cells].forEach((head, at) => {
-    if (!body.rows.length || body.rows[0].cells[at].dataset.k === undefined) return;
+    if (!body.rows.length || isNaN(ranks(body.rows[0])[at])) return;
     const button = document.createElement('button');
     button.type = 'button';
     button.append(...head.childNodes);
@@ -18,7 +19,7 @@ for (const table of document.querySelectorAll('table.sortable')) {
       for (const other of head.parentNode.children) other.removeAttribute('aria-sort');
       head.setAttribute('aria-sort', now);
       const sign = now === 'ascending' ? 1 : -1;
-      const rows = [...body.rows].map((row) => [Number(row.cells[at].dataset.k), row]);
+      const rows = [...body.rows].map((row) => [Number(ranks(row)[at]), row]);
       rows.sort((a, b) => sign * (a[0] - b[0]));
       body.append(...rows.map((one) => one[1]));
     });
