@@ -1,4 +1,5 @@
-"""The little JavaScript of a page: tables are sorted, and folded parts open to be printed. Without it all is there."""
+"""The little JavaScript of a page: tables are sorted, folded parts open to be printed, and each of many points of a
+plot says what it is when it is pointed at. Without it all is there."""
 from __future__ import annotations
 
 SCRIPT = """
@@ -33,6 +34,13 @@ addEventListener('beforeprint', () => {
   }
 });
 addEventListener('afterprint', () => opened.splice(0).forEach((part) => { part.open = false; }));
+addEventListener('pointerover', ({target}) => {
+  if (target.localName !== 'circle' || target.firstChild) return;
+  const title = document.createElementNS(target.namespaceURI, 'title');
+  const across = target.closest('svg').querySelector('.label').textContent;
+  title.append(`${across} ${target.dataset.x}: ${target.dataset.y}`);
+  target.append(title);
+});
 const follow = () => {
   const target = document.getElementById(location.hash.slice(1));
   const part = target && target.closest('details');
