@@ -35,7 +35,9 @@ addEventListener('load', () => setTimeout(async () => {
   if (window.top !== window) return;
   const seen = {alerts: 0, errors: window.probeErrors || []};
   const timing = performance.getEntriesByType('navigation')[0];
-  seen.opened = timing.domComplete - timing.responseStart;
+  document.body.getBoundingClientRect();  // so that it is laid out
+  seen.opened = performance.now() - timing.responseStart;
+  seen.elements = document.getElementsByTagName('*').length;
   seen.text = document.body.innerText;
   seen.resources = performance.getEntriesByType('resource').map((one) => one.name);
   seen.plots = [...document.querySelectorAll('svg')].map((svg) => {
@@ -246,12 +248,13 @@ class Made(unittest.TestCase):
         for _ in range(2):  # the machine may be busy
             opened = opened if opened < 1000 else min(opened, seen(text)["opened"])
         self.assertLess(opened, 1000)
+        self.assertLess(one["elements"], 18_000)
         self.assertEqual([len(plot["points"]) for plot in one["plots"]], [1000, 1000])
         self.assertEqual(one["told"], last_told(one))
         self.assertEqual(len(one["orders"][0][1]), 1000)
         numbers = [number(cell) for cell in one["orders"][1][1]]
         self.assertEqual(numbers, sorted(numbers, reverse=True))
-        print(f"1,000 settings: {len(text.encode()):,} bytes, opened in {opened:.0f} ms")
+        print(f"1,000 settings: {len(text.encode()):,} bytes, {one['elements']:,} elements, opened in {opened:.0f} ms")
 
 
 if __name__ == "__main__":
