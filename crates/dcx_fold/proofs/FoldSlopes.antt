@@ -75,6 +75,7 @@ group_steps-same p n c v w h =
     (ap₂ (λ xs ys. map (λ x. test (is_weight x)) xs ++ map test ys) (list_below-same (n * member_rows p) v w h) (conditions-same p n c v w h))
     (list_below-same n _ _ (λ i b. ap form (members-same p n v w h i b)))
 
+-- ---- the steps of a group are those of its entry
 group_counted : (p : Fold) (axis : Axis) (s : Sides) (k : ℕ) → length (group_rows p axis s k) ≡ folded_count axis s * member_rows p
 group_counted p axis s k =
     length-joined (folded_count axis s) (member_rows p) (λ i. rows_of_member p (unknown_of p (folded_count axis s) k i) (member axis s k i))
