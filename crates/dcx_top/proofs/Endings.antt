@@ -23,7 +23,7 @@ use Rattle.dcx_answer.specs.declared.range_outcome.RangeOutcome.{RangeOutcome}
 use Rattle.dcx_cache.specs.Programs.{HasMap}
 use Rattle.dcx_outcomes.specs.Outcomes.{Counts}
 use Rattle.dcx_outcomes.specs.Ranges.{HasRange, AreRangeOutcomes}
-use Rattle.dcx_top.specs.Whole.{HasNoWhole}
+use Rattle.dcx_declared.specs.Whole.{HasNoWhole}
 use Rattle.dcx_top.proofs.Counting.{no_more_of}
 use Rattle.dcx_top.specs.Runs.{OrWhole, FromFile, RangesFrom, lacking, ending, ranging, wanting}
 

@@ -12,7 +12,7 @@ use Rattle.dcx_outcomes.specs.Wholes.{AreWholeOutcomes}
 use Rattle.dcx_outcomes.specs.WholeLaws.{AreAlikeWholes}
 use Rattle.dcx_outcomes.proofs.WholeEnds.{wholes_are_one}
 use Rattle.dcx_top.specs.Commands.{AreSettingsOf, limit_of, TellsWholes}
-use Rattle.dcx_top.specs.Whole.{HasNoWhole}
+use Rattle.dcx_declared.specs.Whole.{HasNoWhole}
 use Rattle.dcx_top.specs.Runs.{GivesProblem, IsSolvedRun, IsBranchedRun}
 use Rattle.dcx_top.specs.OneRun.{AreOneRun, told_branched}
 use Rattle.dcx_top.proofs.Refusals.{one_problem, same_command}

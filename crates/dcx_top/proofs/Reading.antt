@@ -20,7 +20,7 @@ use Rattle.dcx_front.proofs.OneVerdict.{acceptance}
 use Rattle.dcx_report.specs.declared.run.Run.{Run}
 use Rattle.dcx_report.specs.declared.run.Run.TheVariants as run
 use Rattle.dcx_top.specs.Files.{most_bytes, refused_at, HasTextOf, ReadsCertificate}
-use Rattle.dcx_top.specs.Whole.{HasNoWhole}
+use Rattle.dcx_declared.specs.Whole.{HasNoWhole}
 use Rattle.dcx_top.specs.Runs.{GivesSettings, GivesSections, EndsFiles, at_certificate, at_memory}
 
 -- ---- the run of a fault

@@ -1,7 +1,6 @@
 -- What a refusal says of files that are told: one fault, and no other.
 use Rattle.std.proofs.Common.{◌≡◌, inl, inr, ℕ, ◌<◌, ◌≤◌, List, length, Some, Ok, Err, refl, sym, ap, subst, ◌∙◌, arith}
 use Rattle.std.proofs.lemmas.Option.{none-some, same_Some}
-use Rattle.std.specs.Prelude.{slice_get}
 use Rattle.dcx_tokens.specs.declared.fault.ReadFault.{ReadFault}
 use Rattle.dcx_tokens.specs.declared.fault.ReadFault.TheVariants as reads
 use Rattle.dcx_tokens.specs.Position.{start_of_text}
@@ -13,7 +12,6 @@ use Rattle.dcx_host.specs.Files.{Files}
 use Rattle.dcx_elab.specs.declared.work.Work.{Work}
 use Rattle.dcx_point.specs.Pairs.{Pairs}
 use Rattle.dcx_tree.specs.Nodes.{Node}
-use Rattle.dcx_call.specs.declared.attribute.Variable.{Variable}
 use Rattle.dcx_tree.specs.declared.problem.Problem.{Problem}
 use Rattle.dcx_shape.specs.declared.place.Place.{Place}
 use Rattle.dcx_answer.specs.declared.not_ranged.NotRanged.{NotRanged as Fault}
@@ -32,11 +30,11 @@ use Rattle.dcx_words.specs.Commands.{Command, check, solve, resolve, certificate
 use Rattle.dcx_top.specs.Commands.{IsScriptOf, script_name, settings_name, certificate_name, parameter_name, AreOfFile, AreSettingsOf}
 use Rattle.dcx_top.specs.Files.{most_bytes, RefusesScript, RefusesSettings}
 use Rattle.dcx_top.specs.Runs.{GivesProblem, IsRefusedRun, long_script, bad_script, for_whole, for_range, bad_settings, long_certificate}
-use Rattle.dcx_top.specs.Stands.{StandsAt}
 use Rattle.dcx_top.specs.NoRange.{IsPlaceOf, IsRefusedForRange, AllowsRange}
 use Rattle.dcx_top.proofs.Named.{reads_no_parameter}
-use Rattle.dcx_top.proofs.Standing.{stands_once}
-use Rattle.dcx_top.specs.Whole.{HasNoWhole, IsFirstWhole, IsRefusedForWhole, RefusesWhole, Takes}
+use Rattle.dcx_declared.specs.Whole.{HasNoWhole}
+use Rattle.dcx_declared.proofs.Marked.{places_are_one}
+use Rattle.dcx_top.specs.Whole.{IsRefusedForWhole, RefusesWhole, Takes}
 
 -- ---- answers of the front
 same_accepted : (a b : Accepted) → ◌≡◌ {A = Given} (Ok a) (Ok b) → a ≡ b
@@ -141,28 +139,17 @@ module _ (words : List (List ℕ)) (files : Files) (command : Command) (form : c
   refuses r (bad_settings c a name e g free allows is (inr (bytes, there, h))) = of_command r c e (in_settings a name bytes g free allows is there h)
   refuses r (long_certificate c f (long, (bytes, there, more))) = of_command r c f.form (in_length f.accepted f.settings f.name bytes f.problem f.continuous f.asked f.named there more long)
 
--- the first variable that is to be whole is one, and so is its name
-one_first : (p : Problem) (i j : ℕ) → IsFirstWhole p i → IsFirstWhole p j → i ≡ j
-one_first p i j h k =
-    let low : i < j → ⊥ = (λ l. k.before i l h.is) in
-    let high : j < i → ⊥ = (λ l. h.before j l k.is) in
-    omega (arith, low, high)
-
-one_variable : (p : Problem) (i j : ℕ) (h : IsFirstWhole p i) (k : IsFirstWhole p j) → h.is.variable ≡ k.is.variable
-one_variable p i j h k = same_Some h.is.variable k.is.variable (sym h.is.there ∙ ap (slice_get p.variables) (one_first p i j h k) ∙ k.is.there)
-
+-- what a script is refused for, where a variable is to be whole, is one
 one_whole : (p : Problem) (r t : Refusal) → IsRefusedForWhole p r → IsRefusedForWhole p t → r ≡ t
 one_whole p r t h k =
-    let name = ap (λ (v : Variable). v.name) (one_variable p h.number k.number h.first k.first) in
-    let place = stands_once p.tree k.first.is.variable.name h.place k.place (subst (λ n. StandsAt p.tree n h.place) name h.stands) k.stands in
-    one_refusal Script 34 k.place Nothing r t (subst (λ z. IsRefusedAs Script 34 z Nothing r) place h.refusal) k.refusal
+    one_refusal Script 34 k.place Nothing r t (subst (λ z. IsRefusedAs Script 34 z Nothing r) (places_are_one.of_wholes p h.place k.place h.stands k.stands) h.refusal) k.refusal
 
 -- what a script is refused for, where a parameter has no range, is one, and so is its place
 one_place : (fault : Fault) (nodes : List Node) (name : List ℕ) (a b : Place) → IsPlaceOf fault nodes name a → IsPlaceOf fault nodes name b → a ≡ b
 one_place faults.Unknown nodes name a b h k = h ∙ sym k
-one_place faults.Shape nodes name a b h k = stands_once nodes name a b h k
-one_place faults.Map nodes name a b h k = stands_once nodes name a b h k
-one_place faults.Coefficient nodes name a b h k = stands_once nodes name a b h k
+one_place faults.Shape nodes name a b h k = places_are_one.of_names nodes name a b h k
+one_place faults.Map nodes name a b h k = places_are_one.of_names nodes name a b h k
+one_place faults.Coefficient nodes name a b h k = places_are_one.of_names nodes name a b h k
 
 one_lack : (p : Problem) (name : List ℕ) (r t : Refusal) → IsRefusedForRange p name r → IsRefusedForRange p name t → r ≡ t
 one_lack p name r t h k =
@@ -191,7 +178,7 @@ module _ (files : Files) (command : Command) where
   whole_or_free : (a b : Accepted) (r : Refusal) → GivesProblem (Some files) command a → GivesProblem (Some files) command b → IsRefusedForWhole a.work.problem r → HasNoWhole b.work.problem → ⊥
   whole_or_free a b r g i h free =
       let k = subst (λ (x : Accepted). IsRefusedForWhole x.work.problem r) (one_problem files command a b g i) h in
-      free k.number k.first.is
+      free k.stands.number k.stands.first.is
 
   -- a settings file that gives settings isn't refused
   settings_or_not : (work : Work) (settings : List Pairs) (name bytes : List ℕ) (fault : ReadFault) → AreSettingsOf (Some files) command work settings → settings_name command ≡ Some name

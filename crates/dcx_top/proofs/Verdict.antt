@@ -30,7 +30,8 @@ use Rattle.dcx_top.specs.Commands.{settings_name, certificate_name, AreSettingsO
 use Rattle.dcx_top.specs.Files.{most_bytes, RefusesScript}
 use Rattle.dcx_refusal.specs.declared.refusal.RefusalSource.TheVariants.{Certificate}
 use Rattle.dcx_top.specs.Runs.{GivesProblem, IsChecked, IsSolvedRun, IsBranchedRun, IsFilteredRun, IsRangedRun, IsCertificateRun, HasCertificate, ReadsSections, misread, failed, Causes}
-use Rattle.dcx_top.specs.Whole.{IsWholeAt, RefusesWhole, Takes}
+use Rattle.dcx_declared.specs.Whole.{IsWholeAt}
+use Rattle.dcx_top.specs.Whole.{RefusesWhole, Takes}
 use Rattle.dcx_outcomes.specs.Ranges.{LacksRange}
 use Rattle.dcx_outcomes.proofs.RangeEnds.{range_is_told}
 use Rattle.dcx_top.specs.NoRange.{AllowsRange}
@@ -74,7 +75,7 @@ module _ (files : Files) (command : Command) (script settings certificate : List
 
   at_fault : (r : Refusal) → Refuses files command r → AreAtFault command script settings certificate
   at_fault r (in_script bytes of h) = bad_script (refused_for script r (subst (λ b. RefusesScript b r) (one_script files command bytes script of has.is_script) h))
-  at_fault r (in_problem a g refusing h) = has_whole (without_fault script a (accepted a g)) refusing h.number h.first.is
+  at_fault r (in_problem a g refusing h) = has_whole (without_fault script a (accepted a g)) refusing h.stands.number h.stands.first.is
   at_fault r (in_range a name g free is h) = lacks_range (without_fault script a (accepted a g)) name is h.fault h.lacks
   at_fault r (in_settings a name bytes g free allows is there h) =
       bad_settings (without_fault script a (accepted a g))

@@ -28,7 +28,7 @@ use Rattle.dcx_cert_sections.specs.declared.section.Sections.{Sections}
 use Rattle.dcx_cert_lines.specs.CertText.{cert_text}
 use Rattle.dcx_cert_runs.specs.Checking.{is_cert, AreShown}
 use Rattle.dcx_top.specs.Commands.{IsScriptOf, parameter_name, AreSettingsOf, limit_of, TellsOutcomes, TellsWholes}
-use Rattle.dcx_top.specs.Whole.{HasNoWhole}
+use Rattle.dcx_declared.specs.Whole.{HasNoWhole}
 
 -- The script of the command spells what stands for this work: a problem with its settings. The rules accept the problem, and it is
 -- convex at every fitting setting.

@@ -1,7 +1,6 @@
 -- What contracts cite: commands, files, runs with their causes, how they end, and which are right.
 pub mod Commands
 pub mod Files
-pub mod Stands
 pub mod Whole
 pub mod NoRange
 pub mod Runs

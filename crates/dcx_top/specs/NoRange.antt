@@ -3,6 +3,7 @@ use Rattle.std.specs.Prelude.{◌≡◌, ℕ, List, Some}
 use Rattle.dcx_shape.specs.declared.place.Place.{Place}
 use Rattle.dcx_tree.specs.declared.problem.Problem.{Problem}
 use Rattle.dcx_tree.specs.Nodes.{Node}
+use Rattle.dcx_declared.specs.Stands.{StandsAt}
 use Rattle.dcx_answer.specs.declared.not_ranged.NotRanged.{NotRanged}
 use Rattle.dcx_answer.specs.declared.not_ranged.NotRanged.TheVariants as faults
 use Rattle.dcx_refusal.specs.declared.refusal.Carried.TheVariants as carried
@@ -12,7 +13,6 @@ use Rattle.dcx_refusal.specs.Made.{IsRefusedAs, file_start}
 use Rattle.dcx_words.specs.Commands.{Command}
 use Rattle.dcx_outcomes.specs.Ranges.{HasRange, LacksRange}
 use Rattle.dcx_top.specs.Commands.{parameter_name}
-use Rattle.dcx_top.specs.Stands.{StandsAt}
 
 -- where the refusal stands: at the parameter, or at the start of the script where the problem reaches none
 abbrev pub IsPlaceOf : NotRanged → List Node → List ℕ → Place → Type 0

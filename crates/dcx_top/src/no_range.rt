@@ -3,9 +3,9 @@ ghost use Rattle.std.specs.Prelude.{MatchOption};
 ghost use Rattle.dcx_outcomes.specs.Ranges.{HasRange, LacksRange};
 ghost use Rattle.dcx_top.specs.NoRange.{IsPlaceOf, IsRefusedForRange};
 
-use crate::stands::place_of;
 use dcx_answer::NotRanged;
 use dcx_cache::Session;
+use dcx_declared::place_of;
 use dcx_range::ranged;
 use dcx_refusal::Refusal;
 use dcx_shape::{Name, Place};

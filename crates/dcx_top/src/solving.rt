@@ -12,13 +12,15 @@ ghost use Rattle.dcx_front.specs.Accepts.{IsJudged};
 ghost use Rattle.dcx_words.specs.Commands.{solve as solves, trial as tries, command_of};
 ghost use Rattle.dcx_overlay.specs.Settings.{AreLaidOver};
 ghost use Rattle.dcx_host.specs.Files.{Files};
-ghost use Rattle.dcx_top.specs.Whole.{HasNoWhole, IsRefusedForWhole};
+ghost use Rattle.dcx_declared.specs.Whole.{HasNoWhole};
+ghost use Rattle.dcx_top.specs.Whole.{IsRefusedForWhole};
 ghost use Rattle.dcx_top.specs.Runs.{OrWhole, SolvesAt, BranchesAt, AnswersAt, ResolvesAt, CertifiesAt, FiltersAt, TriesAt, DoesAt, DoesFrom, task_refuses, command_for, Causes};
 
 use crate::certifying::written;
 use crate::files::{ended, read_script, read_settings};
-use crate::whole::{has_whole, refuse_whole};
+use crate::whole::refuse_whole;
 use dcx_cert_runs::certificate;
+use dcx_declared::has_whole;
 use dcx_elab::Work;
 use dcx_front::{Accepted, accept};
 use dcx_host::Library;

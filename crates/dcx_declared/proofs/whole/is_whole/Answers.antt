@@ -1,6 +1,6 @@
 -- The variable is whole where it is marked.
-use Rattle.dcx_top.proofs.Marked.{read_at, marked_is_whole}
-use Rattle.dcx_top.proofs.whole.is_whole.Goals as goal
+use Rattle.dcx_declared.proofs.Marked.{read_at, marked_is_whole}
+use Rattle.dcx_declared.proofs.whole.is_whole.Goals as goal
 
 pub returns : goal.returns
 returns c =

@@ -1,7 +1,7 @@
 -- One more variable isn't whole, or it is the first that is.
 use Rattle.std.proofs.Common.{below_more}
-use Rattle.dcx_top.proofs.Marked.{not_whole}
-use Rattle.dcx_top.proofs.whole.first_whole.Goals as goal
+use Rattle.dcx_declared.proofs.Marked.{not_whole}
+use Rattle.dcx_declared.proofs.whole.first_position.Goals as goal
 
 pub loop-k-preserved : goal.loop-k-preserved
 loop-k-preserved c = below_more _ _ c.loop-k.invariant (not_whole _ _ c.is_whole.result c.is_whole.ensures c.if-is_whole.false)

@@ -1,7 +1,7 @@
 //! Where a declared name stands in a script.
 ghost use Rattle.std.specs.Prelude.{◌≡◌, ◌↔◌, ◌<◌, length, IsTrue, MatchOption, Some};
 ghost use Rattle.dcx_point.specs.Pairs.{same_name};
-ghost use Rattle.dcx_top.specs.Stands.{name_of, IsNamedAt, LacksName, IsFirstNamed, StandsAt, HasName};
+ghost use Rattle.dcx_declared.specs.Stands.{name_of, IsNamedAt, LacksName, IsFirstNamed, StandsAt, HasName};
 
 use dcx_shape::{Name, Place};
 use dcx_tree::{Call, NodeId, Problem, Tree};
@@ -45,7 +45,7 @@ fn first_named(tree: &Tree, name: &Name) -> Option<NodeId>
 }
 
 /// Where the variable or the parameter of this name stands, which the problem reaches.
-pub(crate) fn place_of(problem: &Problem, name: &Name) -> Place
+pub fn place_of(problem: &Problem, name: &Name) -> Place
     requires { HasName problem.now name.now }
     ensures { StandsAt problem.now.tree name.now result }
 {

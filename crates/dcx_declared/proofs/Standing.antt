@@ -1,7 +1,9 @@
 -- Where a declared name stands among the nodes of a tree.
-use Rattle.std.proofs.Common.{◌≡◌, ◌↔◌, inl, inr, IsTrue, ℕ, ◌<◌, ◌≤◌, List, length, Bool, true, false, Option, Some, None, Bor, sym, ap, subst, ◌∙◌, arith}
-use Rattle.std.proofs.lemmas.Option.{none-some, same_Some, slice_get_past}
-use Rattle.std.specs.Prelude.{option_map, option_copied, MatchOption}
+use Rattle.std.proofs.Common.{◌≡◌, ◌↔◌, inl, inr, IsTrue, ℕ, ◌<◌, ◌≤◌, List, length, Bool, true, false, Option, Some, sym, ap, subst, ◌∙◌, arith}
+use Rattle.std.proofs.lemmas.Option.{none-some, same_Some, slice_get_past, slice_get_within, get_or_from_slice_get}
+use Rattle.std.proofs.Math.Logic.{∥∥₁_elim}
+use Rattle.std.specs.Prelude.{option_map, slice_get}
+use Rattle.std.specs.List.{All}
 use Rattle.dcx_point.specs.Pairs.{same_name}
 use Rattle.dcx_point.proofs.Puts.{same_name-refl, same_name-true}
 use Rattle.dcx_arena.specs.Nodes.{call_at, place_at}
@@ -13,16 +15,7 @@ use Rattle.dcx_call.specs.declared.call.Call.TheVariants as calls
 use Rattle.dcx_tree.specs.Nodes.{Node}
 use Rattle.dcx_tree.specs.declared.problem.Problem.{Problem}
 use Rattle.dcx_tree.specs.Problems.{HasCall}
-use Rattle.std.proofs.Math.Logic.{∥∥₁_elim}
-use Rattle.dcx_graph.proofs.Entries.{all_at}
-use Rattle.dcx_range.proofs.Named.{name_is}
-use Rattle.dcx_answer.specs.declared.not_ranged.NotRanged.TheVariants as faults
-use Rattle.dcx_linear.specs.declared.param_form.ParamForm.{ParamForm}
-use Rattle.dcx_graph.specs.declared.reduced.Reduced.{Reduced}
-use Rattle.dcx_cache.specs.Programs.{IsMapOf, HasMap}
-use Rattle.dcx_range.specs.Parameters.{program_in}
-use Rattle.dcx_outcomes.specs.Ranges.{IsKeptProgram, LacksRange}
-use Rattle.dcx_top.specs.Stands.{name_of, IsNamedAt, LacksName, IsFirstNamed, StandsAt, Reaches, HasName}
+use Rattle.dcx_declared.specs.Stands.{name_of, IsNamedAt, LacksName, IsFirstNamed, StandsAt, HasName}
 
 -- a call declares a name where its own is the one
 pub named_is : (name other : List ℕ) (b : Bool) (own : Option (List ℕ)) → own ≡ Some other → b ≡ same_name name other → IsTrue b ↔ (own ≡ Some name)
@@ -64,26 +57,13 @@ stands_once nodes name a b h k = same_Some a b (sym h.stands ∙ ap (place_at no
 call_reached : (p : Problem) (name : List ℕ) (call : Call) → name_of call ≡ Some name → HasCall p.tree call → LacksName p.tree name → ⊥
 call_reached p name call named (i, there) none = none i (record { call = call; there = there; named = named })
 
+all_at : {A : Type 0} (P : A → Type 0) (xs : List A) (k : ℕ) (x : A) → All P xs → slice_get xs k ≡ Some x → P x
+all_at P xs k x h at = subst P (get_or_from_slice_get xs k x x at) (h k x (slice_get_within xs k x at))
+
 pub reached : (p : Problem) (name : List ℕ) → HasName p name → LacksName p.tree name → ⊥
 reached p name (inl (k, v, at, is)) none =
     ∥∥₁_elim p.declared (λ x. absurd x) (λ d. call_reached p name (calls.Variable v) (ap Some is)
     (all_at (λ (x : Variable). HasCall p.tree (calls.Variable x)) p.variables k v d.variables_stand at) none)
-reached p name (inr (k, q, h)) none =
-    ∥∥₁_elim p.declared (λ x. absurd x)
-    (λ d. call_reached p name (calls.Parameter q) (ap Some (name_is p.parameters name k q h.place h.there))
-    (all_at (λ (x : Parameter). HasCall p.tree (calls.Parameter x)) p.parameters k q d.parameters_stand h.there) none)
-
--- what stands against a range, but for its name, is that of a parameter that the problem reaches
-pub lacking_shape : (p : Problem) (name : List ℕ) → LacksRange p name faults.Shape → Reaches p name
-lacking_shape p name h = (h.is_fault.at, h.is_fault.parameter, h.is_fault.named)
-
-pub lacking_map : (p : Problem) (name : List ℕ) → LacksRange p name faults.Map → Reaches p name
-lacking_map p name h = (h.is_fault.0.at, h.is_fault.0.parameter, h.is_fault.0.named)
-
-pub lacking_coefficient : (p : Problem) (name : List ℕ) → LacksRange p name faults.Coefficient → Reaches p name
-lacking_coefficient p name h = (h.is_fault.2.number.at, h.is_fault.2.number.parameter, h.is_fault.2.number.named)
-
--- what a session keeps
-pub kept_of : (p : Problem) (r : Option (Bor (Reduced ParamForm))) → MatchOption r (¬ HasMap p) (λ m. IsMapOf p m.now.program) → IsKeptProgram p (program_in (option_copied r))
-kept_of p None h = h
-kept_of p (Some m) h = h
+reached p name (inr (k, q, at, is)) none =
+    ∥∥₁_elim p.declared (λ x. absurd x) (λ d. call_reached p name (calls.Parameter q) (ap Some is)
+    (all_at (λ (x : Parameter). HasCall p.tree (calls.Parameter x)) p.parameters k q d.parameters_stand at) none)

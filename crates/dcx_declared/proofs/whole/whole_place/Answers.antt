@@ -1,10 +1,10 @@
--- The variable that is read is the first one that is to be whole.
+-- The variable that is read is the first one that is to be whole, and it stands where its name does.
 use Rattle.std.proofs.Common.{◌≡◌, length, inl, refl, sym, ap, subst, ◌∙◌, arith}
 use Rattle.std.proofs.lemmas.Option.{same_Some}
 use Rattle.dcx_call.specs.declared.attribute.Variable.{Variable}
-use Rattle.dcx_top.specs.Stands.{StandsAt}
-use Rattle.dcx_top.proofs.Marked.{read_at, whole_within}
-use Rattle.dcx_top.proofs.whole.refused.Goals as goal
+use Rattle.dcx_declared.specs.Stands.{StandsAt}
+use Rattle.dcx_declared.proofs.Marked.{read_at, whole_within}
+use Rattle.dcx_declared.proofs.whole.whole_place.Goals as goal
 
 pub bounds-as_slice-k : goal.bounds-as_slice-k
 bounds-as_slice-k c =
@@ -27,7 +27,5 @@ returns c =
     record {
       number = c.args.k;
       first = c.requires;
-      place = c.place_of.result;
       stands = subst (λ (x : Variable). StandsAt p.tree x.name c.place_of.result) same c.place_of.ensures;
-      refusal = c.whole_variable.ensures;
     }

@@ -1,8 +1,8 @@
 -- A variable or a parameter declares the name that is its own.
 use Rattle.std.proofs.Common.{ap}
-use Rattle.dcx_top.specs.Stands.{name_of}
-use Rattle.dcx_top.proofs.Standing.{named_is}
-use Rattle.dcx_top.proofs.stands.declares.Goals as goal
+use Rattle.dcx_declared.specs.Stands.{name_of}
+use Rattle.dcx_declared.proofs.Standing.{named_is}
+use Rattle.dcx_declared.proofs.stands.declares.Goals as goal
 
 pub returns-in-Variable : goal.returns-in-Variable
 returns-in-Variable c = named_is c.args.name.now c.in-Variable.variable.name c.is_same.result (name_of c.args.call.now) (ap name_of c.in-Variable.is) c.is_same.ensures

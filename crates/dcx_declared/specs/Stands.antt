@@ -2,13 +2,12 @@
 use Rattle.std.specs.Prelude.{◌≡◌, ℕ, ◌<◌, ◌⊎◌, List, Option, Some, None, slice_get}
 use Rattle.dcx_shape.specs.declared.place.Place.{Place}
 use Rattle.dcx_arena.specs.Nodes.{call_at, place_at}
+use Rattle.dcx_call.specs.declared.attribute.Parameter.{Parameter}
 use Rattle.dcx_call.specs.declared.attribute.Variable.{Variable}
 use Rattle.dcx_call.specs.declared.call.Call.{Call}
 use Rattle.dcx_call.specs.declared.call.Call.TheVariants as calls
-use Rattle.dcx_call.specs.declared.attribute.Parameter.{Parameter}
 use Rattle.dcx_tree.specs.declared.problem.Problem.{Problem}
 use Rattle.dcx_tree.specs.Nodes.{Node}
-use Rattle.dcx_right.specs.Ranges.{HasParameter}
 
 -- the name that a call declares
 abbrev pub name_of : Call → Option (List ℕ)
@@ -40,13 +39,14 @@ pub record StandsAt (nodes : List Node) (name : List ℕ) (place : Place) : Type
   pub stands : place_at nodes node ≡ Some place
 
 -- ---- the names of a problem
--- the problem reaches a variable of this name
+-- a variable of the problem has this name
 abbrev pub HasVariable : Problem → List ℕ → Type 0
 HasVariable p name = (k : ℕ) × (v : Variable) × (slice_get p.variables k ≡ Some v) × (v.name ≡ name)
 
--- the problem reaches a parameter of this name
-abbrev pub Reaches : Problem → List ℕ → Type 0
-Reaches p name = (k : ℕ) × (q : Parameter) × HasParameter p name k q
+-- a parameter has it
+abbrev pub HasParameter : Problem → List ℕ → Type 0
+HasParameter p name = (k : ℕ) × (q : Parameter) × (slice_get p.parameters k ≡ Some q) × (q.name ≡ name)
 
+-- the problem declares it
 abbrev pub HasName : Problem → List ℕ → Type 0
-HasName p name = HasVariable p name ⊎ Reaches p name
+HasName p name = HasVariable p name ⊎ HasParameter p name
