@@ -38,7 +38,12 @@ use Rattle.dcx_words.specs.Commands.{Command, check, solve, resolve, certificate
 use Rattle.dcx_words.specs.Laws.{is_warm_command}
 use Rattle.dcx_trial.specs.Trial.{trial_text}
 use Rattle.dcx_top.specs.Commands.{IsScriptOf, script_name, settings_name, certificate_name, parameter_name, AreOfFile, AreSettingsOf, limit_of, TellsOutcomes, TellsWholes}
-use Rattle.dcx_top.specs.Files.{run_of, RefusesScript, RefusesSettings, EndsAt, refused_at, HasTextOf, ReadsCertificate}
+use Rattle.dcx_top.specs.Files.{RefusesScript, RefusesSettings, HasTextOf}
+use Rattle.dcx_top.specs.Reading.{run_of, EndsAt, refused_at, ReadsCertificate}
+use Rattle.dcx_top.specs.Runs.{GivesProblem, IsSolvedRun, IsBranchedRun, HasCertificate, ReadsSections, HasPassed, misread, failed, long_script, bad_script, for_whole, for_range}
+use Rattle.dcx_top.specs.Runs.{bad_settings, long_certificate, no_script, no_settings, no_certificate, CountsAtMostBeginning, CountsAtMost, none, beginning, solving, Causes}
+use Rattle.dcx_top.specs.Solving.{OrWhole, SolvesAt, BranchesAt, AnswersAt, TriesAt, CertifiesAt, DoesAt, DoesFrom, task_refuses, command_for, RangesFrom, lacking, ending, ranging, wanting}
+use Rattle.dcx_top.specs.Certifying.{GivesSettings, GivesSections, EndsFiles, at_script, at_whole, at_settings, at_certificate, at_memory}
 use Rattle.dcx_top.proofs.Counting.{no_more_of, begun_no_more}
 use Rattle.dcx_top.proofs.Reading.{told_fault}
 use Rattle.dcx_top.specs.NoRange.{AllowsRange}
@@ -48,10 +53,6 @@ use Rattle.dcx_top.specs.Whole.{IsRefusedForWhole, RefusesWhole, Takes}
 use Rattle.dcx_top.specs.Ended.{IsToldOf}
 use Rattle.dcx_top.specs.declared.solving.Task.{Task}
 use Rattle.dcx_top.specs.declared.solving.Task.TheVariants as tasks
-use Rattle.dcx_top.specs.Runs.{GivesProblem, IsSolvedRun, IsBranchedRun, OrWhole, SolvesAt, BranchesAt, AnswersAt, TriesAt, CertifiesAt, DoesAt, DoesFrom, task_refuses}
-use Rattle.dcx_top.specs.Runs.{command_for, GivesSettings, GivesSections, EndsFiles, at_script, at_whole, at_settings, at_certificate, at_memory, HasCertificate, ReadsSections}
-use Rattle.dcx_top.specs.Runs.{HasPassed, misread, failed, long_script, bad_script, for_whole, for_range, bad_settings, long_certificate, no_script, no_settings, no_certificate}
-use Rattle.dcx_top.specs.Runs.{CountsAtMostBeginning, RangesFrom, lacking, ending, ranging, wanting, CountsAtMost, none, beginning, solving, Causes}
 
 pub judged_of : (bytes : List ℕ) (a : Accepted) → Gives bytes (Ok a) → IsJudged a.work.problem a.verdict
 judged_of bytes a g = (acceptance bytes a g).judged

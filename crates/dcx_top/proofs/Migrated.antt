@@ -16,8 +16,8 @@ use Rattle.dcx_words.specs.Commands.{Command, certify, migrate, command_of}
 use Rattle.dcx_top.specs.Commands.{IsScriptOf, script_name, settings_name, certificate_name, parameter_name, AreSettingsOf}
 use Rattle.dcx_top.specs.Whole.{RefusesWhole, Takes}
 use Rattle.dcx_top.specs.NoRange.{AllowsRange}
-use Rattle.dcx_top.specs.Runs.{GivesProblem, HasCertificate, ReadsSections, IsCertRefusedRun, misread, failed, IsRefusedRun}
-use Rattle.dcx_top.specs.Runs.{long_script, bad_script, for_whole, for_range, bad_settings, long_certificate, Causes}
+use Rattle.dcx_top.specs.Runs.{GivesProblem, HasCertificate, ReadsSections, IsCertRefusedRun, misread, failed, IsRefusedRun, long_script, bad_script, for_whole, for_range, bad_settings}
+use Rattle.dcx_top.specs.Runs.{long_certificate, Causes}
 use Rattle.dcx_top.specs.OneRun.{IsAnswered}
 use Rattle.dcx_top.specs.Migrated.{Refuses, MigrateRefusesAsCertify}
 use Rattle.dcx_top.proofs.OneRun.{only_run}

@@ -11,8 +11,8 @@ use Rattle.dcx_report.specs.declared.run.Run.TheVariants as run
 use Rattle.dcx_words.specs.Commands.{Command, check, certificate, certify, migrate, trial, iis, range, command_of}
 use Rattle.dcx_trial.specs.Trial.{trial_text}
 use Rattle.dcx_top.specs.Commands.{IsScriptOf, script_name, settings_name, certificate_name, parameter_name, AreSettingsOf}
-use Rattle.dcx_top.specs.Runs.{GivesProblem, IsSolvedRun, IsBranchedRun, IsRefusedRun, long_script, bad_script, for_whole, for_range, bad_settings, long_certificate}
-use Rattle.dcx_top.specs.Runs.{misread, failed, no_script, no_settings, no_certificate, CountsAtMostBeginning, CountsAtMost, none, beginning, solving, Causes}
+use Rattle.dcx_top.specs.Runs.{GivesProblem, IsSolvedRun, IsBranchedRun, IsRefusedRun, long_script, bad_script, for_whole, for_range, bad_settings, long_certificate, misread, failed}
+use Rattle.dcx_top.specs.Runs.{no_script, no_settings, no_certificate, CountsAtMostBeginning, CountsAtMost, none, beginning, solving, Causes}
 use Rattle.dcx_top.specs.OneRun.{no_files}
 use Rattle.dcx_top.specs.Verdicts.{Has}
 

@@ -28,8 +28,8 @@ use Rattle.dcx_cert_sections.specs.declared.section.Sections.{Sections}
 use Rattle.dcx_words.specs.Commands.{Command, check, certificate as certificate_command, certify, migrate, trial, iis, range, command_of}
 use Rattle.dcx_top.specs.Commands.{settings_name, certificate_name, AreSettingsOf}
 use Rattle.dcx_top.specs.Files.{most_bytes, RefusesScript}
-use Rattle.dcx_refusal.specs.declared.refusal.RefusalSource.TheVariants.{Certificate}
 use Rattle.dcx_top.specs.Runs.{GivesProblem, IsChecked, IsSolvedRun, IsBranchedRun, IsFilteredRun, IsRangedRun, IsCertificateRun, HasCertificate, ReadsSections, misread, failed, Causes}
+use Rattle.dcx_refusal.specs.declared.refusal.RefusalSource.TheVariants.{Certificate}
 use Rattle.dcx_declared.specs.Whole.{IsWholeAt}
 use Rattle.dcx_top.specs.Whole.{RefusesWhole, Takes}
 use Rattle.dcx_outcomes.specs.Ranges.{LacksRange}

@@ -14,7 +14,8 @@ ghost use Rattle.dcx_overlay.specs.Settings.{AreLaidOver};
 ghost use Rattle.dcx_host.specs.Files.{Files};
 ghost use Rattle.dcx_declared.specs.Whole.{HasNoWhole};
 ghost use Rattle.dcx_top.specs.Whole.{IsRefusedForWhole};
-ghost use Rattle.dcx_top.specs.Runs.{OrWhole, SolvesAt, BranchesAt, AnswersAt, ResolvesAt, CertifiesAt, FiltersAt, TriesAt, DoesAt, DoesFrom, task_refuses, command_for, Causes};
+ghost use Rattle.dcx_top.specs.Runs.{Causes};
+ghost use Rattle.dcx_top.specs.Solving.{OrWhole, SolvesAt, BranchesAt, AnswersAt, ResolvesAt, CertifiesAt, FiltersAt, TriesAt, DoesAt, DoesFrom, task_refuses, command_for};
 
 use crate::certifying::written;
 use crate::files::{ended, read_script, read_settings};
