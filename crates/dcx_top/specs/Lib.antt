@@ -4,6 +4,7 @@ pub mod Files
 pub mod Reading
 pub mod Whole
 pub mod NoRange
+pub mod Asked
 pub mod Runs
 pub mod Solving
 pub mod Certifying
