@@ -54,7 +54,7 @@ one_variable p i j h k = same_Some h.is.variable k.is.variable (sym h.is.there �
 stands_first_once : (p : Problem) (a b : Place) → StandsFirstWhole p a → StandsFirstWhole p b → a ≡ b
 stands_first_once p a b h k =
     let name = ap (λ (v : Variable). v.name) (one_variable p h.number k.number h.first k.first) in
-    stands_once p.tree k.first.is.variable.name a b (subst (λ n. StandsAt p.tree n a) name h.stands) k.stands
+    stands_once p k.first.is.variable.name a b (subst (λ n. StandsAt p n a) name h.stands) k.stands
 
 pub places_are_one : PlacesAreOne
 places_are_one = record { of_names = stands_once; of_wholes = stands_first_once }

@@ -50,8 +50,8 @@ one_first_named nodes name i j h k =
     let high : j < i → ⊥ = (λ l. h.before j l k.is) in
     omega (arith, low, high)
 
-pub stands_once : (nodes : List Node) (name : List ℕ) (a b : Place) → StandsAt nodes name a → StandsAt nodes name b → a ≡ b
-stands_once nodes name a b h k = same_Some a b (sym h.stands ∙ ap (place_at nodes) (one_first_named nodes name h.node k.node h.first k.first) ∙ k.stands)
+pub stands_once : (p : Problem) (name : List ℕ) (a b : Place) → StandsAt p name a → StandsAt p name b → a ≡ b
+stands_once p name a b h k = same_Some a b (sym h.stands ∙ ap (place_at p.tree) (one_first_named p.tree name h.node k.node h.first k.first) ∙ k.stands)
 
 -- what is declared has a node
 call_reached : (p : Problem) (name : List ℕ) (call : Call) → name_of call ≡ Some name → HasCall p.tree call → LacksName p.tree name → ⊥

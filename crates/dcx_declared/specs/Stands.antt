@@ -32,13 +32,13 @@ pub record IsFirstNamed (nodes : List Node) (name : List ℕ) (i : ℕ) : Type 0
   pub is : IsNamedAt nodes name i
   pub before : (j : ℕ) → j < i → ¬ IsNamedAt nodes name j
 
--- its place in the script
-pub record StandsAt (nodes : List Node) (name : List ℕ) (place : Place) : Type 0 where
-  pub node : ℕ
-  pub first : IsFirstNamed nodes name node
-  pub stands : place_at nodes node ≡ Some place
-
 -- ---- the names of a problem
+-- the name stands at this place in the script of the problem
+pub record StandsAt (p : Problem) (name : List ℕ) (place : Place) : Type 0 where
+  pub node : ℕ
+  pub first : IsFirstNamed p.tree name node
+  pub stands : place_at p.tree node ≡ Some place
+
 -- a variable of the problem has this name
 abbrev pub HasVariable : Problem → List ℕ → Type 0
 HasVariable p name = (k : ℕ) × (v : Variable) × (slice_get p.variables k ≡ Some v) × (v.name ≡ name)

@@ -4,7 +4,6 @@ use Rattle.dcx_shape.specs.declared.place.Place.{Place}
 use Rattle.dcx_call.specs.declared.attribute.Variable.{Variable}
 use Rattle.dcx_call.specs.declared.attribute.Whole.TheVariants.{Not}
 use Rattle.dcx_tree.specs.declared.problem.Problem.{Problem}
-use Rattle.dcx_tree.specs.Nodes.{Node}
 use Rattle.dcx_declared.specs.Stands.{StandsAt}
 
 -- the entries of variable k of the problem, in order of declaration, are to be whole
@@ -29,10 +28,10 @@ pub record IsFirstWhole (p : Problem) (k : ℕ) : Type 0 where
 pub record StandsFirstWhole (p : Problem) (place : Place) : Type 0 where
   pub number : ℕ
   pub first : IsFirstWhole p number
-  pub stands : StandsAt p.tree first.is.variable.name place
+  pub stands : StandsAt p first.is.variable.name place
 
 -- ---- one place
 -- a name stands at one place, and so does the first variable that is to be whole
 pub record PlacesAreOne : Type 0 where
-  pub of_names : (nodes : List Node) (name : List ℕ) (a b : Place) → StandsAt nodes name a → StandsAt nodes name b → a ≡ b
+  pub of_names : (p : Problem) (name : List ℕ) (a b : Place) → StandsAt p name a → StandsAt p name b → a ≡ b
   pub of_wholes : (p : Problem) (a b : Place) → StandsFirstWhole p a → StandsFirstWhole p b → a ≡ b

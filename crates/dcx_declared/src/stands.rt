@@ -47,7 +47,7 @@ fn first_named(tree: &Tree, name: &Name) -> Option<NodeId>
 /// Where the variable or the parameter of this name stands, which the problem reaches.
 pub fn place_of(problem: &Problem, name: &Name) -> Place
     requires { HasName problem.now name.now }
-    ensures { StandsAt problem.now.tree name.now result }
+    ensures { StandsAt problem.now name.now result }
 {
     let Some(node) = first_named(&problem.tree, name) else {
         unreachable!()

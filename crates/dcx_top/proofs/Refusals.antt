@@ -12,7 +12,6 @@ use Rattle.dcx_settings.proofs.OneAnswer.{refused_one, settings_apart}
 use Rattle.dcx_host.specs.Files.{Files}
 use Rattle.dcx_elab.specs.declared.work.Work.{Work}
 use Rattle.dcx_point.specs.Pairs.{Pairs}
-use Rattle.dcx_tree.specs.Nodes.{Node}
 use Rattle.dcx_tree.specs.declared.problem.Problem.{Problem}
 use Rattle.dcx_shape.specs.declared.place.Place.{Place}
 use Rattle.dcx_answer.specs.declared.not_ranged.NotRanged.{NotRanged as Fault}
@@ -145,16 +144,16 @@ one_whole p r t h k =
     one_refusal Script 34 k.place Nothing r t (subst (λ z. IsRefusedAs Script 34 z Nothing r) (places_are_one.of_wholes p h.place k.place h.stands k.stands) h.refusal) k.refusal
 
 -- what a script is refused for, where a parameter has no range, is one, and so is its place
-one_place : (fault : Fault) (nodes : List Node) (name : List ℕ) (a b : Place) → IsPlaceOf fault nodes name a → IsPlaceOf fault nodes name b → a ≡ b
-one_place faults.Unknown nodes name a b h k = h ∙ sym k
-one_place faults.Shape nodes name a b h k = places_are_one.of_names nodes name a b h k
-one_place faults.Map nodes name a b h k = places_are_one.of_names nodes name a b h k
-one_place faults.Coefficient nodes name a b h k = places_are_one.of_names nodes name a b h k
+one_place : (fault : Fault) (p : Problem) (name : List ℕ) (a b : Place) → IsPlaceOf fault p name a → IsPlaceOf fault p name b → a ≡ b
+one_place faults.Unknown p name a b h k = h ∙ sym k
+one_place faults.Shape p name a b h k = places_are_one.of_names p name a b h k
+one_place faults.Map p name a b h k = places_are_one.of_names p name a b h k
+one_place faults.Coefficient p name a b h k = places_are_one.of_names p name a b h k
 
 one_lack : (p : Problem) (name : List ℕ) (r t : Refusal) → IsRefusedForRange p name r → IsRefusedForRange p name t → r ≡ t
 one_lack p name r t h k =
     let fault = range_is_told.once p name h.fault k.fault h.lacks k.lacks in
-    let place = one_place k.fault p.tree name h.place k.place (subst (λ (f : Fault). IsPlaceOf f p.tree name h.place) fault h.stands) k.stands in
+    let place = one_place k.fault p name h.place k.place (subst (λ (f : Fault). IsPlaceOf f p name h.place) fault h.stands) k.stands in
     one_refusal Script 35 k.place (NotRanged k.fault) r t
     (subst (λ z. IsRefusedAs Script 35 z (NotRanged k.fault) r) place (subst (λ (f : Fault). IsRefusedAs Script 35 h.place (NotRanged f) r) fault h.refusal)) k.refusal
 

@@ -14,7 +14,7 @@ use dcx_tree::Problem;
 /// Where a script is refused for what stands against the range of the parameter.
 fn fault_place(problem: &Problem, name: &Name, fault: NotRanged) -> Place
     requires { LacksRange problem.now name.now fault }
-    ensures { IsPlaceOf fault problem.now.tree name.now result }
+    ensures { IsPlaceOf fault problem.now name.now result }
 {
     match fault {
         NotRanged::Unknown => Place { line: 1, column: 1 },

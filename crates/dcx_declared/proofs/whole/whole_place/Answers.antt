@@ -27,5 +27,5 @@ returns c =
     record {
       number = c.args.k;
       first = c.requires;
-      stands = subst (λ (x : Variable). StandsAt p.tree x.name c.place_of.result) same c.place_of.ensures;
+      stands = subst (λ (x : Variable). StandsAt p x.name c.place_of.result) same c.place_of.ensures;
     }
