@@ -47,7 +47,7 @@ use Rattle.dcx_top.specs.Certifying.{GivesSettings, GivesSections, EndsFiles, at
 use Rattle.dcx_top.proofs.Counting.{no_more_of, begun_no_more}
 use Rattle.dcx_top.proofs.Reading.{told_fault}
 use Rattle.dcx_top.specs.NoRange.{AllowsRange}
-use Rattle.dcx_top.proofs.Kinds.{of_outcomes, of_wholes}
+use Rattle.dcx_top.proofs.ByKind.{of_outcomes, of_wholes}
 use Rattle.dcx_top.proofs.Named.{unasked, allowed, allowed_reading}
 use Rattle.dcx_declared.specs.Whole.{HasNoWhole, HasWhole}
 use Rattle.dcx_top.specs.Whole.{IsRefusedForWhole, RefusesWhole, Takes}

@@ -12,7 +12,7 @@ use Rattle.dcx_top.specs.Runs.{IsCertificateRun, HasCertificate, ReadsSections, 
 use Rattle.dcx_top.specs.OneRun.{IsAnswered}
 use Rattle.dcx_top.specs.Verdicts.{IsRefusal, Has, long_certificate}
 use Rattle.dcx_top.specs.ReadBack.{IsTried, IsReadBack, CertificatesAreReadBack}
-use Rattle.dcx_top.proofs.Kinds.{of_outcomes, of_wholes}
+use Rattle.dcx_top.proofs.ByKind.{of_outcomes, of_wholes}
 use Rattle.dcx_top.proofs.OneRefusal.{refused_or_read}
 use Rattle.dcx_top.proofs.OneCertificate.{read_or_misread}
 use Rattle.dcx_top.proofs.Refusals.{without_fault, of_other}
