@@ -1,6 +1,6 @@
 -- One node of the pass: what bounds the coefficients of the nodes up to it, with the weighted rows of their graphs, bounds those of the
 -- nodes before it, and its weights meet the conditions of slopes.
-use Rattle.std.proofs.Common.{◌≡◌, ◌⊎◌, ℕ, zero, suc, ◌+◌, ◌<◌, ◌≤◌, arith, List, [], ◌∷◌, ◌++◌, map, length, get_or, All, refl, sym, ap, ap₂, ◌∙◌}
+use Rattle.std.proofs.Common.{◌≡◌, ◌⊎◌, inl, inr, ℕ, zero, suc, ◌+◌, ◌<◌, ◌≤◌, arith, List, [], ◌∷◌, ◌++◌, map, length, get_or, All, refl, sym, ap, ap₂, ◌∙◌}
 use Rattle.std.proofs.Common.{subst, append-nil, Option, Some, None, Result, Ok, Err, slice_get, pos, ⊎_elim}
 use Rattle.std.proofs.lemmas.List.{length-map, get_or-map}
 use Rattle.std.specs.Prelude.{option_map}
@@ -67,7 +67,6 @@ use Rattle.dcx_cert_complete.specs.Families.{IsFamily, AreFilled, AreWeighed, at
 use Rattle.dcx_cert_complete.proofs.Scaling.{times_filling, balance_times, nothing_lowers}
 use Rattle.dcx_cert_complete.proofs.Soft.{IsSoft, soft_entry, soft_entries}
 use Rattle.dcx_cert_complete.proofs.Families.{changed, changed_itself, changed_other, first_dots, ends, first_same, first_rows}
-use Rattle.dcx_cert_collect.proofs.Bounded.{neither}
 
 -- the stop is an operation that passes
 abbrev pub IsPassing : CollectStop → Type 0
@@ -185,7 +184,7 @@ module _ (names : Names) (nodes : List Node) (are : AreNodes shape_of nodes) (s 
           exact_of u (call_entry names s x (calls.Pairing Times) ss (a g) (t i)) (told (calls.Pairing Times) same)
           (products_worth_right nodes n.args (flat nodes g) (start_of nodes i) (a g) before placed y.entries cs (pairs_at Times (sides_at ss 0) (sides_at ss 1))
           (side_is 1 y (omega (arith, two Times same)) right) t0 u start e)
-      times_exact None None left right same h u e = absurd (neither h)
+      times_exact None None left right same h u e = elim h [ inl k ↦ cc | inr k ↦ cc ]
 
       pub mat_times_exact : (o r : Option Array) → array_at values (get_or n.args 0 0) ≡ o → array_at values (get_or n.args 1 0) ≡ r → n.call ≡ calls.Pairing MatTimes → HasKnownSide MatTimes o r
           → (u : List Frac)
@@ -198,7 +197,7 @@ module _ (names : Names) (nodes : List Node) (are : AreNodes shape_of nodes) (s 
           exact_of u (call_entry names s x (calls.Pairing MatTimes) ss (a g) (t i)) (told (calls.Pairing MatTimes) same)
           (products_worth_right nodes n.args (flat nodes g) (start_of nodes i) (a g) before placed y.entries cs (pairs_at MatTimes (sides_at ss 0) (sides_at ss 1))
           (side_is 1 y (omega (arith, two MatTimes same)) right) t0 u start e)
-      mat_times_exact None None left right same h u e = absurd (neither h)
+      mat_times_exact None None left right same h u e = elim h [ inl k ↦ cc | inr k ↦ cc ]
 
       pub over_exact : (o r : Option Array) → array_at values (get_or n.args 1 0) ≡ r → n.call ≡ calls.Pairing Over → HasKnownSide Over o r → (u : List Frac) →
           with_shares t0 (pairing_hands nodes n.args Over ss o r cs) ≡ Ok u → dot u (flat nodes g) +ℚ whole (pos 0) ≡ dot t0 (flat nodes g) +ℚ own_times g

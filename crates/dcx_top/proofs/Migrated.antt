@@ -16,8 +16,8 @@ use Rattle.dcx_top.specs.Commands.{IsScriptOf, script_name, settings_name, certi
 use Rattle.dcx_top.specs.Whole.{RefusesWhole, Takes}
 use Rattle.dcx_top.specs.NoRange.{AllowsRange}
 use Rattle.dcx_top.specs.Asked.{IsAcceptedWork}
-use Rattle.dcx_top.specs.Runs.{HasCertificate, ReadsSections, IsCertRefusedRun, misread, failed, IsRefusedRun, long_script, bad_script, for_whole, for_range, bad_settings}
-use Rattle.dcx_top.specs.Runs.{long_certificate, Causes}
+use Rattle.dcx_top.specs.Runs.{HasCertificate, ReadsSections, IsCertRefusedRun, misread, failed, IsRefusedRun}
+use Rattle.dcx_top.specs.Runs.{long_script, bad_script, for_whole, for_range, bad_settings, long_certificate, Causes}
 use Rattle.dcx_top.specs.OneRun.{IsAnswered, AreOneRun, told_same, told_solved, told_branched, told_tried, told_filtered, told_ranged}
 use Rattle.dcx_top.specs.Migrated.{Refuses, MigrateRefusesAsCertify}
 use Rattle.dcx_top.proofs.Refusals.{of_other}
@@ -99,32 +99,23 @@ module _ (words other : List (List ℕ)) (told : Option Files) (a b : Command) (
   cert_moved section fault (misread command files h) = misread b (files_moved command files) h
   cert_moved section fault (failed command sections reads h) = failed b sections (reads_moved command sections reads) h
 
--- of runs that refuse two that tell the same are one
-refused_same : (t : Refusal) (s : Run) → AreOneRun (run.Refused t) s → run.Refused t ≡ s
-refused_same t s (told_same e) = e
-refused_same t s (told_solved word sense os qs m n a b alike) = absurd cc
-refused_same t s (told_branched word sense os qs a b alike) = absurd cc
-refused_same t s (told_tried size os qs a b alike) = absurd cc
-refused_same t s (told_filtered os qs a b alike) = absurd cc
-refused_same t s (told_ranged name sense os qs a b alike) = absurd cc
-
-cert_refused_same : (section : ℕ) (fault : CertFault) (s : Run) → AreOneRun (run.CertRefused section fault) s → run.CertRefused section fault ≡ s
-cert_refused_same section fault s (told_same e) = e
-cert_refused_same section fault s (told_solved word sense os qs m n a b alike) = absurd cc
-cert_refused_same section fault s (told_branched word sense os qs a b alike) = absurd cc
-cert_refused_same section fault s (told_tried size os qs a b alike) = absurd cc
-cert_refused_same section fault s (told_filtered os qs a b alike) = absurd cc
-cert_refused_same section fault s (told_ranged name sense os qs a b alike) = absurd cc
+-- runs that tell the same are the same where one refuses
+one_refusal : (r s : Run) → Refuses r → AreOneRun r s → r ≡ s
+one_refusal r s h (told_same e) = e
+one_refusal r s h (told_solved word sense os qs m n e k alike) = absurd (subst Refuses e h)
+one_refusal r s h (told_branched word sense os qs e k alike) = absurd (subst Refuses e h)
+one_refusal r s h (told_tried size os qs e k alike) = absurd (subst Refuses e h)
+one_refusal r s h (told_filtered os qs e k alike) = absurd (subst Refuses e h)
+one_refusal r s h (told_ranged name sense os qs e k alike) = absurd (subst Refuses e h)
 
 -- a run that refuses is the one run of the other words too
 refused_alike : (words other : List (List ℕ)) (files : Files) (a b : Command) (before now old new past later from to : ℕ) (r s : Run) → command_of words ≡ Some a → command_of other ≡ Some b
     → Twins a b → Causes words (Some files) (Rose before now) old new r
     → Causes other (Some files) (Rose past later) from to s → IsAnswered r → IsAnswered s → Refuses r → r ≡ s
 refused_alike words other files a b before now old new past later from to (run.Refused t) s form meant twins h k i j is =
-    refused_same t s
-    (only_run other (Some files) (Rose before now) from from (run.Refused t) (refused_moved words other (Some files) a b form meant twins t h.0, inl refl) tt s past later from to k j)
+    one_refusal (run.Refused t) s tt (only_run other (Some files) (Rose before now) from from (run.Refused t) (refused_moved words other (Some files) a b form meant twins t h.0, inl refl) tt s past later from to k j)
 refused_alike words other files a b before now old new past later from to (run.CertRefused section fault) s form meant twins h k i j is =
-    cert_refused_same section fault s
+    one_refusal (run.CertRefused section fault) s tt
     (only_run other (Some files) (Rose before now) from from (run.CertRefused section fault)
     (cert_moved words other (Some files) a b form meant twins section fault h.0, refl) tt s past later from to k j)
 refused_alike words other files a b before now old new past later from to run.Usage s form meant twins h k i j is = absurd is

@@ -59,7 +59,7 @@ module _ (writing reading : List (List ℕ)) (script settings name : List ℕ) (
     settings_told : g settings ≡ Some h.asked.are_of.bytes
     settings_told = others ∙ ap f (sym (same_Some h.name settings (ap settings_name same))) ∙ h.asked.are_of.are_told
 
-    abbrev files_are : HasCertificate reading (Some g) (certify script settings name)
+    files_are : HasCertificate reading (Some g) (certify script settings name)
     files_are = record {
       name = name;
       named = refl;
@@ -74,6 +74,7 @@ module _ (writing reading : List (List ℕ)) (script settings name : List ℕ) (
     }
 
     reads : length text ≤ 67108864 → ReadsSections reading (Some g) (certify script settings name) h.sections
+    unfolding files_are
     reads few = record {
       files = files_are;
       has = record {
