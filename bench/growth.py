@@ -1,7 +1,7 @@
 """Measures how the program's time and memory grow with the size of what it is given: `growth.py [RUNS]` prints a row of a table for each input.
 
     python3 bench/growth.py
-    python3 bench/growth.py 3 --program OLD --seconds 120 --only iis dense
+    python3 bench/growth.py 3 --program before=OLD --program after=NEW --seconds 120 --only iis dense
 
 Each cell is the least of RUNS runs, 1 where nothing is said: processor seconds of the user and the system, and the most memory. The last column is the
 power of the size by which the seconds grow between the last two sizes. Where a run takes more than --seconds, 60 where nothing is said, the cell says so,
@@ -10,10 +10,9 @@ and larger sizes aren't tried. A run that ends otherwise than is said beside its
 import argparse
 import math
 import os
-import sys
 import tempfile
 
-from taken import program, run
+from taken import programs, run
 
 SMALL = 20 << 20  # bytes: below it what is measured may be this script's own memory
 
@@ -145,7 +144,7 @@ def measured(path, row, size, runs, most):
     for _ in range(runs):
         with tempfile.TemporaryDirectory() as folder:
             made = run([path, *write(size, folder)], most, folder)
-        if made.status < 0 and made.seconds > most - 1:
+        if made.status < 0 and made.seconds > 0.9 * most:
             return math.inf, 0
         last = made.printed.rstrip("\n").split("\n")[-1]
         if last == "want of memory" or made.status == 5:
@@ -171,33 +170,32 @@ def power(taken):
     if len(known) < 2 or known[0][1] < 0.005:
         return ""
     (n, first), (m, second) = known
-    return f"{math.log(second / first) / math.log(m / n):.1f}"
+    return f"n^{math.log(second / first) / math.log(m / n):.1f}"
 
 
 def main():
     parser = argparse.ArgumentParser(description=__doc__, formatter_class=argparse.RawDescriptionHelpFormatter)
     parser.add_argument("runs", nargs="?", type=int, default=1)
-    parser.add_argument("--program")
+    parser.add_argument("--program", action="append")
     parser.add_argument("--seconds", type=int, default=60)
     parser.add_argument("--only", nargs="+", default=[])
     asked = parser.parse_args()
-    path = program(asked.program)
-    print("| input | n | 2n or so | 4n or so | grows as |\n|---|---|---|---|---|")
+    asked_programs = programs(asked.program)
+    print("| input | program | n | 2n or so | 4n or so | grows as |\n|---|---|---|---|---|---|")
     for row in ROWS:
         name, _, sizes, _ = row
         if asked.only and not any(word in name for word in asked.only):
             continue
-        taken = []
-        for size in sizes:
-            seconds, memory = measured(path, row, size, asked.runs, asked.seconds)
-            taken.append((size, seconds, memory))
-            if seconds in (None, math.inf):
-                break
-        cells = [cell(*one, asked.seconds) for one in taken] + [""] * (len(sizes) - len(taken))
-        grown = power(taken)
-        print(f"| {name} | " + " | ".join(cells) + f" | {'n^' + grown if grown else ''} |", flush=True)
-    return 0
+        for program in asked_programs:
+            taken = []
+            for size in sizes:
+                taken.append((size, *measured(program.path, row, size, asked.runs, asked.seconds)))
+                if taken[-1][1] in (None, math.inf):
+                    break
+            cells = [cell(*one, asked.seconds) for one in taken] + [""] * (len(sizes) - len(taken))
+            print(f"| {name} | {program.name} | {' | '.join(cells)} | {power(taken)} |", flush=True)
+            name = ""
 
 
 if __name__ == "__main__":
-    sys.exit(main())
+    main()

@@ -17,6 +17,12 @@ class Run(NamedTuple):
     memory: int  # in bytes; that of this process where the program held less
 
 
+class Program(NamedTuple):
+    name: str
+    path: str
+    checkout: Optional[str]  # the folder of sources that it lies in, with `./dcx` beside it
+
+
 def run(words, most=None, folder=None, to=None):
     """Runs a program, with at most so many processor seconds, in a folder. With `to` what it prints goes into that file."""
 
@@ -38,9 +44,16 @@ def run(words, most=None, folder=None, to=None):
     return Run(child.returncode, printed, used.ru_utime + used.ru_stime, wall, used.ru_maxrss * 1024)
 
 
-def program(path: Optional[str]) -> str:
-    """The program at the path: of the folder of a checkout that of its dist/, and where none is given that of the sources as they stand."""
-    if path is None:
-        return subprocess.run([os.path.join(TOP, "tools", "program")], stdout=subprocess.PIPE, text=True, check=True).stdout.strip()
-    path = os.path.abspath(path)
-    return os.path.join(path, "dist", "dcx") if os.path.isdir(path) else path
+def programs(words):
+    """The programs that [NAME=]PATH asks for. The path of a folder is that of a checkout, which has its program in dist/. Where nothing is asked for, the one
+    program of these sources as they stand."""
+    if not words:
+        path = subprocess.run([os.path.join(TOP, "tools", "program")], stdout=subprocess.PIPE, text=True, check=True).stdout.strip()
+        return [Program("`dcx`", path, TOP)]
+    found = []
+    for word in words:
+        name, has_name, path = word.rpartition("=")
+        path = os.path.abspath(path)
+        is_checkout = os.path.isdir(path)
+        found.append(Program(name if has_name else "`dcx`", os.path.join(path, "dist", "dcx") if is_checkout else path, path if is_checkout else None))
+    return found

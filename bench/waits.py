@@ -9,24 +9,36 @@ row by row, so that other work on the machine hits all alike. Where values diffe
 --program [NAME=]PATH   a program to measure, or the folder of a checkout that has one in its dist/, and `./dcx` beside it. It may be given several times:
                         each is a column. Without it the program of the sources as they stand is measured.
 --long                  certificates of 1,000 settings, as long as one may be, in place of 100.
+--profile               where the last program spends its time in three of the rows, by `perf record`, as a second table.
 --only WORD ..          rows whose name has one of the words alone.
 """
 import argparse
 import filecmp
 import os
+import re
 import shutil
 import sys
 import tempfile
 from fractions import Fraction
 
 from reach import KINDS, glpsol
-from taken import TOP, program, run
+from taken import TOP, programs, run
 
 HERE = os.path.dirname(os.path.abspath(__file__))
 CALLS = 20
 BOUNDS = 530
+TOP_FUNCTIONS = 5
+PROFILED = {
+    "`trial 298`": ["trial", "298"],
+    "unit commitment": ["solve", "commitment.py"],
+    "1,000 settings, reduced anew": ["resolve", "model.py", "settings.txt"],
+}  # what `perf` is asked for, by how the row's name begins
 PACKAGES = {"glpsol": "glpk-utils", "z3": "z3", "esolver": "qsopt-ex"}  # of Debian, by the command that each has
 HEADS = {"glpsol": "`glpsol`", "z3": "Z3", "esolver": "QSopt_ex"}
+
+
+# Rows whose values must be those of another row.
+SAME_VALUES = {"1,000 settings, reduced once": "1,000 settings, reduced anew at each", "the same with `--warm`": "1,000 settings along a trajectory"}
 
 
 class Answer:
@@ -53,36 +65,36 @@ def values_of(report):
 def settings_row(command, *more):
     """A run over the model and the settings of a folder."""
 
-    def measured(path, folder):
-        made = run([path, command, "model.py", "settings.txt", *more], folder=folder)
-        # (with `--warm` the last line also tells how many settings began at another one)
+    def measured(program, folder):
+        made = run([program.path, command, "model.py", "settings.txt", *more], folder=folder)
+        # (with `--warm` the last line also tells how many settings began at the one before)
         return Answer(made.seconds, (made.status, *[" ".join(line.split()[:4]) for line in values_of(made.printed)]))
 
     return measured
 
 
-def trial(path, _):
-    made = run([path, "trial", "298"])
+def trial(program, _):
+    made = run([program.path, "trial", "298"])
     values = [Fraction(line.split()[-1]) for line in made.printed.split("\n") if line.startswith("setting ")]
     return Answer(made.seconds, values)
 
 
-def commitment(path, folder):
-    made = run([path, "solve", "commitment.py"], folder=folder)
+def commitment(program, folder):
+    made = run([program.path, "solve", "commitment.py"], folder=folder)
     lines = {line.split()[0]: line.split()[-1] for line in made.printed.split("\n") if line}
     nodes = int(lines["nodes"])
     return Answer(made.seconds, Fraction(lines["value"]), lambda seconds: f" ({nodes:,} nodes, {1000 * seconds / nodes:.2f} ms each)")
 
 
 def certificate(command):
-    def measured(path, folder):
-        # Each program checks its own certificate: they are the same, and `migrate` writes it as it was read.
-        mine = os.path.join(folder, f"certificate.{abs(hash(path))}")
+    def measured(program, folder):
+        # Each program checks its own certificate, and `migrate` writes it as it was read.
+        mine = os.path.join(folder, f"{program.name}.cert")
         if command == "certificate":
-            made = run([path, command, "model.py", "settings.txt"], folder=folder, to=mine)
+            made = run([program.path, command, "model.py", "settings.txt"], folder=folder, to=mine)
             return Answer(made.seconds, (made.status, os.path.getsize(mine)))
         again = mine + ".again"
-        made = run([path, command, "model.py", "settings.txt", mine], folder=folder, to=again)
+        made = run([program.path, command, "model.py", "settings.txt", mine], folder=folder, to=again)
         if command == "migrate":
             return Answer(made.seconds, (made.status, filecmp.cmp(mine, again, shallow=False)))
         with open(again, encoding="utf-8") as file:
@@ -91,20 +103,14 @@ def certificate(command):
     return measured
 
 
-def beside_script(checkout):
-    """The least seconds of the wall of `./dcx`, and how many of them the program alone takes."""
-
-    def measured(path, _):
-        if checkout is None:
-            return None
-        words = ["solve", os.path.join(TOP, "examples", "production", "model.py")]
-        calls = [(run([os.path.join(checkout, "dcx"), *words]), run([path, *words])) for _ in range(CALLS)]
-        if any(script.printed != alone.printed for script, alone in calls):
-            return Answer(0, "other bytes")
-        script, alone = (min(call[i].wall for call in calls) for i in (0, 1))
-        return Answer(script - alone, "the same", lambda least: f" ms more than the program alone, which takes {1000 * alone:.1f}")
-
-    return measured
+def script_beside(program, _):
+    """The least seconds of the wall of `./dcx`, less those of the program alone, which the cell tells."""
+    if program.checkout is None:
+        return None
+    words = ["solve", os.path.join(TOP, "examples", "production", "model.py")]
+    calls = [(run([os.path.join(program.checkout, "dcx"), *words]), run([program.path, *words])) for _ in range(CALLS)]
+    script, alone = (min(call[i].wall for call in calls) for i in (0, 1))
+    return Answer(script - alone, [call[0].printed for call in calls], lambda least: f" ms more than the program alone, which takes {1000 * alone:.1f}")
 
 
 # ---- the runs of other solvers
@@ -139,8 +145,8 @@ def glpsol_commitment(_):
 
 
 # ---- the rows
-def rows(folder, count, checkouts):
-    """Each row: its name, its folder, what each program runs, and what each other solver runs."""
+def rows(folder, count):
+    """Each row: its name, its folder, what each program runs, and what each other solver runs. Writes the files into the folders."""
 
     def at(*names):
         return os.path.join(folder, *names)
@@ -173,7 +179,7 @@ def rows(folder, count, checkouts):
     yield "the same with `--warm`", at("cart"), settings_row("resolve", "--warm"), {}
     for command in ("certificate", "certify", "migrate"):
         yield f"`{command}`, {BOUNDS} bounds, {count:,} settings", at("long"), certificate(command), {}
-    yield "`./dcx` of the first example, of the wall", at("."), checkouts, {}
+    yield "`./dcx` of the first example, of the wall", folder, script_beside, {}
 
 
 def cell(answers, is_wall):
@@ -187,10 +193,23 @@ def cell(answers, is_wall):
     return shown + (best.told(best.seconds) if best.told else "")
 
 
-def same(name, value):
-    """What must be the same in all columns of a row, and in all rows of one problem."""
-    shared = {"1,000 settings, reduced once": "1,000 settings, reduced anew at each", "the same with `--warm`": "1,000 settings along a trajectory"}
-    return shared.get(name, name), value
+def show(table, taken, heads):
+    print("| processor seconds | " + " | ".join(heads + list(HEADS.values())) + " |\n|" + "---|" * (1 + len(heads) + len(HEADS)))
+    for name, *_ in table:
+        cells = [cell(taken.get((name, column), []), "./dcx" in name) for column in [*heads, *HEADS]]
+        print(f"| {name} | " + " | ".join(cells) + " |", flush=True)
+
+
+def do_differ(taken):
+    """Whether an answer is another one than the first to the same question; tells which."""
+    seen, found = {}, False
+    for (name, column), answers in taken.items():
+        for value in [answer.value for answer in answers or [] if answer is not None]:
+            first = seen.setdefault(SAME_VALUES.get(name, name), value)
+            if differ(first, value):
+                print(f"{name}, {column}: {str(value)[:200]}, and not {str(first)[:200]}", file=sys.stderr)
+                found = True
+    return found
 
 
 def differ(first, second):
@@ -199,11 +218,19 @@ def differ(first, second):
     return first != second
 
 
-def named(word):
-    name, found, path = word.partition("=")
-    path = path if found else word
-    checkout = path if os.path.isdir(path) else None
-    return (name if found else "`dcx`"), program(path), checkout and os.path.abspath(checkout)
+def profile(path, table):
+    """Prints which functions take most of the time, by `perf`, in the rows of PROFILED."""
+    print("\n| run | where its time goes |\n|---|---|")
+    for name, place, *_ in table:
+        words = next((words for start, words in PROFILED.items() if name.startswith(start)), None)
+        if words is None:
+            continue
+        with tempfile.NamedTemporaryFile() as record:
+            run(["perf", "record", "-N", "-o", record.name, path, *words], folder=place)
+            told = run(["perf", "report", "-i", record.name, "--stdio", "--no-children", "-F", "overhead,symbol"]).printed
+        found = [line.split(None, 2) for line in told.split("\n") if line.strip() and not line.startswith("#")]
+        parts = [f"`{re.sub('::<#.*', '', symbol)}` {round(float(part.rstrip('%')))} %" for part, _, symbol in found[:TOP_FUNCTIONS]]
+        print(f"| {name} | {', '.join(parts)} |", flush=True)
 
 
 def main():
@@ -211,42 +238,31 @@ def main():
     parser.add_argument("runs", nargs="?", type=int, default=3)
     parser.add_argument("--program", action="append")
     parser.add_argument("--long", action="store_true")
+    parser.add_argument("--profile", action="store_true")
     parser.add_argument("--only", nargs="+", default=[])
     asked = parser.parse_args()
-    programs = [named(word) for word in asked.program] if asked.program else [("`dcx`", program(None), TOP)]
+    asked_programs = programs(asked.program)
     lacking = [command for command in PACKAGES if shutil.which(command) is None]
     with tempfile.TemporaryDirectory() as folder:
-        table = list(rows(folder, 1000 if asked.long else 100, None))
+        table = list(rows(folder, 1000 if asked.long else 100))
         table = [row for row in table if not asked.only or any(word in row[0] for word in asked.only)]
         taken = {}
         for number in range(asked.runs):
             for name, place, measured, others in table:
-                for head, path, checkout in programs:
-                    done = (measured or beside_script(checkout))(path, place)
-                    taken.setdefault((name, head), []).append(done)
+                for program in asked_programs:
+                    taken.setdefault((name, program.name), []).append(measured(program, place))
                 for command, other in others.items():
                     if command in lacking:
                         taken[name, command] = None
                     else:
                         taken.setdefault((name, command), []).append(other(place))
             print(f"run {number + 1} of {asked.runs}, load {os.getloadavg()[0]:.1f}", file=sys.stderr, flush=True)
-    heads = [head for head, _, _ in programs]
-    print("| processor seconds | " + " | ".join(heads + list(HEADS.values())) + " |\n|" + "---|" * (1 + len(heads) + len(HEADS)))
-    status, seen = 0, {}
-    for name, *_ in table:
-        cells = [cell(taken.get((name, column), []), "./dcx" in name) for column in [*heads, *HEADS]]
-        print(f"| {name} | " + " | ".join(cells) + " |")
-        for column in [*heads, *HEADS]:
-            for answer in taken.get((name, column)) or []:
-                if answer is None:
-                    continue
-                key, value = same(name, answer.value)
-                if differ(seen.setdefault(key, value), value):
-                    print(f"{name}, {column}: {str(value)[:200]}, and not {str(seen[key])[:200]}", file=sys.stderr)
-                    status = 1
+        show(table, taken, [program.name for program in asked_programs])
+        if asked.profile:
+            profile(asked_programs[-1].path, table)
     for command in lacking:
         print(f"\n`{command}` isn't installed: it is in Debian's package `{PACKAGES[command]}`.")
-    return status
+    return 1 if do_differ(taken) else 0
 
 
 if __name__ == "__main__":
