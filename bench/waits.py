@@ -28,24 +28,34 @@ HERE = os.path.dirname(os.path.abspath(__file__))
 CALLS = 20
 BOUNDS = 530
 TOP_FUNCTIONS = 5
-PROFILED = {
-    "`trial 298`": ["trial", "298"],
-    "unit commitment": ["solve", "commitment.py"],
-    "1,000 settings, reduced anew": ["resolve", "model.py", "settings.txt"],
-}  # what `perf` is asked for, by how the row's name begins
+
 PACKAGES = {"glpsol": "glpk-utils", "z3": "z3", "esolver": "qsopt-ex"}  # of Debian, by the command that each has
 HEADS = {"glpsol": "`glpsol`", "z3": "Z3", "esolver": "QSopt_ex"}
 
-
-# Rows whose values must be those of another row.
-SAME_VALUES = {"1,000 settings, reduced once": "1,000 settings, reduced anew at each", "the same with `--warm`": "1,000 settings along a trajectory"}
+# The names of rows of which something more is told.
+FIT = "`trial 298`, both settings (`glpsol --exact`)"
+UNITS = "unit commitment, 3 units over 12 hours (`glpsol` in floating point)"
+ANEW = "1,000 settings, reduced anew at each"
+KEPT = "1,000 settings, reduced once"
+COLD = "1,000 settings along a trajectory"
+WARM = "the same with `--warm`"
+SCRIPT = "`./dcx` of the first example, of the wall"
+SAME_VALUES = {KEPT: ANEW, WARM: COLD}  # rows whose values must be those of another row
+PROFILED = {FIT: ["trial", "298"], UNITS: ["solve", "commitment.py"], ANEW: ["resolve", "model.py", "settings.txt"]}
 
 
 class Answer:
-    """What one run of one cell took, what its answer is, and what the cell says beside its seconds."""
+    """What one run of one cell took, what its answer is, how many nodes it had, and how long the program alone takes."""
 
-    def __init__(self, seconds, value, told=""):
-        self.seconds, self.value, self.told = seconds, value, told
+    def __init__(self, seconds, value, nodes=None, alone=None):
+        self.seconds, self.value, self.nodes, self.alone = seconds, value, nodes, alone
+
+    def told(self):
+        """What a cell says of it."""
+        if self.alone is not None:
+            return f"{1000 * self.seconds:.1f} ms more than the program alone, which takes {1000 * self.alone:.1f}"
+        shown = f"{self.seconds:.3f}" if self.seconds < 0.1 else f"{self.seconds:.2f}"
+        return shown if self.nodes is None else f"{shown} ({self.nodes:,} nodes, {1000 * self.seconds / self.nodes:.2f} ms each)"
 
 
 def written(script, *words):
@@ -82,8 +92,7 @@ def trial(program, _):
 def commitment(program, folder):
     made = run([program.path, "solve", "commitment.py"], folder=folder)
     lines = {line.split()[0]: line.split()[-1] for line in made.printed.split("\n") if line}
-    nodes = int(lines["nodes"])
-    return Answer(made.seconds, Fraction(lines["value"]), lambda seconds: f" ({nodes:,} nodes, {1000 * seconds / nodes:.2f} ms each)")
+    return Answer(made.seconds, Fraction(lines["value"]), nodes=int(lines["nodes"]))
 
 
 def certificate(command):
@@ -110,7 +119,7 @@ def script_beside(program, _):
     words = ["solve", os.path.join(TOP, "examples", "production", "model.py")]
     calls = [(run([os.path.join(program.checkout, "dcx"), *words]), run([program.path, *words])) for _ in range(CALLS)]
     script, alone = (min(call[i].wall for call in calls) for i in (0, 1))
-    return Answer(script - alone, [call[0].printed for call in calls], lambda least: f" ms more than the program alone, which takes {1000 * alone:.1f}")
+    return Answer(script - alone, [call[0].printed for call in calls], alone=alone)
 
 
 # ---- the runs of other solvers
@@ -169,34 +178,30 @@ def rows(folder, count):
         "z3": both_settings("z3", lambda path: [path + ".smt2"], value_of_z3),
         "esolver": both_settings("esolver", lambda path: ["-O", path + ".sol", "-L", path + ".lp"], value_of_esolver),
     }
-    yield "`trial 298`, both settings (`glpsol --exact`)", at("trial"), trial, exact
-    yield "unit commitment, 3 units over 12 hours (`glpsol` in floating point)", at("commitment"), commitment, {"glpsol": glpsol_commitment}
-    yield "1,000 settings, reduced anew at each", at("anew"), settings_row("resolve"), {}
-    yield "1,000 settings, reduced once", at("kept"), settings_row("resolve"), {}
+    yield FIT, at("trial"), trial, exact
+    yield UNITS, at("commitment"), commitment, {"glpsol": glpsol_commitment}
+    yield ANEW, at("anew"), settings_row("resolve"), {}
+    yield KEPT, at("kept"), settings_row("resolve"), {}
     yield "`iis` over 40 constraints", at("late"), settings_row("iis"), {}
     yield "`resolve` of the same", at("late"), settings_row("resolve"), {}
-    yield "1,000 settings along a trajectory", at("cart"), settings_row("resolve"), {}
-    yield "the same with `--warm`", at("cart"), settings_row("resolve", "--warm"), {}
+    yield COLD, at("cart"), settings_row("resolve"), {}
+    yield WARM, at("cart"), settings_row("resolve", "--warm"), {}
     for command in ("certificate", "certify", "migrate"):
         yield f"`{command}`, {BOUNDS} bounds, {count:,} settings", at("long"), certificate(command), {}
-    yield "`./dcx` of the first example, of the wall", folder, script_beside, {}
+    yield SCRIPT, folder, script_beside, {}
 
 
-def cell(answers, is_wall):
+def cell(answers):
     """The least of the runs, as a cell."""
     if answers is None:
         return "not installed"
-    if not answers or answers[0] is None:
-        return ""
-    best = min(answers, key=lambda answer: answer.seconds)
-    shown = f"{1000 * best.seconds:.1f}" if is_wall else f"{best.seconds:.3f}" if best.seconds < 0.1 else f"{best.seconds:.2f}"
-    return shown + (best.told(best.seconds) if best.told else "")
+    return min(answers, key=lambda answer: answer.seconds).told() if answers and answers[0] is not None else ""
 
 
 def show(table, taken, heads):
     print("| processor seconds | " + " | ".join(heads + list(HEADS.values())) + " |\n|" + "---|" * (1 + len(heads) + len(HEADS)))
     for name, *_ in table:
-        cells = [cell(taken.get((name, column), []), "./dcx" in name) for column in [*heads, *HEADS]]
+        cells = [cell(taken.get((name, column), [])) for column in [*heads, *HEADS]]
         print(f"| {name} | " + " | ".join(cells) + " |", flush=True)
 
 
@@ -218,15 +223,38 @@ def differ(first, second):
     return first != second
 
 
+def aims(taken, name):
+    """Prints what is aimed at beside what was measured of a program."""
+    best = {key: min(answers, key=lambda answer: answer.seconds) for key, answers in taken.items() if answers and answers[0] is not None}
+
+    def least(row, column=name):
+        return best[row, column].seconds if (row, column) in best else None
+
+    def times(first, second):
+        return first / second if first and second else None
+
+    fit, nodes = least(FIT), best[UNITS, name].nodes if (UNITS, name) in best else None
+    told = [
+        ("`trial 298` takes at most half of `glpsol --exact`", times(fit, least(FIT, "glpsol")), 0.5, "{:.2f} of it"),
+        ("`trial 298` takes no more than Z3", times(fit, least(FIT, "z3")), 1, "{:.2f} of it"),
+        ("a node of the unit commitment takes at most 1.5 ms", times(1000 * least(UNITS), nodes) if nodes else None, 1.5, "{:.2f} ms"),
+        ("1,000 settings reduced anew take at most 1.5 s", least(ANEW), 1.5, "{:.2f} s"),
+        ("`./dcx` takes at most 20 ms more than the program alone", 1000 * least(SCRIPT) if least(SCRIPT) is not None else None, 20, "{:.1f} ms"),
+    ]
+    print("\n| what is aimed at | measured | |\n|---|---|---|")
+    for aim, measured, most, form in told:
+        if measured is not None:
+            print(f"| {aim} | {form.format(measured)} | {'yes' if measured <= most else 'no'} |")
+
+
 def profile(path, table):
     """Prints which functions take most of the time, by `perf`, in the rows of PROFILED."""
     print("\n| run | where its time goes |\n|---|---|")
     for name, place, *_ in table:
-        words = next((words for start, words in PROFILED.items() if name.startswith(start)), None)
-        if words is None:
+        if name not in PROFILED:
             continue
         with tempfile.NamedTemporaryFile() as record:
-            run(["perf", "record", "-N", "-o", record.name, path, *words], folder=place)
+            run(["perf", "record", "-N", "-o", record.name, path, *PROFILED[name]], folder=place)
             told = run(["perf", "report", "-i", record.name, "--stdio", "--no-children", "-F", "overhead,symbol"]).printed
         found = [line.split(None, 2) for line in told.split("\n") if line.strip() and not line.startswith("#")]
         parts = [f"`{re.sub('::<#.*', '', symbol)}` {round(float(part.rstrip('%')))} %" for part, _, symbol in found[:TOP_FUNCTIONS]]
@@ -258,7 +286,10 @@ def main():
                         taken.setdefault((name, command), []).append(other(place))
             print(f"run {number + 1} of {asked.runs}, load {os.getloadavg()[0]:.1f}", file=sys.stderr, flush=True)
         show(table, taken, [program.name for program in asked_programs])
-        if asked.profile:
+        aims(taken, asked_programs[-1].name)
+        if asked.profile and shutil.which("perf") is None:
+            print("\n`perf` isn't installed: it is in Debian's package `linux-perf`.")
+        elif asked.profile:
             profile(asked_programs[-1].path, table)
     for command in lacking:
         print(f"\n`{command}` isn't installed: it is in Debian's package `{PACKAGES[command]}`.")
