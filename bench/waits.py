@@ -58,17 +58,24 @@ class Answer:
         return shown if self.nodes is None else f"{shown} ({self.nodes:,} nodes, {1000 * self.seconds / self.nodes:.2f} ms each)"
 
 
+def finished(words, folder=None, to=None):
+    """A run that must end with status 0."""
+    made = run(words, None, folder, to)
+    if made.status != 0:
+        raise SystemExit(f"{' '.join(words)}: status {made.status}")
+    return made
+
+
 def written(script, *words):
     """Has a script of this folder write what it writes; gives what it prints."""
-    made = run([sys.executable, os.path.join(HERE, script), *map(str, words)])
-    if made.status != 0:
-        raise SystemExit(f"{script} {words}: status {made.status}")
-    return made.printed
+    return finished([sys.executable, os.path.join(HERE, script), *map(str, words)]).printed
 
 
 def values_of(report):
-    """How each setting ends and its value: without the points, of which a problem may have several that are best."""
-    return [line for line in report.split("\n") if line.startswith(("setting ", "value ", "without ", "answered "))]
+    """How each setting ends and its value: without the points, of which a problem may have several that are best, and without what `--warm` tells of settings
+    that began at the one before."""
+    lines = [line for line in report.split("\n") if line.startswith(("setting ", "value ", "without ", "answered "))]
+    return [" ".join(line.split()[:4]) if line.startswith("answered ") else line for line in lines]
 
 
 # ---- the runs of the programs to measure
@@ -76,21 +83,20 @@ def settings_row(command, *more):
     """A run over the model and the settings of a folder."""
 
     def measured(program, folder):
-        made = run([program.path, command, "model.py", "settings.txt", *more], folder=folder)
-        # (with `--warm` the last line also tells how many settings began at the one before)
-        return Answer(made.seconds, (made.status, *[" ".join(line.split()[:4]) for line in values_of(made.printed)]))
+        made = finished([program.path, command, "model.py", "settings.txt", *more], folder=folder)
+        return Answer(made.seconds, values_of(made.printed))
 
     return measured
 
 
 def trial(program, _):
-    made = run([program.path, "trial", "298"])
+    made = finished([program.path, "trial", "298"])
     values = [Fraction(line.split()[-1]) for line in made.printed.split("\n") if line.startswith("setting ")]
     return Answer(made.seconds, values)
 
 
 def commitment(program, folder):
-    made = run([program.path, "solve", "commitment.py"], folder=folder)
+    made = finished([program.path, "solve", "commitment.py"], folder=folder)
     lines = {line.split()[0]: line.split()[-1] for line in made.printed.split("\n") if line}
     return Answer(made.seconds, Fraction(lines["value"]), nodes=int(lines["nodes"]))
 
@@ -100,14 +106,16 @@ def certificate(command):
         # Each program checks its own certificate, and `migrate` writes it as it was read.
         mine = os.path.join(folder, f"{program.name}.cert")
         if command == "certificate":
-            made = run([program.path, command, "model.py", "settings.txt"], folder=folder, to=mine)
-            return Answer(made.seconds, (made.status, os.path.getsize(mine)))
+            made = finished([program.path, command, "model.py", "settings.txt"], folder=folder, to=mine)
+            return Answer(made.seconds, os.path.getsize(mine))
         again = mine + ".again"
-        made = run([program.path, command, "model.py", "settings.txt", mine], folder=folder, to=again)
+        made = finished([program.path, command, "model.py", "settings.txt", mine], folder=folder, to=again)
         if command == "migrate":
-            return Answer(made.seconds, (made.status, filecmp.cmp(mine, again, shallow=False)))
+            if not filecmp.cmp(mine, again, shallow=False):
+                raise SystemExit(f"{program.name}: migrate writes another certificate")
+            return Answer(made.seconds, "the same")
         with open(again, encoding="utf-8") as file:
-            return Answer(made.seconds, (made.status, file.read()))
+            return Answer(made.seconds, file.read())
 
     return measured
 
@@ -117,7 +125,7 @@ def script_beside(program, _):
     if program.checkout is None:
         return None
     words = ["solve", os.path.join(TOP, "examples", "production", "model.py")]
-    calls = [(run([os.path.join(program.checkout, "dcx"), *words]), run([program.path, *words])) for _ in range(CALLS)]
+    calls = [(finished([os.path.join(program.checkout, "dcx"), *words]), finished([program.path, *words])) for _ in range(CALLS)]
     script, alone = (min(call[i].wall for call in calls) for i in (0, 1))
     return Answer(script - alone, [call[0].printed for call in calls], alone=alone)
 
@@ -241,9 +249,10 @@ def aims(taken, name):
         ("1,000 settings reduced anew take at most 1.5 s", least(ANEW), 1.5, "{:.2f} s"),
         ("`./dcx` takes at most 20 ms more than the program alone", 1000 * least(SCRIPT) if least(SCRIPT) is not None else None, 20, "{:.1f} ms"),
     ]
-    print("\n| what is aimed at | measured | |\n|---|---|---|")
-    for aim, measured, most, form in told:
-        if measured is not None:
+    told = [aim for aim in told if aim[1] is not None]
+    if told:
+        print("\n| what is aimed at | measured | |\n|---|---|---|")
+        for aim, measured, most, form in told:
             print(f"| {aim} | {form.format(measured)} | {'yes' if measured <= most else 'no'} |")
 
 
