@@ -56,7 +56,7 @@ use Rattle.dcx_top.specs.declared.solving.Task.{Task}
 use Rattle.dcx_top.specs.declared.solving.Task.TheVariants as tasks
 
 -- a script whose bytes give an accepted problem
-accepted_work : (told : Option Files) (command : Command) (bytes : List ℕ) (a : Accepted) → IsScriptOf told command bytes → Gives bytes (Ok a) → IsAcceptedWork told command a.work
+pub accepted_work : (told : Option Files) (command : Command) (bytes : List ℕ) (a : Accepted) → IsScriptOf told command bytes → Gives bytes (Ok a) → IsAcceptedWork told command a.work
 accepted_work told command bytes a of gives =
     let h = acceptance bytes a gives in
     record { bytes = bytes; are_of = of; script = h.script; spelled = h.spelled; stands_for = h.stands_for; accepted = h.judged.accepted; convex = h.judged.convex }
