@@ -4,7 +4,6 @@ use Rattle.std.specs.Prelude.{⊤}
 use Rattle.std.proofs.lemmas.Option.{none-some}
 use Rattle.dcx_point.specs.Pairs.{Pairs}
 use Rattle.dcx_tree.specs.declared.problem.Problem.{Problem}
-use Rattle.dcx_tree.specs.declared.constraint.Sense.{Sense}
 use Rattle.dcx_elab.specs.declared.work.Work.{Work}
 use Rattle.dcx_answer.specs.declared.cert_fault.CertFault.{CertFault}
 use Rattle.dcx_cert_sections.specs.declared.section.Sections.{Sections}
@@ -12,7 +11,7 @@ use Rattle.dcx_answer.specs.declared.cert_fault.CertFault.TheVariants as faults
 use Rattle.dcx_cert_sections.specs.declared.section.Section.{Section}
 use Rattle.dcx_cert_lines.specs.CertText.{cert_text}
 use Rattle.dcx_cache.specs.Programs.{HasMap}
-use Rattle.dcx_outcomes.specs.Outcomes.{Counts, CountsNoMore}
+use Rattle.dcx_outcomes.specs.Outcomes.{Counts}
 use Rattle.dcx_outcomes.specs.Warm.{AreFound}
 use Rattle.dcx_outcomes.specs.Wholes.{AreWholeOutcomes}
 use Rattle.dcx_cert_runs.specs.Sections.{StopsSomewhere, IsCertificateAt}
@@ -38,51 +37,38 @@ use Rattle.dcx_words.specs.Commands.{Command, check, solve, resolve, certificate
 use Rattle.dcx_words.specs.Laws.{is_warm_command}
 use Rattle.dcx_trial.specs.Trial.{trial_text}
 use Rattle.dcx_top.specs.Commands.{IsScriptOf, script_name, settings_name, certificate_name, parameter_name, AreOfFile, AreSettingsOf, limit_of, TellsOutcomes, TellsWholes}
-use Rattle.dcx_top.specs.Files.{run_of, RefusesScript, RefusesSettings, EndsAt, refused_at, HasTextOf, ReadsCertificate}
+use Rattle.dcx_top.specs.Files.{RefusesScript, RefusesSettings, HasTextOf}
+use Rattle.dcx_top.specs.Reading.{run_of, EndsAt, refused_at, ReadsCertificate}
+use Rattle.dcx_top.specs.Asked.{IsAcceptedWork}
+use Rattle.dcx_top.specs.Runs.{IsSolvedRun, IsBranchedRun, HasCertificate, ReadsSections, HasPassed, misread, failed, long_script, bad_script, for_whole, for_range}
+use Rattle.dcx_top.specs.Runs.{bad_settings, long_certificate, no_script, no_settings, no_certificate, CountsAtMostBeginning, CountsAtMost, none, beginning, solving, Causes}
+use Rattle.dcx_top.specs.Solving.{OrWhole, SolvesAt, BranchesAt, AnswersAt, TriesAt, CertifiesAt, DoesAt, DoesFrom, task_refuses, command_for, RangesFrom, lacking, ending, ranging, wanting}
+use Rattle.dcx_top.specs.Certifying.{GivesSettings, GivesSections, EndsFiles, at_script, at_whole, at_settings, at_certificate, at_memory}
 use Rattle.dcx_top.proofs.Counting.{no_more_of, begun_no_more}
 use Rattle.dcx_top.proofs.Reading.{told_fault}
 use Rattle.dcx_top.specs.NoRange.{AllowsRange}
+use Rattle.dcx_top.proofs.Kinds.{of_outcomes, of_wholes}
 use Rattle.dcx_top.proofs.Named.{unasked, allowed, allowed_reading}
-use Rattle.dcx_top.specs.Whole.{HasNoWhole, HasWhole, IsRefusedForWhole, RefusesWhole, Takes}
+use Rattle.dcx_declared.specs.Whole.{HasNoWhole, HasWhole}
+use Rattle.dcx_top.specs.Whole.{IsRefusedForWhole, RefusesWhole, Takes}
 use Rattle.dcx_top.specs.Ended.{IsToldOf}
 use Rattle.dcx_top.specs.declared.solving.Task.{Task}
 use Rattle.dcx_top.specs.declared.solving.Task.TheVariants as tasks
-use Rattle.dcx_top.specs.Runs.{GivesProblem, IsSolvedRun, IsBranchedRun, OrWhole, SolvesAt, BranchesAt, AnswersAt, TriesAt, CertifiesAt, DoesAt, DoesFrom, task_refuses}
-use Rattle.dcx_top.specs.Runs.{command_for, GivesSettings, GivesSections, EndsFiles, at_script, at_whole, at_settings, at_certificate, at_memory, HasCertificate, ReadsSections}
-use Rattle.dcx_top.specs.Runs.{HasPassed, misread, failed, long_script, bad_script, for_whole, for_range, bad_settings, long_certificate, no_script, no_settings, no_certificate}
-use Rattle.dcx_top.specs.Runs.{CountsAtMostBeginning, RangesFrom, lacking, ending, ranging, wanting, CountsAtMost, none, beginning, solving, Causes}
+
+-- a script whose bytes give an accepted problem
+accepted_work : (told : Option Files) (command : Command) (bytes : List ℕ) (a : Accepted) → IsScriptOf told command bytes → Gives bytes (Ok a) → IsAcceptedWork told command a.work
+accepted_work told command bytes a of gives =
+    let h = acceptance bytes a gives in
+    record { bytes = bytes; are_of = of; script = h.script; spelled = h.spelled; stands_for = h.stands_for; accepted = h.judged.accepted; convex = h.judged.convex }
 
 pub judged_of : (bytes : List ℕ) (a : Accepted) → Gives bytes (Ok a) → IsJudged a.work.problem a.verdict
 judged_of bytes a g = (acceptance bytes a g).judged
 
 -- ---- steps
--- a command that solves reads no certificate
-solves_uncertified : (command : Command) (sense : Sense) (os : List Outcome) (count : Option ℕ) (r : Run) → TellsOutcomes command sense os count r → certificate_name command ≡ None
-solves_uncertified (check script) sense os count r h = refl
-solves_uncertified (solve script limit) sense os count r h = refl
-solves_uncertified (resolve script name limit warm) sense os count r h = refl
-solves_uncertified (certificate script name limit) sense os count r h = refl
-solves_uncertified (certify script name file) sense os count r h = absurd h
-solves_uncertified (migrate script name file) sense os count r h = absurd h
-solves_uncertified (trial size limit) sense os count r h = refl
-solves_uncertified (iis script name limit) sense os count r h = refl
-solves_uncertified (range script name parameter limit) sense os count r h = refl
-
-branches_uncertified : (command : Command) (sense : Sense) (os : List WholeOutcome) (r : Run) → TellsWholes command sense os r → certificate_name command ≡ None
-branches_uncertified (check script) sense os r h = refl
-branches_uncertified (solve script limit) sense os r h = refl
-branches_uncertified (resolve script name limit warm) sense os r h = refl
-branches_uncertified (certificate script name limit) sense os r h = refl
-branches_uncertified (certify script name file) sense os r h = absurd h
-branches_uncertified (migrate script name file) sense os r h = absurd h
-branches_uncertified (trial size limit) sense os r h = refl
-branches_uncertified (iis script name limit) sense os r h = refl
-branches_uncertified (range script name parameter limit) sense os r h = refl
-
 at_most_beginning : (words : List (List ℕ)) (told : Option Files) (old new : ℕ) → CountsAtMostBeginning words told old new → CountsAtMost words told old new
 at_most_beginning words told old new (inl same) = none same
 at_most_beginning words told old new (inr h) =
-    beginning (range h.script h.name h.parameter h.limit) h.accepted h.parameter h.form h.problem refl (no_more_of h.accepted.work.problem 0 old new h.steps)
+    beginning (range h.script h.name h.parameter h.limit) h.work h.parameter h.form h.problem refl (no_more_of h.work.problem 0 old new h.steps)
 
 module _ (words : List (List ℕ)) (told : Option Files) (risen : Type 0) (command : Command) (form : command_of words ≡ Some command) where
   -- ---- the script ends the run
@@ -109,15 +95,15 @@ module _ (words : List (List ℕ)) (told : Option Files) (risen : Type 0) (comma
   made_ends bytes n (front.Refused r) of h = (bad_script command bytes form of h, inl refl)
   made_ends bytes n front.Memory of h = none refl
 
-  module _ (a : Accepted) (gives : GivesProblem told command a) where
+  module _ (a : Work) (gives : IsAcceptedWork told command a) where
     -- ---- a variable that is to be whole ends it
-    pub whole_ends : (old new : ℕ) (r : Run) → RefusesWhole command → (t : Refusal) × IsRefusedForWhole a.work.problem t × (r ≡ run.Refused t) × (new ≡ old) → Causes words told risen old new r
+    pub whole_ends : (old new : ℕ) (r : Run) → RefusesWhole command → (t : Refusal) × IsRefusedForWhole a.problem t × (r ≡ run.Refused t) × (new ≡ old) → Causes words told risen old new r
     whole_ends old new r refusing (t, h, e, same) =
         subst (Causes words told risen old new) (sym e) (for_whole command a form gives refusing h, inl same)
 
     -- ---- the settings file ends it
     -- behind the steps of a session's beginning, where one was begun
-    pub settings_end : (taken : Takes command a.work.problem) (allows : AllowsRange command a.work.problem) (name : List ℕ) (old new : ℕ) (r : Run) → CountsAtMostBeginning words told old new
+    pub settings_end : (taken : Takes command a.problem) (allows : AllowsRange command a.problem) (name : List ℕ) (old new : ℕ) (r : Run) → CountsAtMostBeginning words told old new
         → settings_name command ≡ Some name
         → EndsAt told risen Settings name RefusesSettings r → Causes words told risen old new r
     settings_end taken allows name old new run.ReadFault steps is h = (no_settings command a name form gives taken allows is h, steps)
@@ -135,19 +121,14 @@ module _ (words : List (List ℕ)) (told : Option Files) (risen : Type 0) (comma
     settings_end taken allows name old new (run.Ranged parameter sense outcomes) steps is h = absurd h
 
     -- ---- the problem is solved
-    module _ (settings : List Pairs) (asked : AreSettingsOf told command a.work settings) (tells : List Outcome → Option ℕ → Run)
-        (continuous : HasNoWhole a.work.problem) (told_so : (outcomes : List Outcome) (count : Option ℕ) → TellsOutcomes command a.work.problem.sense outcomes count (tells outcomes count)) where
-      abbrev solved_run : (old new : ℕ) (outcomes : List Outcome) (count : Option ℕ) → AreFound (is_warm_command command) a.work.problem (limit_of command) settings outcomes count
-          → Counts a.work.problem (length settings) old new
+    module _ (settings : List Pairs) (asked : AreSettingsOf told command a settings) (tells : List Outcome → Option ℕ → Run)
+        (continuous : HasNoWhole a.problem) (told_so : (outcomes : List Outcome) (count : Option ℕ) → TellsOutcomes command a.problem.sense outcomes count (tells outcomes count)) where
+      abbrev solved_run : (old new : ℕ) (outcomes : List Outcome) (count : Option ℕ) → AreFound (is_warm_command command) a.problem (limit_of command) settings outcomes count
+          → Counts a.problem (length settings) old new
           → IsSolvedRun words told old new (tells outcomes count)
       solved_run old new outcomes count are steps = record {
         command = command;
-        form = form;
-        accepted = a;
-        problem = gives;
-        continuous = continuous;
-        settings = settings;
-        asked = asked;
+        asked = record { form = form; work = a; problem = gives; marks = continuous; settings = settings; are_of = asked };
         outcomes = outcomes;
         warm = count;
         are = are;
@@ -157,24 +138,19 @@ module _ (words : List (List ℕ)) (told : Option Files) (risen : Type 0) (comma
 
       pub solved_so : (old new : ℕ) (r : Run) → ((outcomes : List Outcome) (count : Option ℕ) → IsSolvedRun words told old new (tells outcomes count)
           → Causes words told risen old new (tells outcomes count))
-          → SolvesAt (is_warm_command command) a.work.problem (limit_of command) settings tells old new r → Causes words told risen old new r
+          → SolvesAt (is_warm_command command) a.problem (limit_of command) settings tells old new r → Causes words told risen old new r
       solved_so old new r caused (inl (e, few)) =
-          subst (Causes words told risen old new) (sym e) (solving command a settings form gives (solves_uncertified command a.work.problem.sense [] None (tells [] None) (told_so [] None)) asked few)
+          subst (Causes words told risen old new) (sym e) (solving command a settings form gives (of_outcomes command a.problem.sense [] None (tells [] None) (told_so [] None)).certificate asked few)
       solved_so old new r caused (inr (outcomes, count, are, steps, e)) = subst (Causes words told risen old new) (sym e) (caused outcomes count (solved_run old new outcomes count are steps))
 
     -- ---- it is solved by branch and bound
-    module _ (settings : List Pairs) (asked : AreSettingsOf told command a.work settings) (tells : List WholeOutcome → Run) (marked : HasWhole a.work.problem)
-        (told_so : (outcomes : List WholeOutcome) → TellsWholes command a.work.problem.sense outcomes (tells outcomes)) where
-      abbrev branched_run : (old new : ℕ) (outcomes : List WholeOutcome) → AreWholeOutcomes a.work.problem (limit_of command) settings outcomes → Counts a.work.problem (length settings) old new
+    module _ (settings : List Pairs) (asked : AreSettingsOf told command a settings) (tells : List WholeOutcome → Run) (marked : HasWhole a.problem)
+        (told_so : (outcomes : List WholeOutcome) → TellsWholes command a.problem.sense outcomes (tells outcomes)) where
+      abbrev branched_run : (old new : ℕ) (outcomes : List WholeOutcome) → AreWholeOutcomes a.problem (limit_of command) settings outcomes → Counts a.problem (length settings) old new
           → IsBranchedRun words told old new (tells outcomes)
       branched_run old new outcomes are steps = record {
         command = command;
-        form = form;
-        accepted = a;
-        problem = gives;
-        marked = marked;
-        settings = settings;
-        asked = asked;
+        asked = record { form = form; work = a; problem = gives; marks = marked; settings = settings; are_of = asked };
         outcomes = outcomes;
         are = are;
         tells = told_so outcomes;
@@ -182,9 +158,9 @@ module _ (words : List (List ℕ)) (told : Option Files) (risen : Type 0) (comma
       }
 
       pub branched_so : (old new : ℕ) (r : Run) → ((outcomes : List WholeOutcome) → IsBranchedRun words told old new (tells outcomes) → Causes words told risen old new (tells outcomes)) →
-          BranchesAt a.work.problem (limit_of command) settings tells old new r → Causes words told risen old new r
+          BranchesAt a.problem (limit_of command) settings tells old new r → Causes words told risen old new r
       branched_so old new r caused (inl (e, few)) =
-          subst (Causes words told risen old new) (sym e) (solving command a settings form gives (branches_uncertified command a.work.problem.sense [] (tells []) (told_so [])) asked few)
+          subst (Causes words told risen old new) (sym e) (solving command a settings form gives (of_wholes command a.problem.sense [] (tells []) (told_so [])).certificate asked few)
       branched_so old new r caused (inr (outcomes, are, steps, e)) = subst (Causes words told risen old new) (sym e) (caused outcomes (branched_run old new outcomes are steps))
 
 -- ---- a certificate that is read
@@ -194,14 +170,16 @@ module _ (words : List (List ℕ)) (told : Option Files) (risen : Type 0) (comma
     (asks : (work : Work) (settings : List Pairs) → AreOfFile told name work.last settings → AreSettingsOf told command work settings) where
   abbrev has_certificate : (a : Accepted) (settings : List Pairs) → GivesSettings told script name a settings → HasCertificate words told command
   has_certificate a settings h = record {
-    form = form;
     name = file;
     named = named;
-    accepted = a;
-    problem = record { bytes = h.bytes; are_of = of h.bytes h.are_told; gives = h.gives };
-    continuous = h.continuous;
-    settings = settings;
-    asked = asks a.work settings h.asked;
+    asked = record {
+      form = form;
+      work = a.work;
+      problem = accepted_work told command h.bytes a (of h.bytes h.are_told) h.gives;
+      marks = h.continuous;
+      settings = settings;
+      are_of = asks a.work settings h.asked;
+    };
   }
 
   certificate_ends : (a : Accepted) (settings : List Pairs) (n : ℕ) (r : Run) → GivesSettings told script name a settings → ReadsCertificate told risen file a.work.problem (length settings) (Err r)
@@ -224,9 +202,9 @@ module _ (words : List (List ℕ)) (told : Option Files) (risen : Type 0) (comma
   -- one of the files ends the run
   pub files_end : (n : ℕ) (r : Run) → EndsFiles told risen script name file r → Causes words told risen n n r
   files_end n r (at_script h) = script_ends words told risen command form script n r scripted of h
-  files_end n r (at_whole a bytes t there gives h e) = whole_ends words told risen command form a (record { bytes = bytes; are_of = of bytes there; gives = gives }) n n r refuses (t, h, e, refl)
+  files_end n r (at_whole a bytes t there gives h e) = whole_ends words told risen command form a.work (accepted_work told command bytes a (of bytes there) gives) n n r refuses (t, h, e, refl)
   files_end n r (at_settings a bytes there gives free h) =
-      settings_end words told risen command form a (record { bytes = bytes; are_of = of bytes there; gives = gives }) (λ refusing. free)
+      settings_end words told risen command form a.work (accepted_work told command bytes a (of bytes there) gives) (λ refusing. free)
       (allowed_reading command a.work.problem file named) name n n r (inl refl) set h
   files_end n r (at_certificate a settings g h) = certificate_ends a settings n r g h
   files_end n r (at_memory e) = subst (Causes words told risen n n) (sym e) (none refl)
@@ -326,48 +304,50 @@ module _ (words : List (List ℕ)) (told : Option Files) (risen : Type 0) where
   pub checked : (script bytes : List ℕ) (a : Accepted) (c : Checked) (n : ℕ) → command_of words ≡ Some (check script) → IsTold told script bytes → Gives bytes (Ok a) → IsFoundOf a.work.problem c
       → Causes words told risen n n (run.Checked c)
   checked script bytes a c n form there gives found =
-      (record { script = script; form = form; accepted = a; problem = record { bytes = bytes; are_of = there; gives = gives }; found = found }, refl)
+      (record { script = script; form = form; work = a.work; problem = accepted_work told (check script) bytes a there gives; found = found }, refl)
 
   -- a problem is solved, by branch and bound where a variable is to be whole
-  answered : (command : Command) (said : Word) (a : Accepted) (gives : GivesProblem told command a) (settings : List Pairs) (old new : ℕ) (r : Run) → command_of words ≡ Some command
+  answered : (command : Command) (said : Word) (a : Work) (gives : IsAcceptedWork told command a) (settings : List Pairs) (old new : ℕ) (r : Run) → command_of words ≡ Some command
       → is_warm_command command ≡ false
-      → AreSettingsOf told command a.work settings → ((os : List Outcome) (count : Option ℕ) → TellsOutcomes command a.work.problem.sense os count (run.Solved said a.work.problem.sense os count)) →
-      ((os : List WholeOutcome) → TellsWholes command a.work.problem.sense os (run.Branched said a.work.problem.sense os)) → AnswersAt said a.work.problem (limit_of command) settings old new r
+      → AreSettingsOf told command a settings → ((os : List Outcome) (count : Option ℕ) → TellsOutcomes command a.problem.sense os count (run.Solved said a.problem.sense os count)) →
+      ((os : List WholeOutcome) → TellsWholes command a.problem.sense os (run.Branched said a.problem.sense os)) → AnswersAt said a.problem (limit_of command) settings old new r
       → Causes words told risen old new r
   answered command said a gives settings old new r form cold asked solves branches (inl (continuous, h)) =
-      solved_so words told risen command form a gives settings asked (λ os count. run.Solved said a.work.problem.sense os count) continuous solves old new r (λ os count k. k)
-      (subst (λ warm. SolvesAt warm a.work.problem (limit_of command) settings (λ os count. run.Solved said a.work.problem.sense os count) old new r) (sym cold) h)
+      solved_so words told risen command form a gives settings asked (λ os count. run.Solved said a.problem.sense os count) continuous solves old new r (λ os count k. k)
+      (subst (λ warm. SolvesAt warm a.problem (limit_of command) settings (λ os count. run.Solved said a.problem.sense os count) old new r) (sym cold) h)
   answered command said a gives settings old new r form cold asked solves branches (inr (marked, h)) =
-      branched_so words told risen command form a gives settings asked (λ os. run.Branched said a.work.problem.sense os) marked branches old new r (λ os k. k) h
+      branched_so words told risen command form a gives settings asked (λ os. run.Branched said a.problem.sense os) marked branches old new r (λ os k. k) h
 
   pub solved : (script bytes : List ℕ) (limit : ℕ) (a : Accepted) (old new : ℕ) (r : Run) → command_of words ≡ Some (solve script limit) → IsTold told script bytes → Gives bytes (Ok a) →
       AnswersAt word.Solve a.work.problem limit a.work.events old new r → Causes words told risen old new r
   solved script bytes limit a old new r form there gives h =
-      answered (solve script limit) word.Solve a (record { bytes = bytes; are_of = there; gives = gives }) a.work.events old new r form refl refl (λ os count. refl) (λ os. refl) h
+      answered (solve script limit) word.Solve a.work (accepted_work told (solve script limit) bytes a there gives) a.work.events old new r form refl refl (λ os count. refl) (λ os. refl) h
 
   -- ---- what is asked at the settings of a file
   does_at : (task : Task) (script name bytes : List ℕ) (limit : ℕ) (a : Accepted) (settings : List Pairs) (old new : ℕ) (r : Run) → command_of words ≡ Some (command_for task script name limit)
       → IsTold told script bytes → Gives bytes (Ok a)
       → (IsTrue (task_refuses task) → HasNoWhole a.work.problem) → AreOfFile told name a.work.last settings → DoesAt task a.work limit settings old new r → Causes words told risen old new r
   does_at (tasks.Resolve false) script name bytes limit a settings old new r form there gives free are h =
-      answered (resolve script name limit false) word.Setting a (record { bytes = bytes; are_of = there; gives = gives }) settings old new r form refl are (λ os count. refl) (λ os. refl) h
+      answered (resolve script name limit false) word.Setting a.work (accepted_work told (resolve script name limit false) bytes a there gives) settings old new r form refl are (λ os count. refl) (λ os. refl) h
   does_at (tasks.Resolve true) script name bytes limit a settings old new r form there gives free are h =
-      solved_so words told risen (resolve script name limit true) form a (record { bytes = bytes; are_of = there; gives = gives }) settings are
+      solved_so words told risen (resolve script name limit true) form a.work (accepted_work told (resolve script name limit true) bytes a there gives) settings are
       (λ os count. run.Solved word.Setting a.work.problem.sense os count) (free refl)
       (λ os count. refl) old new r (λ os count k. k) h
   does_at tasks.Certificate script name bytes limit a settings old new r form there gives free are (inl (e, few)) =
-      subst (Causes words told risen old new) (sym e) (solving (certificate script name limit) a settings form (record { bytes = bytes; are_of = there; gives = gives }) refl are few)
+      subst (Causes words told risen old new) (sym e) (solving (certificate script name limit) a.work settings form (accepted_work told (certificate script name limit) bytes a there gives) refl are few)
   does_at tasks.Certificate script name bytes limit a settings old new r form there gives free are (inr (c, stopped, is, flag, steps, e)) =
       subst (Causes words told risen old new) (sym e) (inl (record {
         script = script;
         name = name;
         limit = limit;
-        form = form;
-        accepted = a;
-        problem = record { bytes = bytes; are_of = there; gives = gives };
-        continuous = free refl;
-        settings = settings;
-        asked = are;
+        asked = record {
+          form = form;
+          work = a.work;
+          problem = accepted_work told (certificate script name limit) bytes a there gives;
+          marks = free refl;
+          settings = settings;
+          are_of = are;
+        };
         sections = c;
         are = is;
         flag = flag;
@@ -375,18 +355,20 @@ module _ (words : List (List ℕ)) (told : Option Files) (risen : Type 0) where
         steps = steps;
       }))
   does_at tasks.Filter script name bytes limit a settings old new r form there gives free are (inl (e, few)) =
-      subst (Causes words told risen old new) (sym e) (solving (iis script name limit) a settings form (record { bytes = bytes; are_of = there; gives = gives }) refl are few)
+      subst (Causes words told risen old new) (sym e) (solving (iis script name limit) a.work settings form (accepted_work told (iis script name limit) bytes a there gives) refl are few)
   does_at tasks.Filter script name bytes limit a settings old new r form there gives free are (inr (outcomes, is, steps, e)) =
       subst (Causes words told risen old new) (sym e) (record {
         script = script;
         name = name;
         limit = limit;
-        form = form;
-        accepted = a;
-        problem = record { bytes = bytes; are_of = there; gives = gives };
-        continuous = free refl;
-        settings = settings;
-        asked = are;
+        asked = record {
+          form = form;
+          work = a.work;
+          problem = accepted_work told (iis script name limit) bytes a there gives;
+          marks = free refl;
+          settings = settings;
+          are_of = are;
+        };
         are = is;
         steps = steps;
       })
@@ -396,15 +378,15 @@ module _ (words : List (List ℕ)) (told : Option Files) (risen : Type 0) where
       → OrWhole (IsTrue (task_refuses task)) a.work.problem (DoesFrom told risen task a.work name limit old new) old new r → Causes words told risen old new r
   done task script name bytes limit a old new r form there gives h = by h
     where
-      problem : GivesProblem told (command_for task script name limit) a
-      problem = record { bytes = bytes; are_of = task_script task script name limit told bytes there; gives = gives }
+      problem : IsAcceptedWork told (command_for task script name limit) a.work
+      problem = accepted_work told (command_for task script name limit) bytes a (task_script task script name limit told bytes there) gives
 
       by : OrWhole (IsTrue (task_refuses task)) a.work.problem (DoesFrom told risen task a.work name limit old new) old new r → Causes words told risen old new r
       by (inl (free, inl (settings, are, k))) = does_at task script name bytes limit a settings old new r form there gives free are k
       by (inl (free, inr (k, same))) =
-          settings_end words told risen (command_for task script name limit) form a problem (task_takes task script name limit a.work.problem free)
+          settings_end words told risen (command_for task script name limit) form a.work problem (task_takes task script name limit a.work.problem free)
           (unasked (command_for task script name limit) a.work.problem (task_unasked task script name limit)) name old new r (inl same) (task_settings task script name limit) k
-      by (inr (refuses, k)) = whole_ends words told risen (command_for task script name limit) form a problem old new r (task_refused task script name limit refuses) k
+      by (inr (refuses, k)) = whole_ends words told risen (command_for task script name limit) form a.work problem old new r (task_refused task script name limit refuses) k
 
   -- ---- the range of a parameter
   begun : (script name parameter bytes : List ℕ) (limit : ℕ) (a : Accepted) (old new : ℕ) → command_of words ≡ Some (range script name parameter limit) → IsTold told script bytes
@@ -416,8 +398,8 @@ module _ (words : List (List ℕ)) (told : Option Files) (risen : Type 0) where
     parameter = parameter;
     limit = limit;
     form = form;
-    accepted = a;
-    problem = record { bytes = bytes; are_of = there; gives = gives };
+    work = a.work;
+    problem = accepted_work told (range script name parameter limit) bytes a there gives;
     continuous = continuous;
     steps = steps;
   })
@@ -426,34 +408,36 @@ module _ (words : List (List ℕ)) (told : Option Files) (risen : Type 0) where
       → Gives bytes (Ok a)
       → OrWhole ⊤ a.work.problem (RangesFrom told risen a.work name parameter limit old new) old new r → Causes words told risen old new r
   ranged script name parameter bytes limit a old new r form there gives (inr (refuses, h)) =
-      whole_ends words told risen (range script name parameter limit) form a (record { bytes = bytes; are_of = there; gives = gives }) old new r tt h
+      whole_ends words told risen (range script name parameter limit) form a.work (accepted_work told (range script name parameter limit) bytes a there gives) old new r tt h
   ranged script name parameter bytes limit a old new r form there gives (inl (free, lacking t h e steps)) =
       subst (Causes words told risen old new) (sym e) (
-        for_range (range script name parameter limit) a parameter form (record { bytes = bytes; are_of = there; gives = gives }) (free tt) refl h,
+        for_range (range script name parameter limit) a.work parameter form (accepted_work told (range script name parameter limit) bytes a there gives) (free tt) refl h,
         begun script name parameter bytes limit a old new form there gives (free tt) steps,
       )
   ranged script name parameter bytes limit a old new r form there gives (inl (free, ending has h steps)) =
       let command = range script name parameter limit in
-      settings_end words told risen command form a (record { bytes = bytes; are_of = there; gives = gives }) free (allowed command a.work.problem parameter refl has) name old new r
+      settings_end words told risen command form a.work (accepted_work told command bytes a there gives) free (allowed command a.work.problem parameter refl has) name old new r
       (begun script name parameter bytes limit a old new form there gives (free tt) steps) refl h
   ranged script name parameter bytes limit a old new r form there gives (inl (free, ranging has settings outcomes asked are e steps)) =
       subst (Causes words told risen old new) (sym e) (record {
         script = script;
         name = name;
         limit = limit;
-        form = form;
-        accepted = a;
-        problem = record { bytes = bytes; are_of = there; gives = gives };
-        continuous = free tt;
+        asked = record {
+          form = form;
+          work = a.work;
+          problem = accepted_work told (range script name parameter limit) bytes a there gives;
+          marks = free tt;
+          settings = settings;
+          are_of = asked;
+        };
         ranged = has;
-        settings = settings;
-        asked = asked;
         are = are;
         sense_is = refl;
         steps = steps.mapped (has.map, has.is_map);
       })
   ranged script name parameter bytes limit a old new r form there gives (inl (free, wanting e few)) =
-      subst (Causes words told risen old new) (sym e) (beginning (range script name parameter limit) a parameter form (record { bytes = bytes; are_of = there; gives = gives }) refl few)
+      subst (Causes words told risen old new) (sym e) (beginning (range script name parameter limit) a.work parameter form (accepted_work told (range script name parameter limit) bytes a there gives) refl few)
 
   pub certified : (script name file : List ℕ) (p : Problem) (settings : List Pairs) (sections : Sections) (list : List Section) (n certs : ℕ) → command_of words ≡ Some (certify script name file) →
       GivesSections told script name file p settings sections → list ≡ sections.list → ArePassed p settings list → certs ≡ count_by is_cert list → Causes words told risen n n (run.Certified certs)
@@ -496,9 +480,9 @@ module _ (words : List (List ℕ)) (told : Option Files) (risen : Type 0) where
       OrWhole ⊤ a.work.problem (TriesAt a.work size limit old new) old new r → Causes words told risen old new r
   tried size limit a old new r form gives (inl (free, inl (e, same))) = subst (Causes words told risen old new) (sym e) (none same)
   tried size limit a old new r form gives (inl (free, inr (settings, are, h))) =
-      solved_so words told risen (trial size limit) form a (record { bytes = trial_text size; are_of = refl; gives = gives }) settings are (λ os count. run.Trial size os) (free tt) (λ os count. refl)
+      solved_so words told risen (trial size limit) form a.work (accepted_work told (trial size limit) (trial_text size) a refl gives) settings are (λ os count. run.Trial size os) (free tt) (λ os count. refl)
       old new r (λ os count k. k) h
-  tried size limit a old new r form gives (inr (refuses, h)) = whole_ends words told risen (trial size limit) form a (record { bytes = trial_text size; are_of = refl; gives = gives }) old new r tt h
+  tried size limit a old new r form gives (inr (refuses, h)) = whole_ends words told risen (trial size limit) form a.work (accepted_work told (trial size limit) (trial_text size) a refl gives) old new r tt h
 
 -- ---- words
 -- a run with a cause tells the usage line exactly where the words are no plain form
@@ -509,8 +493,8 @@ usage_of words told risen old new command r form h = (λ e. (subst (Causes words
 -- ---- what is told of a run
 solved_within : (words : List (List ℕ)) (told : Option Files) (old new : ℕ) (r : Run) → IsSolvedRun words told old new r → CountsAtMost words told old new
 solved_within words told old new r h =
-    solving h.command h.accepted h.settings h.form h.problem (solves_uncertified h.command h.accepted.work.problem.sense h.outcomes h.warm r h.tells) h.asked
-    (no_more_of h.accepted.work.problem (length h.settings) old new h.steps)
+    solving h.command h.asked.work h.asked.settings h.asked.form h.asked.problem (of_outcomes h.command h.asked.work.problem.sense h.outcomes h.warm r h.tells).certificate h.asked.are_of
+    (no_more_of h.asked.work.problem (length h.asked.settings) old new h.steps)
 
 -- where there is no memory for its report
 wanting_caused : (words : List (List ℕ)) (told : Option Files) (risen : Type 0) (old new : ℕ) (r : Run) → Causes words told risen old new r → Causes words told risen old new run.Memory
@@ -519,18 +503,18 @@ wanting_caused words told risen old new (run.Refused r) h = at_most_beginning wo
 wanting_caused words told risen old new (run.Checked c) h = none h.1
 wanting_caused words told risen old new (run.Solved word sense outcomes warm) h = solved_within words told old new (run.Solved word sense outcomes warm) h
 wanting_caused words told risen old new (run.Branched word sense outcomes) h =
-    solving h.command h.accepted h.settings h.form h.problem (branches_uncertified h.command h.accepted.work.problem.sense h.outcomes (run.Branched word sense outcomes) h.tells) h.asked
-    (no_more_of h.accepted.work.problem (length h.settings) old new h.steps)
+    solving h.command h.asked.work h.asked.settings h.asked.form h.asked.problem (of_wholes h.command h.asked.work.problem.sense h.outcomes (run.Branched word sense outcomes) h.tells).certificate h.asked.are_of
+    (no_more_of h.asked.work.problem (length h.asked.settings) old new h.steps)
 wanting_caused words told risen old new (run.Certificates text stopped) (inl h) =
-    solving (certificate h.script h.name h.limit) h.accepted h.settings h.form h.problem refl h.asked (no_more_of h.accepted.work.problem (length h.settings) old new h.steps)
+    solving (certificate h.script h.name h.limit) h.asked.work h.asked.settings h.asked.form h.asked.problem refl h.asked.are_of (no_more_of h.asked.work.problem (length h.asked.settings) old new h.steps)
 wanting_caused words told risen old new (run.Certificates text stopped) (inr (h, whole, same)) = none same
 wanting_caused words told risen old new (run.Certified n) h = none h.1
 wanting_caused words told risen old new (run.CertRefused section fault) h = none h.1
 wanting_caused words told risen old new (run.Trial size outcomes) h = solved_within words told old new (run.Trial size outcomes) h
 wanting_caused words told risen old new (run.Filtered outcomes) h =
-    solving (iis h.script h.name h.limit) h.accepted h.settings h.form h.problem refl h.asked (no_more_of h.accepted.work.problem (length h.settings) old new h.steps)
+    solving (iis h.script h.name h.limit) h.asked.work h.asked.settings h.asked.form h.asked.problem refl h.asked.are_of (no_more_of h.asked.work.problem (length h.asked.settings) old new h.steps)
 wanting_caused words told risen old new (run.Ranged parameter sense outcomes) h =
-    beginning (range h.script h.name parameter h.limit) h.accepted parameter h.form h.problem refl (begun_no_more h.accepted.work.problem old new (within h.steps))
+    beginning (range h.script h.name parameter h.limit) h.asked.work parameter h.asked.form h.asked.problem refl (begun_no_more h.asked.work.problem old new (within h.steps))
   where
     within : {a b : ℕ} → a ≡ b → a ≤ b
     within e = omega (arith, e)

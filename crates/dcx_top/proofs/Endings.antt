@@ -16,16 +16,17 @@ use Rattle.dcx_front.specs.Accepts.{Gives, Tells, read_ending}
 use Rattle.dcx_elab.specs.declared.work.Work.{Work}
 use Rattle.dcx_report.specs.declared.run.Run.{Run}
 use Rattle.dcx_report.specs.declared.run.Run.TheVariants as run
-use Rattle.dcx_top.specs.Files.{run_of, RefusesScript, RefusesSettings, EndsAt}
+use Rattle.dcx_top.specs.Files.{RefusesScript, RefusesSettings}
+use Rattle.dcx_top.specs.Reading.{run_of, EndsAt}
+use Rattle.dcx_top.specs.Solving.{OrWhole, FromFile, RangesFrom, lacking, ending, ranging, wanting}
 use Rattle.dcx_overlay.specs.Settings.{AreLaidOver}
 use Rattle.dcx_tree.specs.declared.problem.Problem.{Problem}
 use Rattle.dcx_answer.specs.declared.range_outcome.RangeOutcome.{RangeOutcome}
 use Rattle.dcx_cache.specs.Programs.{HasMap}
 use Rattle.dcx_outcomes.specs.Outcomes.{Counts}
 use Rattle.dcx_outcomes.specs.Ranges.{HasRange, AreRangeOutcomes}
-use Rattle.dcx_top.specs.Whole.{HasNoWhole}
+use Rattle.dcx_declared.specs.Whole.{HasNoWhole}
 use Rattle.dcx_top.proofs.Counting.{no_more_of}
-use Rattle.dcx_top.specs.Runs.{OrWhole, FromFile, RangesFrom, lacking, ending, ranging, wanting}
 
 -- a file whose bytes aren't had ends the run, whatever its bytes would be refused for
 pub ends_before : (told : Option Files) (risen : Type 0) (source : RefusalSource) (name : List ℕ) (Refuses : List ℕ → Refusal → Type 0) (r : Run) → EndsAt told risen source name (λ _ _. ⊥) r

@@ -6,7 +6,6 @@ use Rattle.dcx_host.specs.Files.{Files}
 use Rattle.dcx_point.specs.Pairs.{Pairs}
 use Rattle.dcx_elab.specs.declared.work.Work.{Work}
 use Rattle.dcx_tree.specs.declared.problem.Problem.{Problem}
-use Rattle.dcx_front.specs.declared.accepted.Accepted.{Accepted}
 use Rattle.dcx_refusal.specs.declared.refusal.Refusal.{Refusal}
 use Rattle.dcx_answer.specs.declared.cert_fault.CertFault.{CertFault}
 use Rattle.dcx_cert_sections.specs.declared.section.Sections.{Sections}
@@ -16,10 +15,12 @@ use Rattle.dcx_words.specs.Commands.{Command, certify, migrate, command_of}
 use Rattle.dcx_top.specs.Commands.{IsScriptOf, script_name, settings_name, certificate_name, parameter_name, AreSettingsOf}
 use Rattle.dcx_top.specs.Whole.{RefusesWhole, Takes}
 use Rattle.dcx_top.specs.NoRange.{AllowsRange}
-use Rattle.dcx_top.specs.Runs.{GivesProblem, HasCertificate, ReadsSections, IsCertRefusedRun, misread, failed, IsRefusedRun}
-use Rattle.dcx_top.specs.Runs.{long_script, bad_script, for_whole, for_range, bad_settings, long_certificate, Causes}
+use Rattle.dcx_top.specs.Asked.{IsAcceptedWork}
+use Rattle.dcx_top.specs.Runs.{HasCertificate, ReadsSections, IsCertRefusedRun, misread, failed, IsRefusedRun, long_script, bad_script, for_whole, for_range, bad_settings}
+use Rattle.dcx_top.specs.Runs.{long_certificate, Causes}
 use Rattle.dcx_top.specs.OneRun.{IsAnswered, AreOneRun, told_same, told_solved, told_branched, told_tried, told_filtered, told_ranged}
 use Rattle.dcx_top.specs.Migrated.{Refuses, MigrateRefusesAsCertify}
+use Rattle.dcx_top.proofs.Refusals.{of_other}
 use Rattle.dcx_top.proofs.OneRun.{only_run}
 
 -- commands that read the same files and take the same problems
@@ -64,19 +65,21 @@ module _ (words other : List (List ℕ)) (told : Option Files) (a b : Command) (
   twin : (command : Command) → command_of words ≡ Some command → Twins command b
   twin command is = subst (λ (c : Command). Twins c b) (same_Some a command (sym form ∙ is)) twins
 
-  problem_moved : (command : Command) (x : Accepted) → command_of words ≡ Some command → GivesProblem told command x → GivesProblem told b x
-  problem_moved command x is h = record { bytes = h.bytes; are_of = (twin command is).scripts told h.bytes h.are_of; gives = h.gives }
+  problem_moved : (command : Command) (x : Work) → command_of words ≡ Some command → IsAcceptedWork told command x → IsAcceptedWork told b x
+  problem_moved command x is h = of_other told told command b x h ((twin command is).scripts told h.bytes h.are_of)
 
   abbrev files_moved : (command : Command) → HasCertificate words told command → HasCertificate other told b
   files_moved command h = record {
-    form = meant;
     name = h.name;
-    named = (twin command h.form).certificate ∙ h.named;
-    accepted = h.accepted;
-    problem = problem_moved command h.accepted h.form h.problem;
-    continuous = h.continuous;
-    settings = h.settings;
-    asked = (twin command h.form).asks told h.accepted.work h.settings h.asked;
+    named = (twin command h.asked.form).certificate ∙ h.named;
+    asked = record {
+      form = meant;
+      work = h.asked.work;
+      problem = problem_moved command h.asked.work h.asked.form h.asked.problem;
+      marks = h.asked.marks;
+      settings = h.asked.settings;
+      are_of = (twin command h.asked.form).asks told h.asked.work h.asked.settings h.asked.are_of;
+    };
   }
 
   abbrev reads_moved : (command : Command) (sections : Sections) → ReadsSections words told command sections → ReadsSections other told b sections
@@ -89,7 +92,7 @@ module _ (words other : List (List ℕ)) (told : Option Files) (a b : Command) (
   refused_moved r (for_range command x name is gives free named h) = for_range b x name meant (problem_moved command x is gives) free ((twin command is).parameter ∙ named) h
   refused_moved r (bad_settings command x name is gives takes allows named h) =
       let t = twin command is in
-      bad_settings b x name meant (problem_moved command x is gives) (t.takes x.work.problem takes) (t.allows x.work.problem allows) (t.settings ∙ named) h
+      bad_settings b x name meant (problem_moved command x is gives) (t.takes x.problem takes) (t.allows x.problem allows) (t.settings ∙ named) h
   refused_moved r (long_certificate command files long) = long_certificate b (files_moved command files) long
 
   cert_moved : (section : ℕ) (fault : CertFault) → IsCertRefusedRun words told section fault → IsCertRefusedRun other told section fault

@@ -1,14 +1,10 @@
 -- Commands that ask for the range of a parameter.
-use Rattle.std.proofs.Common.{◌≡◌, ℕ, true, false, List, Option, Some, None, refl, sym, subst, ◌∙◌}
+use Rattle.std.proofs.Common.{◌≡◌, ℕ, List, Some, None, sym, subst, ◌∙◌}
 use Rattle.std.proofs.lemmas.Option.{none-some, same_Some}
-use Rattle.dcx_tree.specs.declared.constraint.Sense.{Sense}
 use Rattle.dcx_tree.specs.declared.problem.Problem.{Problem}
-use Rattle.dcx_answer.specs.declared.outcome.Outcome.{Outcome}
-use Rattle.dcx_answer.specs.declared.whole_outcome.WholeOutcome.{WholeOutcome}
-use Rattle.dcx_report.specs.declared.run.Run.{Run}
 use Rattle.dcx_words.specs.Commands.{Command, check, solve, resolve, certificate, certify, migrate, trial, iis, range}
 use Rattle.dcx_outcomes.specs.Ranges.{HasRange}
-use Rattle.dcx_top.specs.Commands.{certificate_name, parameter_name, TellsOutcomes, TellsWholes}
+use Rattle.dcx_top.specs.Commands.{certificate_name, parameter_name}
 use Rattle.dcx_top.specs.NoRange.{AllowsRange}
 
 -- a command that asks for none
@@ -33,27 +29,3 @@ reads_no_parameter (range script settings parameter limit) name file h k = none-
 
 pub allowed_reading : (command : Command) (p : Problem) (file : List ℕ) → certificate_name command ≡ Some file → AllowsRange command p
 allowed_reading command p file is name named = absurd (reads_no_parameter command name file named is)
-
--- nor does one whose outcomes are told
-pub tells_no_parameter : (command : Command) (sense : Sense) (os : List Outcome) (count : Option ℕ) (r : Run) → TellsOutcomes command sense os count r → parameter_name command ≡ None
-tells_no_parameter (check script) sense os count r h = absurd h
-tells_no_parameter (solve script limit) sense os count r h = refl
-tells_no_parameter (resolve script name limit warm) sense os count r h = refl
-tells_no_parameter (certificate script name limit) sense os count r h = absurd h
-tells_no_parameter (certify script name cert) sense os count r h = absurd h
-tells_no_parameter (migrate script name cert) sense os count r h = absurd h
-tells_no_parameter (trial size limit) sense os count r h = refl
-tells_no_parameter (iis script name limit) sense os count r h = absurd h
-tells_no_parameter (range script name parameter limit) sense os count r h = absurd h
-
-pub wholes_no_parameter : (command : Command) (sense : Sense) (os : List WholeOutcome) (r : Run) → TellsWholes command sense os r → parameter_name command ≡ None
-wholes_no_parameter (check script) sense os r h = absurd h
-wholes_no_parameter (solve script limit) sense os r h = refl
-wholes_no_parameter (resolve script name limit false) sense os r h = refl
-wholes_no_parameter (resolve script name limit true) sense os r h = absurd h
-wholes_no_parameter (certificate script name limit) sense os r h = absurd h
-wholes_no_parameter (certify script name cert) sense os r h = absurd h
-wholes_no_parameter (migrate script name cert) sense os r h = absurd h
-wholes_no_parameter (trial size limit) sense os r h = absurd h
-wholes_no_parameter (iis script name limit) sense os r h = absurd h
-wholes_no_parameter (range script name parameter limit) sense os r h = absurd h

@@ -1,5 +1,5 @@
 -- A run that refuses a file is one, and no run that goes on.
-use Rattle.std.proofs.Common.{◌≡◌, ℕ, ◌≤◌, Bool, true, false, List, length, Option, Some, None, refl, sym, ap, subst, ◌∙◌}
+use Rattle.std.proofs.Common.{◌≡◌, ℕ, ◌≤◌, Bool, true, false, List, length, Some, None, refl, sym, ap, subst, ◌∙◌}
 use Rattle.std.proofs.lemmas.Option.{none-some, same_Some}
 use Rattle.dcx_tree.specs.declared.constraint.Sense.{Sense}
 use Rattle.dcx_host.specs.Files.{Files}
@@ -8,45 +8,21 @@ use Rattle.dcx_refusal.specs.declared.refusal.Refusal.{Refusal}
 use Rattle.dcx_refusal.specs.declared.refusal.RefusalSource.TheVariants.{Certificate}
 use Rattle.dcx_answer.specs.declared.cert_fault.CertFault.{CertFault}
 use Rattle.dcx_cert_sections.specs.declared.section.Sections.{Sections}
-use Rattle.dcx_answer.specs.declared.outcome.Outcome.{Outcome}
 use Rattle.dcx_answer.specs.declared.filter_outcome.FilterOutcome.{FilterOutcome}
 use Rattle.dcx_answer.specs.declared.whole_outcome.WholeOutcome.{WholeOutcome}
 use Rattle.dcx_answer.specs.declared.range_outcome.RangeOutcome.{RangeOutcome}
 use Rattle.dcx_report.specs.declared.run.Run.{Run}
 use Rattle.dcx_words.specs.Commands.{Command, check, solve, resolve, certificate, certify, migrate, trial, iis, range, command_of}
-use Rattle.dcx_top.specs.Commands.{certificate_name, TellsOutcomes, TellsWholes}
+use Rattle.dcx_top.specs.Commands.{certificate_name, TellsWholes}
 use Rattle.dcx_top.specs.Files.{most_bytes}
 use Rattle.dcx_top.specs.Runs.{IsChecked, IsSolvedRun, IsBranchedRun, IsFilteredRun, IsRangedRun, IsCertificateRun, HasCertificate, ReadsSections, IsMigrateRun, IsCertifiedRun}
 use Rattle.dcx_top.specs.Runs.{IsCertRefusedRun, misread, failed, IsRefusedRun, long_script, bad_script, for_whole, for_range, bad_settings, long_certificate}
 use Rattle.dcx_top.specs.Whole.{RefusesWhole}
-use Rattle.dcx_top.proofs.Named.{unasked, allowed, allowed_reading, tells_no_parameter, wholes_no_parameter}
+use Rattle.dcx_top.proofs.Kinds.{of_outcomes, of_wholes}
+use Rattle.dcx_top.proofs.Named.{unasked, allowed, allowed_reading}
 use Rattle.dcx_top.proofs.Refusals.{refuses, one_refused, IsShort, never_refused, never_refused_check}
 
--- a command whose outcomes are told has no certificate
-pub tells_none : (command : Command) (sense : Sense) (os : List Outcome) (count : Option ℕ) (r : Run) → TellsOutcomes command sense os count r → certificate_name command ≡ None
-tells_none (check script) sense os count r h = absurd h
-tells_none (solve script limit) sense os count r h = refl
-tells_none (resolve script name limit warm) sense os count r h = refl
-tells_none (certificate script name limit) sense os count r h = absurd h
-tells_none (certify script name cert) sense os count r h = absurd h
-tells_none (migrate script name cert) sense os count r h = absurd h
-tells_none (trial size limit) sense os count r h = refl
-tells_none (iis script name limit) sense os count r h = absurd h
-tells_none (range script name parameter limit) sense os count r h = absurd h
-
--- nor has one that solves by branch and bound, and it takes any problem
-pub wholes_none : (command : Command) (sense : Sense) (os : List WholeOutcome) (r : Run) → TellsWholes command sense os r → certificate_name command ≡ None
-wholes_none (check script) sense os r h = absurd h
-wholes_none (solve script limit) sense os r h = refl
-wholes_none (resolve script name limit false) sense os r h = refl
-wholes_none (resolve script name limit true) sense os r h = absurd h
-wholes_none (certificate script name limit) sense os r h = absurd h
-wholes_none (certify script name cert) sense os r h = absurd h
-wholes_none (migrate script name cert) sense os r h = absurd h
-wholes_none (trial size limit) sense os r h = absurd h
-wholes_none (iis script name limit) sense os r h = absurd h
-wholes_none (range script name parameter limit) sense os r h = absurd h
-
+-- a command that solves by branch and bound takes any problem
 pub wholes_taken : (command : Command) (sense : Sense) (os : List WholeOutcome) (r : Run) → TellsWholes command sense os r → ¬ RefusesWhole command
 wholes_taken (check script) sense os r h t = h
 wholes_taken (solve script limit) sense os r h t = t
@@ -73,7 +49,7 @@ module _ (words : List (List ℕ)) (files : Files) where
   command_of_refused r (for_whole c a e g solving h) = (c, e)
   command_of_refused r (for_range c a name e g free is h) = (c, e)
   command_of_refused r (bad_settings c a name e g free allows is h) = (c, e)
-  command_of_refused r (long_certificate c f long) = (c, f.form)
+  command_of_refused r (long_certificate c f long) = (c, f.asked.form)
 
   pub refused_once : (r t : Refusal) → IsRefusedRun words (Some files) r → IsRefusedRun words (Some files) t → r ≡ t
   refused_once r t h k =
@@ -82,46 +58,46 @@ module _ (words : List (List ℕ)) (files : Files) where
 
   -- ---- runs that go on
   pub refused_or_checked : (r : Refusal) (c : Checked) → IsRefusedRun words (Some files) r → IsChecked words (Some files) c → ⊥
-  refused_or_checked r c h k = never_refused_check files k.script k.accepted r k.problem (refuses words files (check k.script) k.form r h)
+  refused_or_checked r c h k = never_refused_check files k.script k.work r k.problem (refuses words files (check k.script) k.form r h)
 
   pub refused_or_solved : (r : Refusal) (old new : ℕ) (s : Run) → IsRefusedRun words (Some files) r → IsSolvedRun words (Some files) old new s → ⊥
   refused_or_solved r old new s h k =
-      never_refused files k.command k.accepted k.settings r k.problem (λ refusing. k.continuous)
-      (unasked k.command k.accepted.work.problem (tells_no_parameter k.command k.accepted.work.problem.sense k.outcomes k.warm s k.tells)) k.asked
-      (short_of_none k.command (tells_none k.command k.accepted.work.problem.sense k.outcomes k.warm s k.tells)) (refuses words files k.command k.form r h)
+      never_refused files k.command k.asked.work k.asked.settings r k.asked.problem (λ refusing. k.asked.marks)
+      (unasked k.command k.asked.work.problem (of_outcomes k.command k.asked.work.problem.sense k.outcomes k.warm s k.tells).parameter) k.asked.are_of
+      (short_of_none k.command (of_outcomes k.command k.asked.work.problem.sense k.outcomes k.warm s k.tells).certificate) (refuses words files k.command k.asked.form r h)
 
   pub refused_or_branched : (r : Refusal) (old new : ℕ) (s : Run) → IsRefusedRun words (Some files) r → IsBranchedRun words (Some files) old new s → ⊥
   refused_or_branched r old new s h k =
-      let sense = k.accepted.work.problem.sense in
-      never_refused files k.command k.accepted k.settings r k.problem (λ refusing. absurd (wholes_taken k.command sense k.outcomes s k.tells refusing))
-      (unasked k.command k.accepted.work.problem (wholes_no_parameter k.command sense k.outcomes s k.tells)) k.asked
-      (short_of_none k.command (wholes_none k.command sense k.outcomes s k.tells)) (refuses words files k.command k.form r h)
+      let sense = k.asked.work.problem.sense in
+      never_refused files k.command k.asked.work k.asked.settings r k.asked.problem (λ refusing. absurd (wholes_taken k.command sense k.outcomes s k.tells refusing))
+      (unasked k.command k.asked.work.problem (of_wholes k.command sense k.outcomes s k.tells).parameter) k.asked.are_of
+      (short_of_none k.command (of_wholes k.command sense k.outcomes s k.tells).certificate) (refuses words files k.command k.asked.form r h)
 
   pub refused_or_written : (r : Refusal) (old new : ℕ) (bytes : List ℕ) (stopped : Bool) → IsRefusedRun words (Some files) r → IsCertificateRun words (Some files) old new bytes stopped → ⊥
   refused_or_written r old new bytes stopped h k =
       let command = certificate k.script k.name k.limit in
-      never_refused files command k.accepted k.settings r k.problem (λ refusing. k.continuous) (unasked command k.accepted.work.problem refl) k.asked (short_of_none command refl)
-      (refuses words files command k.form r h)
+      never_refused files command k.asked.work k.asked.settings r k.asked.problem (λ refusing. k.asked.marks) (unasked command k.asked.work.problem refl) k.asked.are_of (short_of_none command refl)
+      (refuses words files command k.asked.form r h)
 
   pub refused_or_filtered : (r : Refusal) (old new : ℕ) (os : List FilterOutcome) → IsRefusedRun words (Some files) r → IsFilteredRun words (Some files) old new os → ⊥
   refused_or_filtered r old new os h k =
       let command = iis k.script k.name k.limit in
-      never_refused files command k.accepted k.settings r k.problem (λ refusing. k.continuous) (unasked command k.accepted.work.problem refl) k.asked (short_of_none command refl)
-      (refuses words files command k.form r h)
+      never_refused files command k.asked.work k.asked.settings r k.asked.problem (λ refusing. k.asked.marks) (unasked command k.asked.work.problem refl) k.asked.are_of (short_of_none command refl)
+      (refuses words files command k.asked.form r h)
 
   pub refused_or_ranged : (r : Refusal) (old new : ℕ) (name : List ℕ) (sense : Sense) (os : List RangeOutcome) → IsRefusedRun words (Some files) r
       → IsRangedRun words (Some files) old new name sense os → ⊥
   refused_or_ranged r old new name sense os h k =
       let command = range k.script k.name name k.limit in
-      never_refused files command k.accepted k.settings r k.problem (λ refusing. k.continuous) (allowed command k.accepted.work.problem name refl k.ranged) k.asked (short_of_none command refl)
-      (refuses words files command k.form r h)
+      never_refused files command k.asked.work k.asked.settings r k.asked.problem (λ refusing. k.asked.marks) (allowed command k.asked.work.problem name refl k.ranged) k.asked.are_of (short_of_none command refl)
+      (refuses words files command k.asked.form r h)
 
   -- ---- runs that read a certificate
   refused_or_files : (r : Refusal) (command : Command) (f : HasCertificate words (Some files) command) (bytes : List ℕ) → files f.name ≡ Some bytes → length bytes ≤ most_bytes Certificate
       → IsRefusedRun words (Some files) r → ⊥
   refused_or_files r command f bytes there few h =
-      never_refused files command f.accepted f.settings r f.problem (λ refusing. f.continuous) (allowed_reading command f.accepted.work.problem f.name f.named) f.asked
-      (short_of command f.name bytes f.named there few) (refuses words files command f.form r h)
+      never_refused files command f.asked.work f.asked.settings r f.asked.problem (λ refusing. f.asked.marks) (allowed_reading command f.asked.work.problem f.name f.named) f.asked.are_of
+      (short_of command f.name bytes f.named there few) (refuses words files command f.asked.form r h)
 
   pub refused_or_read : (r : Refusal) (command : Command) (sections : Sections) → IsRefusedRun words (Some files) r → ReadsSections words (Some files) command sections → ⊥
   refused_or_read r command sections h k = refused_or_files r command k.files k.has.bytes k.has.are_told k.has.few h

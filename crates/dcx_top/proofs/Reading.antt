@@ -19,9 +19,10 @@ use Rattle.dcx_front.specs.Accepts.{Gives}
 use Rattle.dcx_front.proofs.OneVerdict.{acceptance}
 use Rattle.dcx_report.specs.declared.run.Run.{Run}
 use Rattle.dcx_report.specs.declared.run.Run.TheVariants as run
-use Rattle.dcx_top.specs.Files.{most_bytes, refused_at, HasTextOf, ReadsCertificate}
-use Rattle.dcx_top.specs.Whole.{HasNoWhole}
-use Rattle.dcx_top.specs.Runs.{GivesSettings, GivesSections, EndsFiles, at_certificate, at_memory}
+use Rattle.dcx_top.specs.Files.{most_bytes, HasTextOf}
+use Rattle.dcx_top.specs.Reading.{refused_at, ReadsCertificate}
+use Rattle.dcx_top.specs.Certifying.{GivesSettings, GivesSections, EndsFiles, at_certificate, at_memory}
+use Rattle.dcx_declared.specs.Whole.{HasNoWhole}
 
 -- ---- the run of a fault
 -- it tells the fault, or want of memory

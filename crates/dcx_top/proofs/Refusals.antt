@@ -1,58 +1,55 @@
 -- What a refusal says of files that are told: one fault, and no other.
-use Rattle.std.proofs.Common.{◌≡◌, inl, inr, ℕ, ◌<◌, ◌≤◌, List, length, Some, Ok, Err, refl, sym, ap, subst, ◌∙◌, arith}
+use Rattle.std.proofs.Common.{◌≡◌, inl, inr, ℕ, ◌<◌, ◌≤◌, List, length, Option, Some, Ok, Err, refl, sym, ap, subst, ◌∙◌, arith}
 use Rattle.std.proofs.lemmas.Option.{none-some, same_Some}
-use Rattle.std.specs.Prelude.{slice_get}
 use Rattle.dcx_tokens.specs.declared.fault.ReadFault.{ReadFault}
 use Rattle.dcx_tokens.specs.declared.fault.ReadFault.TheVariants as reads
 use Rattle.dcx_tokens.specs.Position.{start_of_text}
-use Rattle.dcx_read.specs.Parses.{no_text as no_script_text}
+use Rattle.dcx_read.specs.Parses.{IsReading, no_text as no_script_text}
+use Rattle.dcx_read.proofs.OneReading.{one_script as one_view}
 use Rattle.dcx_settings.specs.declared.settings.SettingItem.{SettingItem}
 use Rattle.dcx_settings.specs.File.{IsRefused, SpellSettings, no_text as no_settings_text}
 use Rattle.dcx_settings.proofs.OneAnswer.{refused_one, settings_apart}
 use Rattle.dcx_host.specs.Files.{Files}
 use Rattle.dcx_elab.specs.declared.work.Work.{Work}
 use Rattle.dcx_point.specs.Pairs.{Pairs}
-use Rattle.dcx_tree.specs.Nodes.{Node}
-use Rattle.dcx_call.specs.declared.attribute.Variable.{Variable}
 use Rattle.dcx_tree.specs.declared.problem.Problem.{Problem}
 use Rattle.dcx_shape.specs.declared.place.Place.{Place}
 use Rattle.dcx_answer.specs.declared.not_ranged.NotRanged.{NotRanged as Fault}
 use Rattle.dcx_answer.specs.declared.not_ranged.NotRanged.TheVariants as faults
 use Rattle.dcx_outcomes.proofs.RangeEnds.{range_is_told}
-use Rattle.dcx_front.specs.declared.accepted.Accepted.{Accepted}
 use Rattle.dcx_front.specs.declared.fault.FrontFault.TheVariants as front
 use Rattle.dcx_refusal.specs.declared.refusal.Refusal.{Refusal}
 use Rattle.dcx_refusal.specs.declared.refusal.Carried.TheVariants.{Nothing, NotRanged}
 use Rattle.dcx_refusal.specs.declared.refusal.RefusalSource.TheVariants.{Script, Settings, Certificate}
 use Rattle.dcx_refusal.specs.Made.{IsTooLong, IsRefusedAs}
-use Rattle.dcx_front.specs.Accepts.{Given, Gives, unread, Ending, refused, without_memory, IsRefusedBy, read_ending}
-use Rattle.dcx_front.proofs.OneAnswer.{one_answer}
+use Rattle.dcx_front.specs.Accepts.{Given, unread, Ending, refused, without_memory, IsRefusedBy, read_ending}
+use Rattle.dcx_front.specs.OneAnswer.{IsWithoutFault}
+use Rattle.dcx_front.proofs.OneAnswer.{one_answer, one_work}
+use Rattle.dcx_front.proofs.OneVerdict.{apart, refused_for}
 use Rattle.dcx_front.proofs.OneCheck.{one_refusal}
 use Rattle.dcx_words.specs.Commands.{Command, check, solve, resolve, certificate, certify, migrate, trial, iis, range, command_of}
 use Rattle.dcx_top.specs.Commands.{IsScriptOf, script_name, settings_name, certificate_name, parameter_name, AreOfFile, AreSettingsOf}
 use Rattle.dcx_top.specs.Files.{most_bytes, RefusesScript, RefusesSettings}
-use Rattle.dcx_top.specs.Runs.{GivesProblem, IsRefusedRun, long_script, bad_script, for_whole, for_range, bad_settings, long_certificate}
-use Rattle.dcx_top.specs.Stands.{StandsAt}
+use Rattle.dcx_top.specs.Asked.{IsAcceptedWork}
+use Rattle.dcx_top.specs.Runs.{IsRefusedRun, long_script, bad_script, for_whole, for_range, bad_settings, long_certificate}
 use Rattle.dcx_top.specs.NoRange.{IsPlaceOf, IsRefusedForRange, AllowsRange}
 use Rattle.dcx_top.proofs.Named.{reads_no_parameter}
-use Rattle.dcx_top.proofs.Standing.{stands_once}
-use Rattle.dcx_top.specs.Whole.{HasNoWhole, IsFirstWhole, IsRefusedForWhole, RefusesWhole, Takes}
+use Rattle.dcx_declared.specs.Whole.{HasNoWhole}
+use Rattle.dcx_declared.proofs.Marked.{places_are_one}
+use Rattle.dcx_top.specs.Whole.{IsRefusedForWhole, RefusesWhole, Takes}
 
 -- ---- answers of the front
-same_accepted : (a b : Accepted) → ◌≡◌ {A = Given} (Ok a) (Ok b) → a ≡ b
-same_accepted a b e = cc
-
 same_refused : (r t : Refusal) → ◌≡◌ {A = Given} (Err (front.Refused r)) (Err (front.Refused t)) → r ≡ t
 same_refused r t e = cc
 
-never_both : (a : Accepted) (r : Refusal) → ◌≡◌ {A = Given} (Ok a) (Err (front.Refused r)) → ⊥
-never_both a r e = cc
+-- the bytes of a script whose problem is accepted have no fault
+abbrev pub without_fault : (told : Option Files) (command : Command) (work : Work) (g : IsAcceptedWork told command work) → IsWithoutFault g.bytes
+without_fault told command work g = record { script = g.script; spelled = g.spelled; work = work; stands_for = g.stands_for; accepted = g.accepted }
 
-pub one_accepted : (bytes : List ℕ) (a b : Accepted) → Gives bytes (Ok a) → Gives bytes (Ok b) → a ≡ b
-one_accepted bytes a b g h = same_accepted a b (one_answer bytes (Ok a) g (Ok b) h)
-
-pub accepted_or_refused : (bytes : List ℕ) (a : Accepted) (r : Refusal) → Gives bytes (Ok a) → RefusesScript bytes r → ⊥
-accepted_or_refused bytes a r g h = never_both a r (one_answer bytes (Ok a) g (Err (front.Refused r)) h)
+-- a work is that of another command too whose script has the same bytes
+abbrev pub of_other : (told other : Option Files) (command twin : Command) (work : Work) (h : IsAcceptedWork told command work) → IsScriptOf other twin h.bytes → IsAcceptedWork other twin work
+of_other told other command twin work h are =
+    record { bytes = h.bytes; are_of = are; script = h.script; spelled = h.spelled; stands_for = h.stands_for; accepted = h.accepted; convex = h.convex }
 
 -- ---- the bytes of a command's files
 module _ (files : Files) where
@@ -81,11 +78,11 @@ module _ (files : Files) where
   script_is (iis script settings limit) name bytes e h = subst (λ n. files n ≡ Some bytes) (sym (same_Some script name e)) h
   script_is (range script settings parameter limit) name bytes e h = subst (λ n. files n ≡ Some bytes) (sym (same_Some script name e)) h
 
-  -- an accepted problem is one
-  pub one_problem : (command : Command) (a b : Accepted) → GivesProblem (Some files) command a → GivesProblem (Some files) command b → a ≡ b
+  -- the work that a script stands for is one
+  pub one_problem : (command : Command) (a b : Work) → IsAcceptedWork (Some files) command a → IsAcceptedWork (Some files) command b → a ≡ b
   one_problem command a b g h =
-      let same = one_script command g.bytes h.bytes g.are_of h.are_of in
-      one_accepted h.bytes a b (subst (λ x. Gives x (Ok a)) same g.gives) h.gives
+      let spelled = subst (λ x. IsReading x (Ok g.script)) (one_script command g.bytes h.bytes g.are_of h.are_of) g.spelled in
+      one_work g.script h.script (one_view h.bytes g.script h.script spelled h.spelled) a b g.stands_for h.stands_for
 
   -- the settings of a file are spelled by its bytes
   spelled_in : (file : List ℕ) (work : Work) (settings : List Pairs) (name bytes : List ℕ) → AreOfFile (Some files) file work.last settings → Some file ≡ Some name → files name ≡ Some bytes
@@ -113,12 +110,12 @@ module _ (files : Files) where
 -- length
 pub data Refuses (files : Files) (command : Command) (r : Refusal) : Type 0 where
   in_script : (bytes : List ℕ) → IsScriptOf (Some files) command bytes → RefusesScript bytes r → Refuses files command r
-  in_problem : (a : Accepted) → GivesProblem (Some files) command a → RefusesWhole command → IsRefusedForWhole a.work.problem r → Refuses files command r
-  in_range : (a : Accepted) (name : List ℕ) → GivesProblem (Some files) command a → HasNoWhole a.work.problem → parameter_name command ≡ Some name → IsRefusedForRange a.work.problem name r
+  in_problem : (a : Work) → IsAcceptedWork (Some files) command a → RefusesWhole command → IsRefusedForWhole a.problem r → Refuses files command r
+  in_range : (a : Work) (name : List ℕ) → IsAcceptedWork (Some files) command a → HasNoWhole a.problem → parameter_name command ≡ Some name → IsRefusedForRange a.problem name r
       → Refuses files command r
-  in_settings : (a : Accepted) (name bytes : List ℕ) → GivesProblem (Some files) command a → Takes command a.work.problem → AllowsRange command a.work.problem → settings_name command ≡ Some name
+  in_settings : (a : Work) (name bytes : List ℕ) → IsAcceptedWork (Some files) command a → Takes command a.problem → AllowsRange command a.problem → settings_name command ≡ Some name
       → files name ≡ Some bytes → RefusesSettings bytes r → Refuses files command r
-  in_length : (a : Accepted) (settings : List Pairs) (name bytes : List ℕ) → GivesProblem (Some files) command a → HasNoWhole a.work.problem → AreSettingsOf (Some files) command a.work settings
+  in_length : (a : Work) (settings : List Pairs) (name bytes : List ℕ) → IsAcceptedWork (Some files) command a → HasNoWhole a.problem → AreSettingsOf (Some files) command a settings
       → certificate_name command ≡ Some name
       → files name ≡ Some bytes → most_bytes Certificate < length bytes → IsTooLong Certificate r → Refuses files command r
 
@@ -139,35 +136,24 @@ module _ (words : List (List ℕ)) (files : Files) (command : Command) (form : c
   refuses r (bad_settings c a name e g free allows is (inl (long, (bytes, there, more)))) =
       of_command r c e (in_settings a name bytes g free allows is there (record { fault = reads.TooLong start_of_text.place; refused = no_settings_text (more, refl); told = long }))
   refuses r (bad_settings c a name e g free allows is (inr (bytes, there, h))) = of_command r c e (in_settings a name bytes g free allows is there h)
-  refuses r (long_certificate c f (long, (bytes, there, more))) = of_command r c f.form (in_length f.accepted f.settings f.name bytes f.problem f.continuous f.asked f.named there more long)
+  refuses r (long_certificate c f (long, (bytes, there, more))) = of_command r c f.asked.form (in_length f.asked.work f.asked.settings f.name bytes f.asked.problem f.asked.marks f.asked.are_of f.named there more long)
 
--- the first variable that is to be whole is one, and so is its name
-one_first : (p : Problem) (i j : ℕ) → IsFirstWhole p i → IsFirstWhole p j → i ≡ j
-one_first p i j h k =
-    let low : i < j → ⊥ = (λ l. k.before i l h.is) in
-    let high : j < i → ⊥ = (λ l. h.before j l k.is) in
-    omega (arith, low, high)
-
-one_variable : (p : Problem) (i j : ℕ) (h : IsFirstWhole p i) (k : IsFirstWhole p j) → h.is.variable ≡ k.is.variable
-one_variable p i j h k = same_Some h.is.variable k.is.variable (sym h.is.there ∙ ap (slice_get p.variables) (one_first p i j h k) ∙ k.is.there)
-
+-- what a script is refused for, where a variable is to be whole, is one
 one_whole : (p : Problem) (r t : Refusal) → IsRefusedForWhole p r → IsRefusedForWhole p t → r ≡ t
 one_whole p r t h k =
-    let name = ap (λ (v : Variable). v.name) (one_variable p h.number k.number h.first k.first) in
-    let place = stands_once p.tree k.first.is.variable.name h.place k.place (subst (λ n. StandsAt p.tree n h.place) name h.stands) k.stands in
-    one_refusal Script 34 k.place Nothing r t (subst (λ z. IsRefusedAs Script 34 z Nothing r) place h.refusal) k.refusal
+    one_refusal Script 34 k.place Nothing r t (subst (λ z. IsRefusedAs Script 34 z Nothing r) (places_are_one.of_wholes p h.place k.place h.stands k.stands) h.refusal) k.refusal
 
 -- what a script is refused for, where a parameter has no range, is one, and so is its place
-one_place : (fault : Fault) (nodes : List Node) (name : List ℕ) (a b : Place) → IsPlaceOf fault nodes name a → IsPlaceOf fault nodes name b → a ≡ b
-one_place faults.Unknown nodes name a b h k = h ∙ sym k
-one_place faults.Shape nodes name a b h k = stands_once nodes name a b h k
-one_place faults.Map nodes name a b h k = stands_once nodes name a b h k
-one_place faults.Coefficient nodes name a b h k = stands_once nodes name a b h k
+one_place : (fault : Fault) (p : Problem) (name : List ℕ) (a b : Place) → IsPlaceOf fault p name a → IsPlaceOf fault p name b → a ≡ b
+one_place faults.Unknown p name a b h k = h ∙ sym k
+one_place faults.Shape p name a b h k = places_are_one.of_names p name a b h k
+one_place faults.Map p name a b h k = places_are_one.of_names p name a b h k
+one_place faults.Coefficient p name a b h k = places_are_one.of_names p name a b h k
 
 one_lack : (p : Problem) (name : List ℕ) (r t : Refusal) → IsRefusedForRange p name r → IsRefusedForRange p name t → r ≡ t
 one_lack p name r t h k =
     let fault = range_is_told.once p name h.fault k.fault h.lacks k.lacks in
-    let place = one_place k.fault p.tree name h.place k.place (subst (λ (f : Fault). IsPlaceOf f p.tree name h.place) fault h.stands) k.stands in
+    let place = one_place k.fault p name h.place k.place (subst (λ (f : Fault). IsPlaceOf f p name h.place) fault h.stands) k.stands in
     one_refusal Script 35 k.place (NotRanged k.fault) r t
     (subst (λ z. IsRefusedAs Script 35 z (NotRanged k.fault) r) place (subst (λ (f : Fault). IsRefusedAs Script 35 h.place (NotRanged f) r) fault h.refusal)) k.refusal
 
@@ -180,18 +166,18 @@ module _ (files : Files) (command : Command) where
   one_settings : (name other b c : List ℕ) → settings_name command ≡ Some name → settings_name command ≡ Some other → files name ≡ Some b → files other ≡ Some c → b ≡ c
   one_settings name other b c e f h k = same_Some b c (sym h ∙ ap files (same_Some name other (sym e ∙ f)) ∙ k)
 
-  in_script_once : (a : Accepted) (r : Refusal) (b : List ℕ) → GivesProblem (Some files) command a → IsScriptOf (Some files) command b → RefusesScript b r → ⊥
-  in_script_once a r b g of h = accepted_or_refused g.bytes a r g.gives (subst (λ x. RefusesScript x r) (one_script files command b g.bytes of g.are_of) h)
+  in_script_once : (a : Work) (r : Refusal) (b : List ℕ) → IsAcceptedWork (Some files) command a → IsScriptOf (Some files) command b → RefusesScript b r → ⊥
+  in_script_once a r b g of h = apart g.bytes (without_fault (Some files) command a g) (refused_for g.bytes r (subst (λ x. RefusesScript x r) (one_script files command b g.bytes of g.are_of) h))
 
-  in_problem_once : (a b : Accepted) (r t : Refusal) → GivesProblem (Some files) command a → GivesProblem (Some files) command b → IsRefusedForWhole a.work.problem r
-      → IsRefusedForWhole b.work.problem t → r ≡ t
+  in_problem_once : (a b : Work) (r t : Refusal) → IsAcceptedWork (Some files) command a → IsAcceptedWork (Some files) command b → IsRefusedForWhole a.problem r
+      → IsRefusedForWhole b.problem t → r ≡ t
   in_problem_once a b r t g i h k =
-      one_whole b.work.problem r t (subst (λ (x : Accepted). IsRefusedForWhole x.work.problem r) (one_problem files command a b g i) h) k
+      one_whole b.problem r t (subst (λ (x : Work). IsRefusedForWhole x.problem r) (one_problem files command a b g i) h) k
 
-  whole_or_free : (a b : Accepted) (r : Refusal) → GivesProblem (Some files) command a → GivesProblem (Some files) command b → IsRefusedForWhole a.work.problem r → HasNoWhole b.work.problem → ⊥
+  whole_or_free : (a b : Work) (r : Refusal) → IsAcceptedWork (Some files) command a → IsAcceptedWork (Some files) command b → IsRefusedForWhole a.problem r → HasNoWhole b.problem → ⊥
   whole_or_free a b r g i h free =
-      let k = subst (λ (x : Accepted). IsRefusedForWhole x.work.problem r) (one_problem files command a b g i) h in
-      free k.number k.first.is
+      let k = subst (λ (x : Work). IsRefusedForWhole x.problem r) (one_problem files command a b g i) h in
+      free k.stands.number k.stands.first.is
 
   -- a settings file that gives settings isn't refused
   settings_or_not : (work : Work) (settings : List Pairs) (name bytes : List ℕ) (fault : ReadFault) → AreSettingsOf (Some files) command work settings → settings_name command ≡ Some name
@@ -201,18 +187,18 @@ module _ (files : Files) (command : Command) where
       settings_apart bytes lines fault spelled h
 
   -- a range that a parameter lacks
-  in_range_once : (a b : Accepted) (name other : List ℕ) (r t : Refusal) → GivesProblem (Some files) command a → GivesProblem (Some files) command b → parameter_name command ≡ Some name
+  in_range_once : (a b : Work) (name other : List ℕ) (r t : Refusal) → IsAcceptedWork (Some files) command a → IsAcceptedWork (Some files) command b → parameter_name command ≡ Some name
       → parameter_name command ≡ Some other
-      → IsRefusedForRange a.work.problem name r → IsRefusedForRange b.work.problem other t → r ≡ t
+      → IsRefusedForRange a.problem name r → IsRefusedForRange b.problem other t → r ≡ t
   in_range_once a b name other r t g i is also h k =
-      let here = subst (λ (x : Accepted). IsRefusedForRange x.work.problem name r) (one_problem files command a b g i) h in
-      one_lack b.work.problem other r t (subst (λ n. IsRefusedForRange b.work.problem n r) (same_Some name other (sym is ∙ also)) here) k
+      let here = subst (λ (x : Work). IsRefusedForRange x.problem name r) (one_problem files command a b g i) h in
+      one_lack b.problem other r t (subst (λ n. IsRefusedForRange b.problem n r) (same_Some name other (sym is ∙ also)) here) k
 
-  range_or_lack : (a b : Accepted) (name : List ℕ) (r : Refusal) → GivesProblem (Some files) command a → GivesProblem (Some files) command b → parameter_name command ≡ Some name
-      → IsRefusedForRange a.work.problem name r → AllowsRange command b.work.problem → ⊥
+  range_or_lack : (a b : Work) (name : List ℕ) (r : Refusal) → IsAcceptedWork (Some files) command a → IsAcceptedWork (Some files) command b → parameter_name command ≡ Some name
+      → IsRefusedForRange a.problem name r → AllowsRange command b.problem → ⊥
   range_or_lack a b name r g i is h allows =
-      let here = subst (λ (x : Accepted). IsRefusedForRange x.work.problem name r) (one_problem files command a b g i) h in
-      range_is_told.never_both b.work.problem name here.fault (allows name is) here.lacks
+      let here = subst (λ (x : Work). IsRefusedForRange x.problem name r) (one_problem files command a b g i) h in
+      range_is_told.never_both b.problem name here.fault (allows name is) here.lacks
 
   pub one_refused : (r t : Refusal) → Refuses files command r → Refuses files command t → r ≡ t
   one_refused r t (in_script b of h) (in_script c also k) =
@@ -236,10 +222,10 @@ module _ (files : Files) (command : Command) where
   one_refused r t (in_length b settings name c i free asked named there more long) (in_script d of h) = absurd (in_script_once b t d i of h)
   one_refused r t (in_length b settings name c i free asked named there more long) (in_problem a g refusing h) = absurd (whole_or_free a b t g i h free)
   one_refused r t (in_length b settings name c i free asked named there more long) (in_settings a other d g unmarked allows is here k) =
-      absurd (settings_or_not b.work settings other d k.fault asked is here k.refused)
+      absurd (settings_or_not b settings other d k.fault asked is here k.refused)
   one_refused r t (in_length b settings name c i free asked named there more long) (in_length a others other d g unmarked also known here most such) = one_refusal Certificate 8 _ _ r t long such
   one_refused r t (in_settings a other d g unmarked allows is here k) (in_length b settings name c i free asked named there more long) =
-      absurd (settings_or_not b.work settings other d k.fault asked is here k.refused)
+      absurd (settings_or_not b settings other d k.fault asked is here k.refused)
   one_refused r t (in_settings a name c g free allows is there k) (in_script b of h) = absurd (in_script_once a t b g of h)
   one_refused r t (in_settings b name c i taken allows is there k) (in_problem a g refusing h) = absurd (whole_or_free a b t g i h (taken refusing))
   one_refused r t (in_settings a name b g free allows is there h) (in_settings d other c i unmarked permits also here k) =
@@ -252,16 +238,16 @@ module _ (files : Files) (command : Command) where
   IsShort = (name bytes : List ℕ) → certificate_name command ≡ Some name → files name ≡ Some bytes → length bytes ≤ most_bytes Certificate
 
   -- nothing is refused where the problem is solved
-  pub never_refused : (a : Accepted) (settings : List Pairs) (r : Refusal) → GivesProblem (Some files) command a → Takes command a.work.problem → AllowsRange command a.work.problem
-      → AreSettingsOf (Some files) command a.work settings → IsShort → Refuses files command r → ⊥
+  pub never_refused : (a : Work) (settings : List Pairs) (r : Refusal) → IsAcceptedWork (Some files) command a → Takes command a.problem → AllowsRange command a.problem
+      → AreSettingsOf (Some files) command a settings → IsShort → Refuses files command r → ⊥
   never_refused a settings r g taken allowed are short (in_script b of h) = in_script_once a r b g of h
   never_refused a settings r g taken allowed are short (in_problem b i refusing h) = whole_or_free b a r i g h (taken refusing)
   never_refused a settings r g taken allowed are short (in_range b name i unmarked is h) = range_or_lack b a name r i g is h allowed
-  never_refused a settings r g taken allowed are short (in_settings d name bytes i unmarked allows is there h) = settings_or_not a.work settings name bytes h.fault are is there h.refused
+  never_refused a settings r g taken allowed are short (in_settings d name bytes i unmarked allows is there h) = settings_or_not a settings name bytes h.fault are is there h.refused
   never_refused a settings r g taken allowed are short (in_length d others name bytes i unmarked asked named there more long) = let few = short name bytes named there in omega (arith, few, more)
 
 -- nor where it is checked
-pub never_refused_check : (files : Files) (script : List ℕ) (a : Accepted) (r : Refusal) → GivesProblem (Some files) (check script) a → Refuses files (check script) r → ⊥
+pub never_refused_check : (files : Files) (script : List ℕ) (a : Work) (r : Refusal) → IsAcceptedWork (Some files) (check script) a → Refuses files (check script) r → ⊥
 never_refused_check files script a r g (in_script b of h) = in_script_once files (check script) a r b g of h
 never_refused_check files script a r g (in_problem b i refusing h) = refusing
 never_refused_check files script a r g (in_range d name i free is h) = none-some name is

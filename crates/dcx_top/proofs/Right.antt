@@ -1,137 +1,90 @@
 -- A run with its cause is right.
-use Rattle.std.proofs.Common.{◌≡◌, inl, inr, ℕ, Bool, List, Option, Some, refl}
+use Rattle.std.proofs.Common.{inl, inr, ℕ, Bool, List, Option, refl}
 use Rattle.dcx_host.specs.Files.{Files}
-use Rattle.dcx_front.specs.declared.accepted.Accepted.{Accepted}
-use Rattle.dcx_front.proofs.OneVerdict.{acceptance}
 use Rattle.dcx_answer.specs.declared.filter_outcome.FilterOutcome.{FilterOutcome}
 use Rattle.dcx_answer.specs.declared.range_outcome.RangeOutcome.{RangeOutcome}
 use Rattle.dcx_tree.specs.declared.constraint.Sense.{Sense}
 use Rattle.dcx_report.specs.declared.run.Run.{Run}
 use Rattle.dcx_report.specs.declared.run.Run.TheVariants as run
-use Rattle.dcx_words.specs.Commands.{Command, check, certificate, certify, migrate, iis, range, command_of}
+use Rattle.dcx_words.specs.Commands.{Command, check, certificate, certify, migrate, iis, range}
 use Rattle.dcx_words.specs.Laws.{is_warm_command}
 use Rattle.dcx_outcomes.proofs.Warm.{found_are_right}
 use Rattle.dcx_outcomes.proofs.Complete.{outcomes_are_complete}
 use Rattle.dcx_outcomes.proofs.FilterEnds.{filters_are_right}
 use Rattle.dcx_outcomes.proofs.WholeEnds.{wholes_are_right}
 use Rattle.dcx_outcomes.proofs.RangeEnds.{ranges_are_right}
-use Rattle.dcx_cert_sections.specs.declared.section.Section.{Section}
 use Rattle.dcx_cert_sections.specs.declared.section.Sections.{Sections}
 use Rattle.dcx_cert_runs.specs.Checking.{AreShown}
 use Rattle.dcx_cert_runs.proofs.Shown.{sections_are_shown}
 use Rattle.dcx_top.specs.Commands.{limit_of}
-use Rattle.dcx_top.specs.Runs.{GivesProblem, IsSolvedRun, IsBranchedRun, IsFilteredRun, IsRangedRun, IsCertificateRun, HasCertificate, HasPassed, IsMigrateRun, Causes}
-use Rattle.dcx_top.specs.Headline.{IsAcceptedWork, IsRightlySolved, IsRightlyBranched, IsRightlyFiltered, IsRightlyRanged, IsRightlyShown, IsRightRun}
+use Rattle.dcx_top.specs.Runs.{IsSolvedRun, IsBranchedRun, IsFilteredRun, IsRangedRun, IsCertificateRun, HasPassed, IsMigrateRun, Causes}
+use Rattle.dcx_top.specs.Headline.{IsRightlySolved, IsRightlyBranched, IsRightlyFiltered, IsRightlyRanged, IsRightlyShown, IsRightRun}
 use Rattle.dcx_top.proofs.Passed.{passed_shown, migrated_shown}
 
-accepted_work : (words : List (List ℕ)) (told : Option Files) (command : Command) (a : Accepted) → command_of words ≡ Some command → GivesProblem told command a
-    → IsAcceptedWork words told command a.work
-accepted_work words told command a form g = let h = acceptance g.bytes a g.gives in record {
-  form = form;
-  bytes = g.bytes;
-  are_of = g.are_of;
-  script = h.script;
-  spelled = h.spelled;
-  stands_for = h.stands_for;
-  accepted = h.judged.accepted;
-  convex = h.judged.convex;
-}
-
 solved_right : (words : List (List ℕ)) (told : Option Files) (old new : ℕ) (r : Run) → IsSolvedRun words told old new r → IsRightlySolved words told r
-solved_right words told old new r h = let w = accepted_work words told h.command h.accepted h.form h.problem in record {
+solved_right words told old new r h = let p = h.asked.work.problem in record {
   command = h.command;
-  work = h.accepted.work;
-  accepted = w;
-  continuous = h.continuous;
-  settings = h.settings;
   asked = h.asked;
   outcomes = h.outcomes;
   warm = h.warm;
   tells = h.tells;
-  right = found_are_right (is_warm_command h.command) h.accepted.work.problem (limit_of h.command) h.settings h.outcomes h.warm w.accepted h.are;
-  complete = outcomes_are_complete (is_warm_command h.command) h.accepted.work.problem (limit_of h.command) h.settings h.outcomes h.warm h.are;
+  right = found_are_right (is_warm_command h.command) p (limit_of h.command) h.asked.settings h.outcomes h.warm h.asked.problem.accepted h.are;
+  complete = outcomes_are_complete (is_warm_command h.command) p (limit_of h.command) h.asked.settings h.outcomes h.warm h.are;
 }
 
 branched_right : (words : List (List ℕ)) (told : Option Files) (old new : ℕ) (r : Run) → IsBranchedRun words told old new r → IsRightlyBranched words told r
-branched_right words told old new r h = let w = accepted_work words told h.command h.accepted h.form h.problem in record {
+branched_right words told old new r h = record {
   command = h.command;
-  work = h.accepted.work;
-  accepted = w;
-  settings = h.settings;
   asked = h.asked;
   outcomes = h.outcomes;
   tells = h.tells;
-  right = wholes_are_right h.accepted.work.problem (limit_of h.command) h.settings h.outcomes w.accepted h.are;
+  right = wholes_are_right h.asked.work.problem (limit_of h.command) h.asked.settings h.outcomes h.asked.problem.accepted h.are;
 }
 
 filtered_right : (words : List (List ℕ)) (told : Option Files) (old new : ℕ) (os : List FilterOutcome) → IsFilteredRun words told old new os → IsRightlyFiltered words told os
-filtered_right words told old new os h = let w = accepted_work words told (iis h.script h.name h.limit) h.accepted h.form h.problem in record {
+filtered_right words told old new os h = record {
   command = iis h.script h.name h.limit;
-  work = h.accepted.work;
-  accepted = w;
-  continuous = h.continuous;
-  settings = h.settings;
   asked = h.asked;
-  right = filters_are_right h.accepted.work.problem h.limit h.settings os w.accepted h.are;
+  right = filters_are_right h.asked.work.problem h.limit h.asked.settings os h.asked.problem.accepted h.are;
 }
 
 ranged_right : (words : List (List ℕ)) (told : Option Files) (old new : ℕ) (name : List ℕ) (sense : Sense) (os : List RangeOutcome) → IsRangedRun words told old new name sense os
     → IsRightlyRanged words told name sense os
 ranged_right words told old new name sense os h = record {
   command = range h.script h.name name h.limit;
-  work = h.accepted.work;
-  accepted = accepted_work words told (range h.script h.name name h.limit) h.accepted h.form h.problem;
-  continuous = h.continuous;
+  asked = h.asked;
   named = refl;
   sense_is = h.sense_is;
-  settings = h.settings;
-  asked = h.asked;
-  right = ranges_are_right h.accepted.work.problem name h.limit h.settings os h.are;
+  right = ranges_are_right h.asked.work.problem name h.limit h.asked.settings os h.are;
 }
 
 -- ---- certificates
 certificate_right : (words : List (List ℕ)) (told : Option Files) (old new : ℕ) (text : List ℕ) (stopped : Bool) (h : IsCertificateRun words told old new text stopped)
     → IsRightlyShown words told h.sections.list
-certificate_right words told old new text stopped h = let w = accepted_work words told (certificate h.script h.name h.limit) h.accepted h.form h.problem in record {
+certificate_right words told old new text stopped h = record {
   command = certificate h.script h.name h.limit;
-  work = h.accepted.work;
-  accepted = w;
-  continuous = h.continuous;
-  settings = h.settings;
   asked = h.asked;
-  shown = sections_are_shown h.accepted.work.problem h.limit h.settings h.sections.list w.accepted h.are.sections;
-}
-
-shown_of : (words : List (List ℕ)) (told : Option Files) (command : Command) (list : List Section) (f : HasCertificate words told command) → AreShown f.accepted.work.problem f.settings list
-    → IsRightlyShown words told list
-shown_of words told command list f h = record {
-  command = command;
-  work = f.accepted.work;
-  accepted = accepted_work words told command f.accepted f.form f.problem;
-  continuous = f.continuous;
-  settings = f.settings;
-  asked = f.asked;
-  shown = h;
+  shown = sections_are_shown h.asked.work.problem h.limit h.asked.settings h.sections.list h.asked.problem.accepted h.are.sections;
 }
 
 passed_show : (words : List (List ℕ)) (told : Option Files) (command : Command) (sections : Sections) (h : HasPassed words told command sections)
-    → AreShown h.reads.files.accepted.work.problem h.reads.files.settings sections.list
+    → AreShown h.reads.files.asked.work.problem h.reads.files.asked.settings sections.list
 passed_show words told command sections h =
     let f = h.reads.files in
-    passed_shown f.accepted.work.problem f.settings sections.list (acceptance f.problem.bytes f.accepted f.problem.gives).judged.accepted h.reads.has.text.certificate.shown h.passed
+    passed_shown f.asked.work.problem f.asked.settings sections.list f.asked.problem.accepted h.reads.has.text.certificate.shown h.passed
 
 passed_right : (words : List (List ℕ)) (told : Option Files) (command : Command) (sections : Sections) → HasPassed words told command sections → IsRightlyShown words told sections.list
-passed_right words told command sections h = shown_of words told command sections.list h.reads.files (passed_show words told command sections h)
+passed_right words told command sections h = record { command = command; asked = h.reads.files.asked; shown = passed_show words told command sections h }
 
 migrate_right : (words : List (List ℕ)) (told : Option Files) (text : List ℕ) (h : IsMigrateRun words told text) → IsRightlyShown words told h.migrated.list
 migrate_right words told text h =
     let command = migrate h.script h.settings h.name in
     let f = h.passed.reads.files in
-    shown_of words told command h.migrated.list f (migrated_shown f.accepted.work.problem f.settings h.sections h.migrated h.are (passed_show words told command h.sections h.passed))
+    record { command = command; asked = f.asked; shown = migrated_shown f.asked.work.problem f.asked.settings h.sections h.migrated h.are (passed_show words told command h.sections h.passed) }
 
 pub caused_are_right : (words : List (List ℕ)) (told : Option Files) (risen : Type 0) (old new : ℕ) (r : Run) → Causes words told risen old new r → IsRightRun words told r
 caused_are_right words told risen old new (run.Checked c) (h, same) =
-    record { command = check h.script; work = h.accepted.work; accepted = accepted_work words told (check h.script) h.accepted h.form h.problem; found = h.found }
+    record { command = check h.script; form = h.form; work = h.work; problem = h.problem; found = h.found }
 caused_are_right words told risen old new (run.Solved word sense outcomes warm) h = solved_right words told old new (run.Solved word sense outcomes warm) h
 caused_are_right words told risen old new (run.Branched word sense outcomes) h = branched_right words told old new (run.Branched word sense outcomes) h
 caused_are_right words told risen old new (run.Trial size outcomes) h = solved_right words told old new (run.Trial size outcomes) h

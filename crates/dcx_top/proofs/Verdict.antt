@@ -1,23 +1,17 @@
 -- A run refuses its files exactly where they are at fault.
 use Rattle.std.proofs.Common.{◌≡◌, ℕ, ◌<◌, ◌≤◌, Bool, inl, inr, List, length, Option, Some, None, refl, sym, ap, subst, ◌∙◌, Ok, arith}
 use Rattle.std.proofs.lemmas.Option.{none-some, same_Some}
-use Rattle.dcx_tokens.proofs.OneReading.{one_reading}
-use Rattle.dcx_syntax.specs.declared.tree.Script.{Script}
-use Rattle.dcx_syntax.specs.Statements.{lines_text, trimmed_all}
-use Rattle.dcx_syntax.specs.View.{script_view}
-use Rattle.dcx_read.specs.Terminals.{terminals}
 use Rattle.dcx_read.specs.Parses.{IsReading}
+use Rattle.dcx_read.proofs.OneReading.{one_script as one_view}
 use Rattle.dcx_host.specs.Files.{Files}
 use Rattle.dcx_settings.specs.File.{IsRefused}
 use Rattle.dcx_settings.proofs.OneAnswer.{settings_apart}
-use Rattle.dcx_front.specs.declared.accepted.Accepted.{Accepted}
 use Rattle.dcx_refusal.specs.declared.checked.Checked.{Checked}
 use Rattle.dcx_refusal.specs.declared.refusal.Refusal.{Refusal}
-use Rattle.dcx_front.specs.Accepts.{Gives}
 use Rattle.dcx_front.specs.OneAnswer.{IsWithoutFault}
 use Rattle.dcx_elab.specs.declared.work.Work.{Work}
 use Rattle.dcx_front.proofs.OneAnswer.{one_work}
-use Rattle.dcx_front.proofs.OneVerdict.{apart, refused_for, acceptance}
+use Rattle.dcx_front.proofs.OneVerdict.{apart, refused_for}
 use Rattle.dcx_answer.specs.declared.filter_outcome.FilterOutcome.{FilterOutcome}
 use Rattle.dcx_answer.specs.declared.range_outcome.RangeOutcome.{RangeOutcome}
 use Rattle.dcx_tree.specs.declared.constraint.Sense.{Sense}
@@ -28,32 +22,23 @@ use Rattle.dcx_cert_sections.specs.declared.section.Sections.{Sections}
 use Rattle.dcx_words.specs.Commands.{Command, check, certificate as certificate_command, certify, migrate, trial, iis, range, command_of}
 use Rattle.dcx_top.specs.Commands.{settings_name, certificate_name, AreSettingsOf}
 use Rattle.dcx_top.specs.Files.{most_bytes, RefusesScript}
+use Rattle.dcx_top.specs.Asked.{IsAcceptedWork}
+use Rattle.dcx_top.specs.Runs.{IsChecked, IsSolvedRun, IsBranchedRun, IsFilteredRun, IsRangedRun, IsCertificateRun, HasCertificate, ReadsSections, misread, failed, Causes}
 use Rattle.dcx_refusal.specs.declared.refusal.RefusalSource.TheVariants.{Certificate}
-use Rattle.dcx_top.specs.Runs.{GivesProblem, IsChecked, IsSolvedRun, IsBranchedRun, IsFilteredRun, IsRangedRun, IsCertificateRun, HasCertificate, ReadsSections, misread, failed, Causes}
-use Rattle.dcx_top.specs.Whole.{IsWholeAt, RefusesWhole, Takes}
+use Rattle.dcx_declared.specs.Whole.{IsWholeAt}
+use Rattle.dcx_top.specs.Whole.{RefusesWhole, Takes}
 use Rattle.dcx_outcomes.specs.Ranges.{LacksRange}
 use Rattle.dcx_outcomes.proofs.RangeEnds.{range_is_told}
 use Rattle.dcx_top.specs.NoRange.{AllowsRange}
-use Rattle.dcx_top.proofs.Named.{unasked, allowed, allowed_reading, tells_no_parameter, wholes_no_parameter}
+use Rattle.dcx_top.proofs.Kinds.{of_outcomes, of_wholes}
+use Rattle.dcx_top.proofs.Named.{unasked, allowed, allowed_reading}
 use Rattle.dcx_top.specs.OneRun.{IsAnswered, no_files}
 use Rattle.dcx_trial.specs.Trial.{trial_text}
 use Rattle.dcx_top.proofs.Trials.{trial_caused, trial_has}
 use Rattle.dcx_top.specs.Verdicts.{IsRefusal, IsAcceptance, Has, AreFaultless, AreAtFault, bad_script, has_whole, lacks_range}
 use Rattle.dcx_top.specs.Verdicts.{bad_settings, long_certificate, AreWithoutFault, IsVerdictOn, IsRightVerdict}
 use Rattle.dcx_top.proofs.Refusals.{one_script, spelled_by, same_command, Refuses, in_script, in_problem, in_range, in_settings, in_length, IsShort, refuses}
-use Rattle.dcx_top.proofs.OneRefusal.{tells_none, wholes_none, wholes_taken}
-
--- bytes spell one script
-one_view : (bytes : List ℕ) (script other : Script) → IsReading bytes (Ok script) → IsReading bytes (Ok other) → script_view script ≡ script_view other
-one_view bytes script other h k =
-    let tokens : h.0 ≡ k.0 = (one_reading h.1.0.lexed k.1.0.lexed).0 in
-    let spelled : lines_text h.1.1.tree ≡ terminals bytes k.0 = h.1.1.spelled.spelled ∙ ap (terminals bytes) tokens in
-    h.1.1.kept ∙ ap trimmed_all (k.1.1.spelled.only h.1.1.tree spelled) ∙ sym k.1.1.kept
-
--- bytes that are accepted stand for the work that is accepted
-abbrev pub without_fault : (bytes : List ℕ) (a : Accepted) → Gives bytes (Ok a) → IsWithoutFault bytes
-without_fault bytes a g = let h = acceptance bytes a g in
-    record { script = h.script; spelled = h.spelled; work = a.work; stands_for = h.stands_for; accepted = h.judged.accepted }
+use Rattle.dcx_top.proofs.OneRefusal.{wholes_taken}
 
 module _ (files : Files) (command : Command) (script settings certificate : List ℕ) (has : Has files command script settings certificate) where
   no_faults : AreWithoutFault command script settings certificate → AreAtFault command script settings certificate → ⊥
@@ -69,25 +54,31 @@ module _ (files : Files) (command : Command) (script settings certificate : List
   no_faults w (long_certificate o f long) = w.not_long long
   no_faults w (bad_settings o f) = let (lines, spelled) = w.no_settings_fault f.name f.asked in settings_apart settings lines f.fault spelled f.refused
 
-  accepted : (a : Accepted) → GivesProblem (Some files) command a → Gives script (Ok a)
-  accepted a g = subst (λ b. Gives b (Ok a)) (one_script files command g.bytes script g.are_of has.is_script) g.gives
+  abbrev faultless : (a : Work) → IsAcceptedWork (Some files) command a → IsWithoutFault script
+  faultless a g = record {
+    script = g.script;
+    spelled = subst (λ b. IsReading b (Ok g.script)) (one_script files command g.bytes script g.are_of has.is_script) g.spelled;
+    work = a;
+    stands_for = g.stands_for;
+    accepted = g.accepted;
+  }
 
   at_fault : (r : Refusal) → Refuses files command r → AreAtFault command script settings certificate
   at_fault r (in_script bytes of h) = bad_script (refused_for script r (subst (λ b. RefusesScript b r) (one_script files command bytes script of has.is_script) h))
-  at_fault r (in_problem a g refusing h) = has_whole (without_fault script a (accepted a g)) refusing h.number h.first.is
-  at_fault r (in_range a name g free is h) = lacks_range (without_fault script a (accepted a g)) name is h.fault h.lacks
+  at_fault r (in_problem a g refusing h) = has_whole (faultless a g) refusing h.stands.number h.stands.first.is
+  at_fault r (in_range a name g free is h) = lacks_range (faultless a g) name is h.fault h.lacks
   at_fault r (in_settings a name bytes g free allows is there h) =
-      bad_settings (without_fault script a (accepted a g))
+      bad_settings (faultless a g)
       (record { name = name; asked = is; fault = h.fault; refused = subst (λ b. IsRefused b h.fault) (same_Some bytes settings (sym there ∙ has.are_settings name is)) h.refused })
   at_fault r (in_length a others name bytes g free asked named there more long) =
-      long_certificate (without_fault script a (accepted a g)) (λ name is. spelled_by files command a.work others name settings asked is (has.are_settings name is))
+      long_certificate (faultless a g) (λ name is. spelled_by files command a others name settings asked is (has.are_settings name is))
       (record { name = name; asked = named; long = subst (λ b. most_bytes Certificate < length b) (same_Some bytes certificate (sym there ∙ has.is_certificate name named)) more })
 
-  without : (a : Accepted) → GivesProblem (Some files) command a → Takes command a.work.problem → AllowsRange command a.work.problem → AreFaultless command settings → IsShort files command
+  without : (a : Work) → IsAcceptedWork (Some files) command a → Takes command a.problem → AllowsRange command a.problem → AreFaultless command settings → IsShort files command
       → AreWithoutFault command script settings certificate
   without a g taken allows f short =
       record {
-        no_script_fault = without_fault script a (accepted a g);
+        no_script_fault = faultless a g;
         no_whole = taken;
         no_lack = allows;
         no_settings_fault = f;
@@ -106,58 +97,58 @@ module _ (files : Files) (command : Command) (script settings certificate : List
 
   module _ (words : List (List ℕ)) (form : command_of words ≡ Some command) (risen : Type 0) (old new : ℕ) where
     -- the problem is solved, or its certificate is checked
-    goes_on : (r : Run) → IsAcceptance r → (IsRefusal r → ⊥) → (c : Command) → c ≡ command → (a : Accepted) (list : List Pairs) → GivesProblem (Some files) c a → Takes c a.work.problem
-        → AllowsRange c a.work.problem → AreSettingsOf (Some files) c a.work list
+    goes_on : (r : Run) → IsAcceptance r → (IsRefusal r → ⊥) → (c : Command) → c ≡ command → (a : Work) (list : List Pairs) → IsAcceptedWork (Some files) c a → Takes c a.problem
+        → AllowsRange c a.problem → AreSettingsOf (Some files) c a list
         → IsShort files command → IsVerdictOn command script settings certificate r
     goes_on r i n c same a list gives taken permits asked short =
-        let g = subst (λ d. GivesProblem (Some files) d a) same gives in
-        let are = subst (λ d. AreSettingsOf (Some files) d a.work list) same asked in
-        let allows = subst (λ d. AllowsRange d a.work.problem) same permits in
-        accepts_so r i n (without a g (subst (λ d. Takes d a.work.problem) same taken) allows (λ name is. spelled_by files command a.work list name settings are is (has.are_settings name is)) short)
+        let g = subst (λ d. IsAcceptedWork (Some files) d a) same gives in
+        let are = subst (λ d. AreSettingsOf (Some files) d a list) same asked in
+        let allows = subst (λ d. AllowsRange d a.problem) same permits in
+        accepts_so r i n (without a g (subst (λ d. Takes d a.problem) same taken) allows (λ name is. spelled_by files command a list name settings are is (has.are_settings name is)) short)
 
     solved : (r : Run) → IsAcceptance r → (IsRefusal r → ⊥) → IsSolvedRun words (Some files) old new r → IsVerdictOn command script settings certificate r
     solved r i n h =
-        let same = same_command words files command form h.command h.form in
-        goes_on r i n h.command same h.accepted h.settings h.problem (λ refusing. h.continuous)
-        (unasked h.command h.accepted.work.problem (tells_no_parameter h.command h.accepted.work.problem.sense h.outcomes h.warm r h.tells)) h.asked
-        (short_without h.command same (tells_none h.command h.accepted.work.problem.sense h.outcomes h.warm r h.tells))
+        let same = same_command words files command form h.command h.asked.form in
+        goes_on r i n h.command same h.asked.work h.asked.settings h.asked.problem (λ refusing. h.asked.marks)
+        (unasked h.command h.asked.work.problem (of_outcomes h.command h.asked.work.problem.sense h.outcomes h.warm r h.tells).parameter) h.asked.are_of
+        (short_without h.command same (of_outcomes h.command h.asked.work.problem.sense h.outcomes h.warm r h.tells).certificate)
 
     branched : (r : Run) → IsAcceptance r → (IsRefusal r → ⊥) → IsBranchedRun words (Some files) old new r → IsVerdictOn command script settings certificate r
     branched r i n h =
-        let same = same_command words files command form h.command h.form in
-        let sense = h.accepted.work.problem.sense in
-        goes_on r i n h.command same h.accepted h.settings h.problem (λ refusing. absurd (wholes_taken h.command sense h.outcomes r h.tells refusing))
-        (unasked h.command h.accepted.work.problem (wholes_no_parameter h.command sense h.outcomes r h.tells)) h.asked (short_without h.command same (wholes_none h.command sense h.outcomes r h.tells))
+        let same = same_command words files command form h.command h.asked.form in
+        let sense = h.asked.work.problem.sense in
+        goes_on r i n h.command same h.asked.work h.asked.settings h.asked.problem (λ refusing. absurd (wholes_taken h.command sense h.outcomes r h.tells refusing))
+        (unasked h.command h.asked.work.problem (of_wholes h.command sense h.outcomes r h.tells).parameter) h.asked.are_of (short_without h.command same (of_wholes h.command sense h.outcomes r h.tells).certificate)
 
     checked : (c : Checked) → IsChecked words (Some files) c → IsVerdictOn command script settings certificate (run.Checked c)
     checked c h =
         let same = same_command words files command form (check h.script) h.form in
-        let g = subst (λ c. GivesProblem (Some files) c h.accepted) same h.problem in
+        let g = subst (λ c. IsAcceptedWork (Some files) c h.work) same h.problem in
         let none : settings_name command ≡ None = subst (λ c. settings_name c ≡ None) same refl in
         let only : RefusesWhole command → ⊥ = subst (λ c. RefusesWhole c → ⊥) same (λ t. t) in
-        accepts_so (run.Checked c) tt (λ t. t) (without h.accepted g (λ refusing. absurd (only refusing))
-        (subst (λ c. AllowsRange c h.accepted.work.problem) same (unasked (check h.script) h.accepted.work.problem refl)) (λ name is. absurd (none-some name (sym none ∙ is)))
+        accepts_so (run.Checked c) tt (λ t. t) (without h.work g (λ refusing. absurd (only refusing))
+        (subst (λ c. AllowsRange c h.work.problem) same (unasked (check h.script) h.work.problem refl)) (λ name is. absurd (none-some name (sym none ∙ is)))
         (short_without (check h.script) same refl))
 
     certificate_written : (text : List ℕ) (stopped : Bool) → IsCertificateRun words (Some files) old new text stopped → IsVerdictOn command script settings certificate (run.Certificates text stopped)
     certificate_written text stopped h =
         let c = certificate_command h.script h.name h.limit in
-        let same = same_command words files command form c h.form in
-        goes_on (run.Certificates text stopped) tt (λ t. t) c same h.accepted h.settings h.problem (λ refusing. h.continuous) (unasked c h.accepted.work.problem refl) h.asked
+        let same = same_command words files command form c h.asked.form in
+        goes_on (run.Certificates text stopped) tt (λ t. t) c same h.asked.work h.asked.settings h.asked.problem (λ refusing. h.asked.marks) (unasked c h.asked.work.problem refl) h.asked.are_of
         (short_without c same refl)
 
     filtered : (os : List FilterOutcome) → IsFilteredRun words (Some files) old new os → IsVerdictOn command script settings certificate (run.Filtered os)
     filtered os h =
         let c = iis h.script h.name h.limit in
-        let same = same_command words files command form c h.form in
-        goes_on (run.Filtered os) tt (λ t. t) c same h.accepted h.settings h.problem (λ refusing. h.continuous) (unasked c h.accepted.work.problem refl) h.asked (short_without c same refl)
+        let same = same_command words files command form c h.asked.form in
+        goes_on (run.Filtered os) tt (λ t. t) c same h.asked.work h.asked.settings h.asked.problem (λ refusing. h.asked.marks) (unasked c h.asked.work.problem refl) h.asked.are_of (short_without c same refl)
 
     ranged : (name : List ℕ) (sense : Sense) (os : List RangeOutcome) → IsRangedRun words (Some files) old new name sense os
         → IsVerdictOn command script settings certificate (run.Ranged name sense os)
     ranged name sense os h =
         let c = range h.script h.name name h.limit in
-        let same = same_command words files command form c h.form in
-        goes_on (run.Ranged name sense os) tt (λ t. t) c same h.accepted h.settings h.problem (λ refusing. h.continuous) (allowed c h.accepted.work.problem name refl h.ranged) h.asked
+        let same = same_command words files command form c h.asked.form in
+        goes_on (run.Ranged name sense os) tt (λ t. t) c same h.asked.work h.asked.settings h.asked.problem (λ refusing. h.asked.marks) (allowed c h.asked.work.problem name refl h.ranged) h.asked.are_of
         (short_without c same refl)
 
     -- a certificate that is read isn't too long
@@ -165,12 +156,12 @@ module _ (files : Files) (command : Command) (script settings certificate : List
         → length bytes ≤ most_bytes Certificate
         → IsVerdictOn command script settings certificate r
     certificate_read r i n c f bytes there few =
-        let same = same_command words files command form c f.form in
+        let same = same_command words files command form c f.asked.form in
         let named : certificate_name command ≡ Some f.name = subst (λ d. certificate_name d ≡ Some f.name) same f.named in
         let short : IsShort files command = (λ name other is here.
         let one = same_Some bytes other (sym there ∙ ap files (same_Some f.name name (sym named ∙ is)) ∙ here) in
         subst (λ b. length b ≤ most_bytes Certificate) one few) in
-        goes_on r i n c same f.accepted f.settings f.problem (λ refusing. f.continuous) (allowed_reading c f.accepted.work.problem f.name f.named) f.asked short
+        goes_on r i n c same f.asked.work f.asked.settings f.asked.problem (λ refusing. f.asked.marks) (allowed_reading c f.asked.work.problem f.name f.named) f.asked.are_of short
 
     sections_read : (r : Run) → IsAcceptance r → (IsRefusal r → ⊥) → (c : Command) (sections : Sections) → ReadsSections words (Some files) c sections
         → IsVerdictOn command script settings certificate r

@@ -1,13 +1,7 @@
 -- The headline: what is printed of an accepted problem is right, in the user's own problem.
-use Rattle.std.specs.Prelude.{◌≡◌, ⊤, ℕ, List, Option, Some, Ok, count_by}
-use Rattle.dcx_point.specs.Pairs.{Pairs}
-use Rattle.dcx_convex.specs.Nodes.{Setting}
-use Rattle.dcx_tree.specs.Meaning.{Fits, IsAccepted, IsConvex}
+use Rattle.std.specs.Prelude.{◌≡◌, ⊤, ℕ, List, Option, Some, count_by}
 use Rattle.dcx_host.specs.Files.{Files}
-use Rattle.dcx_syntax.specs.declared.tree.Script.{Script}
-use Rattle.dcx_read.specs.Parses.{IsReading}
 use Rattle.dcx_elab.specs.declared.work.Work.{Work}
-use Rattle.dcx_elab.specs.Meaning.{Elaborates}
 use Rattle.dcx_refusal.specs.declared.checked.Checked.{Checked}
 use Rattle.dcx_front.specs.Checks.{IsFoundOf}
 use Rattle.dcx_answer.specs.declared.outcome.Outcome.{Outcome}
@@ -27,26 +21,16 @@ use Rattle.dcx_cert_sections.specs.declared.section.Section.{Section}
 use Rattle.dcx_cert_sections.specs.declared.section.Sections.{Sections}
 use Rattle.dcx_cert_lines.specs.CertText.{cert_text}
 use Rattle.dcx_cert_runs.specs.Checking.{is_cert, AreShown}
-use Rattle.dcx_top.specs.Commands.{IsScriptOf, parameter_name, AreSettingsOf, limit_of, TellsOutcomes, TellsWholes}
-use Rattle.dcx_top.specs.Whole.{HasNoWhole}
-
--- The script of the command spells what stands for this work: a problem with its settings. The rules accept the problem, and it is
--- convex at every fitting setting.
-pub record IsAcceptedWork (words : List (List ℕ)) (told : Option Files) (command : Command) (work : Work) : Type 0 where
-  pub form : command_of words ≡ Some command
-  pub bytes : List ℕ
-  pub are_of : IsScriptOf told command bytes
-  pub script : Script
-  pub spelled : IsReading bytes (Ok script)
-  pub stands_for : Elaborates (Ok work) script
-  pub accepted : IsAccepted work.problem
-  pub convex : (s : Setting) → Fits work.problem s → IsConvex work.problem s
+use Rattle.dcx_top.specs.Commands.{parameter_name, limit_of, TellsOutcomes, TellsWholes}
+use Rattle.dcx_top.specs.Asked.{IsAcceptedWork, Asked}
+use Rattle.dcx_declared.specs.Whole.{HasNoWhole, HasWhole}
 
 -- what is told of an accepted problem is true of it
 pub record IsRightlyFound (words : List (List ℕ)) (told : Option Files) (c : Checked) : Type 0 where
   pub command : Command
+  pub form : command_of words ≡ Some command
   pub work : Work
-  pub accepted : IsAcceptedWork words told command work
+  pub problem : IsAcceptedWork told command work
   pub found : IsFoundOf work.problem c
 
 -- No variable is to be whole, and each answer of the run is right for the accepted problem, at its setting: a feasible point
@@ -54,41 +38,30 @@ pub record IsRightlyFound (words : List (List ℕ)) (told : Option Files) (c : C
 -- of unbounded descent. And each setting that nothing stops has its answer, or memory ran out there.
 pub record IsRightlySolved (words : List (List ℕ)) (told : Option Files) (r : Run) : Type 0 where
   pub command : Command
-  pub work : Work
-  pub accepted : IsAcceptedWork words told command work
-  pub continuous : HasNoWhole work.problem
-  pub settings : List Pairs
-  pub asked : AreSettingsOf told command work settings
+  pub asked : Asked words told command HasNoWhole
   pub outcomes : List Outcome
   pub warm : Option ℕ
-  pub tells : TellsOutcomes command work.problem.sense outcomes warm r
-  pub right : AreRight work.problem settings outcomes
-  pub complete : AreComplete work.problem (limit_of command) settings outcomes
+  pub tells : TellsOutcomes command asked.work.problem.sense outcomes warm r
+  pub right : AreRight asked.work.problem asked.settings outcomes
+  pub complete : AreComplete asked.work.problem (limit_of command) asked.settings outcomes
 
 -- Each answer of the run is right for the accepted problem with its marks, at its setting: a feasible point whose marked entries are
 -- whole, such that no other one has a smaller minimized objective, or that there is no such point; and a tree shows it, by multipliers at
 -- its leaves.
 pub record IsRightlyBranched (words : List (List ℕ)) (told : Option Files) (r : Run) : Type 0 where
   pub command : Command
-  pub work : Work
-  pub accepted : IsAcceptedWork words told command work
-  pub settings : List Pairs
-  pub asked : AreSettingsOf told command work settings
+  pub asked : Asked words told command HasWhole
   pub outcomes : List WholeOutcome
-  pub tells : TellsWholes command work.problem.sense outcomes r
-  pub right : AreRightWholes work.problem settings outcomes
+  pub tells : TellsWholes command asked.work.problem.sense outcomes r
+  pub right : AreRightWholes asked.work.problem asked.settings outcomes
 
 -- No variable is to be whole, and whatever is found of the constraints of the accepted problem is right at its setting: a
 -- feasible point; or constraints that no point of the domain keeps together, as multipliers show, each with a point that keeps all the
 -- others.
 pub record IsRightlyFiltered (words : List (List ℕ)) (told : Option Files) (outcomes : List FilterOutcome) : Type 0 where
   pub command : Command
-  pub work : Work
-  pub accepted : IsAcceptedWork words told command work
-  pub continuous : HasNoWhole work.problem
-  pub settings : List Pairs
-  pub asked : AreSettingsOf told command work settings
-  pub right : AreRightFilters work.problem settings outcomes
+  pub asked : Asked words told command HasNoWhole
+  pub right : AreRightFilters asked.work.problem asked.settings outcomes
 
 -- No variable is to be whole, and whatever is told of the parameter of the accepted problem is right at its setting: the parameter's value
 -- is in the span, and at each fitting setting that differs by a value of the parameter in it alone some point and some multipliers show that
@@ -96,25 +69,17 @@ pub record IsRightlyFiltered (words : List (List ℕ)) (told : Option Files) (ou
 -- the objective falls for ever.
 pub record IsRightlyRanged (words : List (List ℕ)) (told : Option Files) (parameter : List ℕ) (sense : Sense) (outcomes : List RangeOutcome) : Type 0 where
   pub command : Command
-  pub work : Work
-  pub accepted : IsAcceptedWork words told command work
-  pub continuous : HasNoWhole work.problem
+  pub asked : Asked words told command HasNoWhole
   pub named : parameter_name command ≡ Some parameter
-  pub sense_is : sense ≡ work.problem.sense
-  pub settings : List Pairs
-  pub asked : AreSettingsOf told command work settings
-  pub right : AreRightRanges work.problem parameter settings outcomes
+  pub sense_is : sense ≡ asked.work.problem.sense
+  pub right : AreRightRanges asked.work.problem parameter asked.settings outcomes
 
 -- No variable is to be whole, and each section of the certificate is empty or shows the answer of the accepted problem at its
 -- setting.
 pub record IsRightlyShown (words : List (List ℕ)) (told : Option Files) (list : List Section) : Type 0 where
   pub command : Command
-  pub work : Work
-  pub accepted : IsAcceptedWork words told command work
-  pub continuous : HasNoWhole work.problem
-  pub settings : List Pairs
-  pub asked : AreSettingsOf told command work settings
-  pub shown : AreShown work.problem settings list
+  pub asked : Asked words told command HasNoWhole
+  pub shown : AreShown asked.work.problem asked.settings list
 
 -- the bytes are the text of such a certificate
 abbrev pub AreRightBytes : List (List ℕ) → Option Files → List ℕ → Type 0

@@ -1,10 +1,13 @@
--- What contracts cite: commands, files, runs with their causes, how they end, and which are right.
+-- What contracts cite: commands, files, runs with their causes, how they end, and which are right; and what the functions on the way give.
 pub mod Commands
 pub mod Files
-pub mod Stands
+pub mod Reading
 pub mod Whole
 pub mod NoRange
+pub mod Asked
 pub mod Runs
+pub mod Solving
+pub mod Certifying
 pub mod Headline
 pub mod OneRun
 pub mod Migrated

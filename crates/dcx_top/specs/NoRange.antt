@@ -2,7 +2,7 @@
 use Rattle.std.specs.Prelude.{◌≡◌, ℕ, List, Some}
 use Rattle.dcx_shape.specs.declared.place.Place.{Place}
 use Rattle.dcx_tree.specs.declared.problem.Problem.{Problem}
-use Rattle.dcx_tree.specs.Nodes.{Node}
+use Rattle.dcx_declared.specs.Stands.{StandsAt}
 use Rattle.dcx_answer.specs.declared.not_ranged.NotRanged.{NotRanged}
 use Rattle.dcx_answer.specs.declared.not_ranged.NotRanged.TheVariants as faults
 use Rattle.dcx_refusal.specs.declared.refusal.Carried.TheVariants as carried
@@ -12,14 +12,13 @@ use Rattle.dcx_refusal.specs.Made.{IsRefusedAs, file_start}
 use Rattle.dcx_words.specs.Commands.{Command}
 use Rattle.dcx_outcomes.specs.Ranges.{HasRange, LacksRange}
 use Rattle.dcx_top.specs.Commands.{parameter_name}
-use Rattle.dcx_top.specs.Stands.{StandsAt}
 
 -- where the refusal stands: at the parameter, or at the start of the script where the problem reaches none
-abbrev pub IsPlaceOf : NotRanged → List Node → List ℕ → Place → Type 0
-IsPlaceOf faults.Unknown nodes name place = place ≡ file_start
-IsPlaceOf faults.Shape nodes name place = StandsAt nodes name place
-IsPlaceOf faults.Map nodes name place = StandsAt nodes name place
-IsPlaceOf faults.Coefficient nodes name place = StandsAt nodes name place
+abbrev pub IsPlaceOf : NotRanged → Problem → List ℕ → Place → Type 0
+IsPlaceOf faults.Unknown p name place = place ≡ file_start
+IsPlaceOf faults.Shape p name place = StandsAt p name place
+IsPlaceOf faults.Map p name place = StandsAt p name place
+IsPlaceOf faults.Coefficient p name place = StandsAt p name place
 
 -- ---- the refusal
 -- the script is refused for what stands first against a range of the parameter
@@ -27,7 +26,7 @@ pub record IsRefusedForRange (p : Problem) (name : List ℕ) (r : Refusal) : Typ
   pub fault : NotRanged
   pub lacks : LacksRange p name fault
   pub place : Place
-  pub stands : IsPlaceOf fault p.tree name place
+  pub stands : IsPlaceOf fault p name place
   pub refusal : IsRefusedAs Script 35 place (carried.NotRanged fault) r
 
 -- where the command asks for the range of a parameter, the parameter has one

@@ -1,15 +1,12 @@
 -- Each run with its cause.
-use Rattle.std.specs.Prelude.{◌≡◌, ◌↔◌, IsTrue, Bool, true, false, ⊤, ℕ, ◌+◌, ◌⊎◌, List, length, Option, Some, None, Ok, Err, count_by}
+use Rattle.std.specs.Prelude.{◌≡◌, ◌↔◌, IsTrue, Bool, false, ℕ, ◌+◌, ◌⊎◌, List, length, Option, Some, None, count_by}
 use Rattle.dcx_point.specs.Pairs.{Pairs}
-use Rattle.dcx_tree.specs.declared.problem.Problem.{Problem}
-use Rattle.dcx_host.specs.Files.{Files, IsTold}
+use Rattle.dcx_host.specs.Files.{Files}
 use Rattle.dcx_elab.specs.declared.work.Work.{Work}
-use Rattle.dcx_front.specs.declared.accepted.Accepted.{Accepted}
 use Rattle.dcx_refusal.specs.declared.checked.Checked.{Checked}
 use Rattle.dcx_refusal.specs.declared.refusal.Refusal.{Refusal}
 use Rattle.dcx_refusal.specs.declared.refusal.RefusalSource.TheVariants.{Script, Settings, Certificate}
 use Rattle.dcx_front.specs.Checks.{IsFoundOf}
-use Rattle.dcx_front.specs.Accepts.{Gives}
 use Rattle.dcx_answer.specs.declared.outcome.Outcome.{Outcome}
 use Rattle.dcx_answer.specs.declared.filter_outcome.FilterOutcome.{FilterOutcome}
 use Rattle.dcx_answer.specs.declared.whole_outcome.WholeOutcome.{WholeOutcome}
@@ -17,11 +14,8 @@ use Rattle.dcx_answer.specs.declared.range_outcome.RangeOutcome.{RangeOutcome}
 use Rattle.dcx_tree.specs.declared.constraint.Sense.{Sense}
 use Rattle.dcx_report.specs.declared.run.Run.{Run}
 use Rattle.dcx_report.specs.declared.run.Run.TheVariants as run
-use Rattle.dcx_report.specs.declared.run.Word.{Word}
-use Rattle.dcx_report.specs.declared.run.Word.TheVariants as word
-use Rattle.dcx_words.specs.Commands.{Command, check, resolve, certificate, certify, migrate, iis, range, command_of}
+use Rattle.dcx_words.specs.Commands.{Command, check, certificate, certify, migrate, iis, range, command_of}
 use Rattle.dcx_words.specs.Laws.{is_warm_command}
-use Rattle.dcx_overlay.specs.Settings.{AreTrialSettings}
 use Rattle.dcx_outcomes.specs.Outcomes.{Counts, CountsNoMore}
 use Rattle.dcx_outcomes.specs.Warm.{AreFound}
 use Rattle.dcx_outcomes.specs.Filters.{AreFilterOutcomes}
@@ -33,93 +27,62 @@ use Rattle.dcx_cert_lines.specs.CertText.{cert_text}
 use Rattle.dcx_cert_runs.specs.Sections.{StopsSomewhere, IsCertificateAt}
 use Rattle.dcx_cert_runs.specs.Checking.{is_cert, ArePassed, IsFirstRefused}
 use Rattle.dcx_cert_runs.specs.Migrating.{IsMigrated}
-use Rattle.dcx_top.specs.Commands.{IsScriptOf, script_name, settings_name, certificate_name, parameter_name, AreOfFile, AreSettingsOf, limit_of, TellsOutcomes, TellsWholes}
-use Rattle.dcx_top.specs.declared.solving.Task.{Task}
-use Rattle.dcx_top.specs.declared.solving.Task.TheVariants as tasks
-use Rattle.dcx_top.specs.Whole.{HasNoWhole, HasWhole, IsRefusedForWhole, RefusesWhole, Takes}
+use Rattle.dcx_top.specs.Commands.{IsScriptOf, script_name, settings_name, certificate_name, parameter_name, AreSettingsOf, limit_of, TellsOutcomes, TellsWholes}
+use Rattle.dcx_top.specs.Asked.{IsAcceptedWork, Asked}
+use Rattle.dcx_declared.specs.Whole.{HasNoWhole, HasWhole}
+use Rattle.dcx_top.specs.Whole.{IsRefusedForWhole, RefusesWhole, Takes}
 use Rattle.dcx_top.specs.NoRange.{IsRefusedForRange, AllowsRange}
-use Rattle.dcx_top.specs.Files.{RefusesScript, RefusesSettings, IsLong, IsRefusedIn, IsNotHad, EndsAt, IsMisread, HasTextOf, ReadsCertificate}
-
--- ---- scripts
--- the script of a command gives an accepted problem
-pub record GivesProblem (told : Option Files) (command : Command) (a : Accepted) : Type 0 where
-  pub bytes : List ℕ
-  pub are_of : IsScriptOf told command bytes
-  pub gives : Gives bytes (Ok a)
+use Rattle.dcx_top.specs.Files.{IsLong, IsRefusedIn, RefusesScript, RefusesSettings, IsNotHad, IsMisread, HasTextOf}
 
 -- ---- runs
 -- a script that is checked, of which this is found
 pub record IsChecked (words : List (List ℕ)) (told : Option Files) (c : Checked) : Type 0 where
   pub script : List ℕ
   pub form : command_of words ≡ Some (check script)
-  pub accepted : Accepted
-  pub problem : GivesProblem told (check script) accepted
-  pub found : IsFoundOf accepted.work.problem c
+  pub work : Work
+  pub problem : IsAcceptedWork told (check script) work
+  pub found : IsFoundOf work.problem c
 
 -- a problem without variables that are to be whole is solved at the settings of a command, where that says so warm: its outcomes are
 -- told, and so many steps were counted
 pub record IsSolvedRun (words : List (List ℕ)) (told : Option Files) (old new : ℕ) (r : Run) : Type 0 where
   pub command : Command
-  pub form : command_of words ≡ Some command
-  pub accepted : Accepted
-  pub problem : GivesProblem told command accepted
-  pub continuous : HasNoWhole accepted.work.problem
-  pub settings : List Pairs
-  pub asked : AreSettingsOf told command accepted.work settings
+  pub asked : Asked words told command HasNoWhole
   pub outcomes : List Outcome
   pub warm : Option ℕ
-  pub are : AreFound (is_warm_command command) accepted.work.problem (limit_of command) settings outcomes warm
-  pub tells : TellsOutcomes command accepted.work.problem.sense outcomes warm r
-  pub steps : Counts accepted.work.problem (length settings) old new
+  pub are : AreFound (is_warm_command command) asked.work.problem (limit_of command) asked.settings outcomes warm
+  pub tells : TellsOutcomes command asked.work.problem.sense outcomes warm r
+  pub steps : Counts asked.work.problem (length asked.settings) old new
 
--- a problem with a variable that is to be whole is solved by branch and bound at the settings of a command: its outcomes are told, and so
--- many steps were counted
+-- a problem with a variable that is to be whole is solved by branch and bound
 pub record IsBranchedRun (words : List (List ℕ)) (told : Option Files) (old new : ℕ) (r : Run) : Type 0 where
   pub command : Command
-  pub form : command_of words ≡ Some command
-  pub accepted : Accepted
-  pub problem : GivesProblem told command accepted
-  pub marked : HasWhole accepted.work.problem
-  pub settings : List Pairs
-  pub asked : AreSettingsOf told command accepted.work settings
+  pub asked : Asked words told command HasWhole
   pub outcomes : List WholeOutcome
-  pub are : AreWholeOutcomes accepted.work.problem (limit_of command) settings outcomes
-  pub tells : TellsWholes command accepted.work.problem.sense outcomes r
-  pub steps : Counts accepted.work.problem (length settings) old new
+  pub are : AreWholeOutcomes asked.work.problem (limit_of command) asked.settings outcomes
+  pub tells : TellsWholes command asked.work.problem.sense outcomes r
+  pub steps : Counts asked.work.problem (length asked.settings) old new
 
--- ---- constraints that are filtered
--- the constraints of a problem without variables that are to be whole are filtered at the settings of a file with these outcomes, and so
--- many steps were counted
+-- the constraints of one without such variables are filtered
 pub record IsFilteredRun (words : List (List ℕ)) (told : Option Files) (old new : ℕ) (outcomes : List FilterOutcome) : Type 0 where
   pub script : List ℕ
   pub name : List ℕ
   pub limit : ℕ
-  pub form : command_of words ≡ Some (iis script name limit)
-  pub accepted : Accepted
-  pub problem : GivesProblem told (iis script name limit) accepted
-  pub continuous : HasNoWhole accepted.work.problem
-  pub settings : List Pairs
-  pub asked : AreOfFile told name accepted.work.last settings
-  pub are : AreFilterOutcomes accepted.work.problem limit settings outcomes
-  pub steps : Counts accepted.work.problem (length settings) old new
+  pub asked : Asked words told (iis script name limit) HasNoWhole
+  pub are : AreFilterOutcomes asked.work.problem limit asked.settings outcomes
+  pub steps : Counts asked.work.problem (length asked.settings) old new
 
 -- ---- ranges
--- the parameter of a problem without variables that are to be whole has a range, which is told at the settings of a file with these
--- outcomes, and a step was counted for each node
+-- its parameter has a range, which is told, and a step was counted for each node
 pub record IsRangedRun (words : List (List ℕ)) (told : Option Files) (old new : ℕ) (parameter : List ℕ) (sense : Sense) (outcomes : List RangeOutcome) : Type 0 where
   pub script : List ℕ
   pub name : List ℕ
   pub limit : ℕ
-  pub form : command_of words ≡ Some (range script name parameter limit)
-  pub accepted : Accepted
-  pub problem : GivesProblem told (range script name parameter limit) accepted
-  pub continuous : HasNoWhole accepted.work.problem
-  pub ranged : HasRange accepted.work.problem parameter
-  pub settings : List Pairs
-  pub asked : AreOfFile told name accepted.work.last settings
-  pub are : AreRangeOutcomes accepted.work.problem parameter limit settings outcomes
-  pub sense_is : sense ≡ accepted.work.problem.sense
-  pub steps : new ≡ old + length accepted.work.problem.tree
+  pub asked : Asked words told (range script name parameter limit) HasNoWhole
+  pub ranged : HasRange asked.work.problem parameter
+  pub are : AreRangeOutcomes asked.work.problem parameter limit asked.settings outcomes
+  pub sense_is : sense ≡ asked.work.problem.sense
+  pub steps : new ≡ old + length asked.work.problem.tree
 
 -- a session of the accepted problem of a `range`, which has no variable that is to be whole, was begun: its steps were counted
 pub record BeginsRange (words : List (List ℕ)) (told : Option Files) (old new : ℕ) : Type 0 where
@@ -128,54 +91,44 @@ pub record BeginsRange (words : List (List ℕ)) (told : Option Files) (old new 
   pub parameter : List ℕ
   pub limit : ℕ
   pub form : command_of words ≡ Some (range script name parameter limit)
-  pub accepted : Accepted
-  pub problem : GivesProblem told (range script name parameter limit) accepted
-  pub continuous : HasNoWhole accepted.work.problem
-  pub steps : Counts accepted.work.problem 0 old new
+  pub work : Work
+  pub problem : IsAcceptedWork told (range script name parameter limit) work
+  pub continuous : HasNoWhole work.problem
+  pub steps : Counts work.problem 0 old new
 
 -- no step was counted, or those of a session that a `range` begins before it is refused or its settings file is fetched
 abbrev pub CountsAtMostBeginning : List (List ℕ) → Option Files → ℕ → ℕ → Type 0
 CountsAtMostBeginning words told old new = (new ≡ old) ⊎ BeginsRange words told old new
 
 -- ---- certificates
--- a problem without variables that are to be whole is solved at the settings of a file, these are the bytes of the certificate of its
--- answers, it is told whether a setting stopped, and so many steps were counted
+-- a problem without variables that are to be whole is solved at settings, these are the bytes of the certificate of its answers, it is
+-- told whether a setting stopped, and so many steps were counted
 pub record IsCertificateRun (words : List (List ℕ)) (told : Option Files) (old new : ℕ) (bytes : List ℕ) (stopped : Bool) : Type 0 where
   pub script : List ℕ
   pub name : List ℕ
   pub limit : ℕ
-  pub form : command_of words ≡ Some (certificate script name limit)
-  pub accepted : Accepted
-  pub problem : GivesProblem told (certificate script name limit) accepted
-  pub continuous : HasNoWhole accepted.work.problem
-  pub settings : List Pairs
-  pub asked : AreOfFile told name accepted.work.last settings
+  pub asked : Asked words told (certificate script name limit) HasNoWhole
   pub sections : Sections
-  pub are : IsCertificateAt accepted.work.problem limit settings sections
-  pub flag : IsTrue stopped ↔ StopsSomewhere accepted.work.problem limit settings
+  pub are : IsCertificateAt asked.work.problem limit asked.settings sections
+  pub flag : IsTrue stopped ↔ StopsSomewhere asked.work.problem limit asked.settings
   pub text : bytes ≡ cert_text sections
-  pub steps : Counts accepted.work.problem (length settings) old new
+  pub steps : Counts asked.work.problem (length asked.settings) old new
 
--- the problem and the settings of a command that has a certificate
+-- the problem and the settings of a command that reads a certificate
 pub record HasCertificate (words : List (List ℕ)) (told : Option Files) (command : Command) : Type 0 where
-  pub form : command_of words ≡ Some command
   pub name : List ℕ
   pub named : certificate_name command ≡ Some name
-  pub accepted : Accepted
-  pub problem : GivesProblem told command accepted
-  pub continuous : HasNoWhole accepted.work.problem
-  pub settings : List Pairs
-  pub asked : AreSettingsOf told command accepted.work settings
+  pub asked : Asked words told command HasNoWhole
 
 -- its file has the text of these sections for the problem, as many as there are settings
 pub record ReadsSections (words : List (List ℕ)) (told : Option Files) (command : Command) (sections : Sections) : Type 0 where
   pub files : HasCertificate words told command
-  pub has : HasTextOf told files.name files.accepted.work.problem files.settings sections
+  pub has : HasTextOf told files.name files.asked.work.problem files.asked.settings sections
 
 -- and each passes its checks at its setting
 pub record HasPassed (words : List (List ℕ)) (told : Option Files) (command : Command) (sections : Sections) : Type 0 where
   pub reads : ReadsSections words told command sections
-  pub passed : ArePassed reads.files.accepted.work.problem reads.files.settings sections.list
+  pub passed : ArePassed reads.files.asked.work.problem reads.files.asked.settings sections.list
 
 -- sections that passed are written with the settings' values
 pub record IsMigrateRun (words : List (List ℕ)) (told : Option Files) (bytes : List ℕ) : Type 0 where
@@ -203,135 +156,24 @@ pub record IsCertifiedRun (words : List (List ℕ)) (told : Option Files) (n : �
 
 -- a certificate is refused: its bytes are the text of none for the problem, or this section is the first that fails
 pub data IsCertRefusedRun (words : List (List ℕ)) (told : Option Files) (section : ℕ) (f : CertFault) : Type 0 where
-  misread : (command : Command) (files : HasCertificate words told command) → IsMisread told files.name files.accepted.work.problem (length files.settings) section f
+  misread : (command : Command) (files : HasCertificate words told command) → IsMisread told files.name files.asked.work.problem (length files.asked.settings) section f
       → IsCertRefusedRun words told section f
   failed : (command : Command) (sections : Sections) (reads : ReadsSections words told command sections)
-      → IsFirstRefused reads.files.accepted.work.problem reads.files.settings sections.list section f → IsCertRefusedRun words told section f
+      → IsFirstRefused reads.files.asked.work.problem reads.files.asked.settings sections.list section f → IsCertRefusedRun words told section f
 
--- the run refuses the script for the first variable that is to be whole, and no step is counted
-abbrev pub RefusedForWhole : Problem → ℕ → ℕ → Run → Type 0
-RefusedForWhole p old new r = (t : Refusal) × IsRefusedForWhole p t × (r ≡ run.Refused t) × (new ≡ old)
-
--- the run is one of these, where no variable is to be whole if that is refused; or it refuses the script
-abbrev pub OrWhole : Type 0 → Problem → (Run → Type 0) → ℕ → ℕ → Run → Type 0
-OrWhole Refuses p Next old new r = ((Refuses → HasNoWhole p) × Next r) ⊎ (Refuses × RefusedForWhole p old new r)
-
--- a problem is solved at settings, warm or not, and its outcomes are told so; want of memory is free
-abbrev pub SolvesAt : Bool → Problem → ℕ → List Pairs → (List Outcome → Option ℕ → Run) → ℕ → ℕ → Run → Type 0
-SolvesAt warm p limit settings tells old new r =
-    ((r ≡ run.Memory) × CountsNoMore p (length settings) old new) ⊎ ((outcomes : List Outcome) × (count : Option ℕ) × AreFound warm p limit settings outcomes count
-    × Counts p (length settings) old new × (r ≡ tells outcomes count))
-
--- a problem is solved by branch and bound at settings, and its outcomes are told so; want of memory is free
-abbrev pub BranchesAt : Problem → ℕ → List Pairs → (List WholeOutcome → Run) → ℕ → ℕ → Run → Type 0
-BranchesAt p limit settings tells old new r =
-    ((r ≡ run.Memory) × CountsNoMore p (length settings) old new) ⊎ ((outcomes : List WholeOutcome) × AreWholeOutcomes p limit settings outcomes × Counts p (length settings) old new
-    × (r ≡ tells outcomes))
-
--- it is solved so where a variable is to be whole, and else as ever
-abbrev pub AnswersAt : Word → Problem → ℕ → List Pairs → ℕ → ℕ → Run → Type 0
-AnswersAt word p limit settings old new r =
-    (HasNoWhole p × SolvesAt false p limit settings (λ os count. run.Solved word p.sense os count) old new r)
-    ⊎ (HasWhole p × BranchesAt p limit settings (λ os. run.Branched word p.sense os) old new r)
-
--- it is solved at the settings of a file, warm or not
-abbrev pub ResolvesAt : Bool → Problem → ℕ → List Pairs → ℕ → ℕ → Run → Type 0
-ResolvesAt false p limit settings old new r = AnswersAt word.Setting p limit settings old new r
-ResolvesAt true p limit settings old new r = SolvesAt true p limit settings (λ os count. run.Solved word.Setting p.sense os count) old new r
-
--- the trial problem is solved at its two settings; want of memory is free
-abbrev pub TriesAt : Work → ℕ → ℕ → ℕ → ℕ → Run → Type 0
-TriesAt work size limit old new r =
-    ((r ≡ run.Memory) × (new ≡ old)) ⊎ ((settings : List Pairs) × AreTrialSettings work.last settings × SolvesAt false work.problem limit settings (λ os count. run.Trial size os) old new r)
-
--- the certificate of a problem at settings is told; want of memory is free
-abbrev pub CertifiesAt : Problem → ℕ → List Pairs → ℕ → ℕ → Run → Type 0
-CertifiesAt p limit settings old new r =
-    ((r ≡ run.Memory) × CountsNoMore p (length settings) old new)
-    ⊎ ((c : Sections) × (stopped : Bool) × IsCertificateAt p limit settings c × (IsTrue stopped ↔ StopsSomewhere p limit settings) × Counts p (length settings) old new
-    × (r ≡ run.Certificates (cert_text c) stopped))
-
--- the constraints of a problem are filtered at settings; want of memory is free
-abbrev pub FiltersAt : Problem → ℕ → List Pairs → ℕ → ℕ → Run → Type 0
-FiltersAt p limit settings old new r =
-    ((r ≡ run.Memory) × CountsNoMore p (length settings) old new) ⊎ ((outcomes : List FilterOutcome) × AreFilterOutcomes p limit settings outcomes × Counts p (length settings) old new
-    × (r ≡ run.Filtered outcomes))
-
--- what a problem with a session gives, whose beginning is counted: the parameter has no range, and the script is refused; or it has one, and
--- the settings file ends the run, or the range is told at its settings; want of memory is free
-pub data RangesFrom (told : Option Files) (risen : Type 0) (work : Work) (name parameter : List ℕ) (limit old new : ℕ) (r : Run) : Type 0 where
-  lacking : (t : Refusal) → IsRefusedForRange work.problem parameter t → r ≡ run.Refused t → Counts work.problem 0 old new → RangesFrom told risen work name parameter limit old new r
-  ending : HasRange work.problem parameter → EndsAt told risen Settings name RefusesSettings r → Counts work.problem 0 old new → RangesFrom told risen work name parameter limit old new r
-  ranging : HasRange work.problem parameter → (settings : List Pairs) (outcomes : List RangeOutcome) → AreOfFile told name work.last settings
-      → AreRangeOutcomes work.problem parameter limit settings outcomes
-      → r ≡ run.Ranged parameter work.problem.sense outcomes → Counts work.problem 0 old new → RangesFrom told risen work name parameter limit old new r
-  wanting : r ≡ run.Memory → CountsNoMore work.problem 0 old new → RangesFrom told risen work name parameter limit old new r
-
--- the settings of a file give this run, or the file ends it, and no step is counted
-abbrev pub FromFile : Option Files → Type 0 → Work → List ℕ → (List Pairs → ℕ → ℕ → Run → Type 0) → ℕ → ℕ → Run → Type 0
-FromFile told risen work name At old new r =
-    ((settings : List Pairs) × AreOfFile told name work.last settings × At settings old new r) ⊎ (EndsAt told risen Settings name RefusesSettings r × (new ≡ old))
-
--- an accepted problem is solved at the settings of a file, its certificate is told there, or its constraints are filtered there
-abbrev pub DoesAt : Task → Work → ℕ → List Pairs → ℕ → ℕ → Run → Type 0
-DoesAt (tasks.Resolve warm) work limit settings old new r = ResolvesAt warm work.problem limit settings old new r
-DoesAt tasks.Certificate work limit settings old new r = CertifiesAt work.problem limit settings old new r
-DoesAt tasks.Filter work limit settings old new r = FiltersAt work.problem limit settings old new r
-
-abbrev pub DoesFrom : Option Files → Type 0 → Task → Work → List ℕ → ℕ → ℕ → ℕ → Run → Type 0
-DoesFrom told risen task work name limit old new r = FromFile told risen work name (DoesAt task work limit) old new r
-
--- a problem with a variable that is to be whole is refused
-abbrev pub task_refuses : Task → Bool
-task_refuses (tasks.Resolve warm) = warm
-task_refuses tasks.Certificate = true
-task_refuses tasks.Filter = true
-
--- the command that asks for it
-abbrev pub command_for : Task → (script settings : List ℕ) → ℕ → Command
-command_for (tasks.Resolve warm) script settings limit = resolve script settings limit warm
-command_for tasks.Certificate script settings limit = certificate script settings limit
-command_for tasks.Filter script settings limit = iis script settings limit
-
--- ---- the files of a certificate that is read
--- a script gives an accepted problem without variables that are to be whole, and a file these settings
-pub record GivesSettings (told : Option Files) (script name : List ℕ) (a : Accepted) (settings : List Pairs) : Type 0 where
-  pub bytes : List ℕ
-  pub are_told : IsTold told script bytes
-  pub gives : Gives bytes (Ok a)
-  pub continuous : HasNoWhole a.work.problem
-  pub asked : AreOfFile told name a.work.last settings
-
--- a third file has the text of these sections for the problem at the settings
-pub record GivesSections (told : Option Files) (script name file : List ℕ) (p : Problem) (settings : List Pairs) (sections : Sections) : Type 0 where
-  pub accepted : Accepted
-  pub is_of : accepted.work.problem ≡ p
-  pub files : GivesSettings told script name accepted settings
-  pub has : HasTextOf told file p settings sections
-
--- one of the files ends the run: the script, a variable that is to be whole, the settings file, or the certificate; want of memory is free
-pub data EndsFiles (told : Option Files) (risen : Type 0) (script name file : List ℕ) (r : Run) : Type 0 where
-  at_script : EndsAt told risen Script script RefusesScript r → EndsFiles told risen script name file r
-  at_whole : (a : Accepted) (bytes : List ℕ) (t : Refusal) → IsTold told script bytes → Gives bytes (Ok a) → IsRefusedForWhole a.work.problem t → r ≡ run.Refused t
-      → EndsFiles told risen script name file r
-  at_settings : (a : Accepted) (bytes : List ℕ) → IsTold told script bytes → Gives bytes (Ok a) → HasNoWhole a.work.problem → EndsAt told risen Settings name RefusesSettings r
-      → EndsFiles told risen script name file r
-  at_certificate : (a : Accepted) (settings : List Pairs) → GivesSettings told script name a settings → ReadsCertificate told risen file a.work.problem (length settings) (Err r)
-      → EndsFiles told risen script name file r
-  at_memory : r ≡ run.Memory → EndsFiles told risen script name file r
-
+-- ---- refusals and faults
 -- a file of a command is refused: its script, for its length, for what stands in it, or for a variable that is to be whole where the
 -- command refuses that; or, where the range of a parameter is asked for, for what stands against that; or else its settings file; or else
 -- its certificate, for its length
 pub data IsRefusedRun (words : List (List ℕ)) (told : Option Files) (r : Refusal) : Type 0 where
   long_script : (command : Command) (name : List ℕ) → command_of words ≡ Some command → script_name command ≡ Some name → IsLong told Script name r → IsRefusedRun words told r
   bad_script : (command : Command) (bytes : List ℕ) → command_of words ≡ Some command → IsScriptOf told command bytes → RefusesScript bytes r → IsRefusedRun words told r
-  for_whole : (command : Command) (a : Accepted) → command_of words ≡ Some command → GivesProblem told command a → RefusesWhole command → IsRefusedForWhole a.work.problem r → IsRefusedRun words told r
-  for_range : (command : Command) (a : Accepted) (name : List ℕ) → command_of words ≡ Some command → GivesProblem told command a → HasNoWhole a.work.problem → parameter_name command ≡ Some name
-      → IsRefusedForRange a.work.problem name r
+  for_whole : (command : Command) (work : Work) → command_of words ≡ Some command → IsAcceptedWork told command work → RefusesWhole command → IsRefusedForWhole work.problem r → IsRefusedRun words told r
+  for_range : (command : Command) (work : Work) (name : List ℕ) → command_of words ≡ Some command → IsAcceptedWork told command work → HasNoWhole work.problem → parameter_name command ≡ Some name
+      → IsRefusedForRange work.problem name r
       → IsRefusedRun words told r
-  bad_settings : (command : Command) (a : Accepted) (name : List ℕ) → command_of words ≡ Some command → GivesProblem told command a → Takes command a.work.problem
-      → AllowsRange command a.work.problem → settings_name command ≡ Some name
+  bad_settings : (command : Command) (work : Work) (name : List ℕ) → command_of words ≡ Some command → IsAcceptedWork told command work → Takes command work.problem
+      → AllowsRange command work.problem → settings_name command ≡ Some name
       → IsLong told Settings name r ⊎ IsRefusedIn told name RefusesSettings r → IsRefusedRun words told r
   long_certificate : (command : Command) (files : HasCertificate words told command) → IsLong told Certificate files.name r → IsRefusedRun words told r
 
@@ -339,8 +181,8 @@ pub data IsRefusedRun (words : List (List ℕ)) (told : Option Files) (r : Refus
 -- settings, its certificate
 pub data IsReadFault (words : List (List ℕ)) (told : Option Files) (risen : Type 0) : Type 0 where
   no_script : (command : Command) (name : List ℕ) → command_of words ≡ Some command → script_name command ≡ Some name → IsNotHad told risen name → IsReadFault words told risen
-  no_settings : (command : Command) (a : Accepted) (name : List ℕ) → command_of words ≡ Some command → GivesProblem told command a → Takes command a.work.problem
-      → AllowsRange command a.work.problem → settings_name command ≡ Some name → IsNotHad told risen name
+  no_settings : (command : Command) (work : Work) (name : List ℕ) → command_of words ≡ Some command → IsAcceptedWork told command work → Takes command work.problem
+      → AllowsRange command work.problem → settings_name command ≡ Some name → IsNotHad told risen name
       → IsReadFault words told risen
   no_certificate : (command : Command) (files : HasCertificate words told command) → IsNotHad told risen files.name → IsReadFault words told risen
 
@@ -349,11 +191,11 @@ pub data IsReadFault (words : List (List ℕ)) (told : Option Files) (risen : Ty
 -- solves at settings, no more than are counted there. A check counts none, and where a certificate is read none is counted either.
 pub data CountsAtMost (words : List (List ℕ)) (told : Option Files) (old new : ℕ) : Type 0 where
   none : new ≡ old → CountsAtMost words told old new
-  beginning : (command : Command) (a : Accepted) (name : List ℕ) → command_of words ≡ Some command → GivesProblem told command a → parameter_name command ≡ Some name
-      → CountsNoMore a.work.problem 0 old new → CountsAtMost words told old new
-  solving : (command : Command) (a : Accepted) (settings : List Pairs) → command_of words ≡ Some command → GivesProblem told command a → certificate_name command ≡ None
-      → AreSettingsOf told command a.work settings
-      → CountsNoMore a.work.problem (length settings) old new → CountsAtMost words told old new
+  beginning : (command : Command) (work : Work) (name : List ℕ) → command_of words ≡ Some command → IsAcceptedWork told command work → parameter_name command ≡ Some name
+      → CountsNoMore work.problem 0 old new → CountsAtMost words told old new
+  solving : (command : Command) (work : Work) (settings : List Pairs) → command_of words ≡ Some command → IsAcceptedWork told command work → certificate_name command ≡ None
+      → AreSettingsOf told command work settings
+      → CountsNoMore work.problem (length settings) old new → CountsAtMost words told old new
 
 -- Each run with its cause. `risen` says that the library's count of faults rose in this run; the counter of steps goes from `old` to
 -- `new`. Want of memory alone is free, and counts no more steps than the command does.

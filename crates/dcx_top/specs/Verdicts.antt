@@ -16,7 +16,8 @@ use Rattle.dcx_outcomes.specs.Ranges.{LacksRange}
 use Rattle.dcx_top.specs.NoRange.{AllowsRange}
 use Rattle.dcx_top.specs.Commands.{IsScriptOf, settings_name, certificate_name, parameter_name}
 use Rattle.dcx_top.specs.Files.{most_bytes}
-use Rattle.dcx_top.specs.Whole.{IsWholeAt, RefusesWhole, Takes}
+use Rattle.dcx_declared.specs.Whole.{IsWholeAt}
+use Rattle.dcx_top.specs.Whole.{RefusesWhole, Takes}
 use Rattle.dcx_top.specs.OneRun.{IsAnswered}
 
 abbrev pub IsRefusal : Run → Type 0

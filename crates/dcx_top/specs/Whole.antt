@@ -1,40 +1,18 @@
 -- Variables whose entries are to be whole: which commands take a problem that has one, and how the others refuse it.
-use Rattle.std.specs.Prelude.{◌≡◌, ◌≢◌, ⊤, ℕ, ◌<◌, true, false, Some, slice_get}
+use Rattle.std.specs.Prelude.{⊤, true, false}
 use Rattle.dcx_shape.specs.declared.place.Place.{Place}
-use Rattle.dcx_call.specs.declared.attribute.Variable.{Variable}
-use Rattle.dcx_call.specs.declared.attribute.Whole.TheVariants.{Not}
 use Rattle.dcx_tree.specs.declared.problem.Problem.{Problem}
+use Rattle.dcx_declared.specs.Whole.{HasNoWhole, StandsFirstWhole}
 use Rattle.dcx_refusal.specs.declared.refusal.Carried.TheVariants.{Nothing}
 use Rattle.dcx_refusal.specs.declared.refusal.Refusal.{Refusal}
 use Rattle.dcx_refusal.specs.declared.refusal.RefusalSource.TheVariants.{Script}
 use Rattle.dcx_refusal.specs.Made.{IsRefusedAs}
 use Rattle.dcx_words.specs.Commands.{Command, check, solve, resolve, certificate, certify, migrate, trial, iis, range}
-use Rattle.dcx_top.specs.Stands.{StandsAt}
 
--- the entries of variable k of the problem, in order of declaration, are to be whole
-pub record IsWholeAt (p : Problem) (k : ℕ) : Type 0 where
-  pub variable : Variable
-  pub there : slice_get p.variables k ≡ Some variable
-  pub marked : variable.whole ≢ Not
-
--- no variable of the problem is so
-abbrev pub HasNoWhole : Problem → Type 0
-HasNoWhole p = (k : ℕ) → ¬ IsWholeAt p k
-
-abbrev pub HasWhole : Problem → Type 0
-HasWhole p = (k : ℕ) × IsWholeAt p k
-
--- it is the first one
-pub record IsFirstWhole (p : Problem) (k : ℕ) : Type 0 where
-  pub is : IsWholeAt p k
-  pub before : (j : ℕ) → j < k → ¬ IsWholeAt p j
-
--- the script is refused for the first one, where it stands
+-- the script is refused for the first variable that is to be whole, where it stands
 pub record IsRefusedForWhole (p : Problem) (r : Refusal) : Type 0 where
-  pub number : ℕ
-  pub first : IsFirstWhole p number
   pub place : Place
-  pub stands : StandsAt p.tree first.is.variable.name place
+  pub stands : StandsFirstWhole p place
   pub refusal : IsRefusedAs Script 34 place Nothing r
 
 -- the command refuses such a problem: it solves from what earlier settings left, tells or checks what shows answers, filters constraints,

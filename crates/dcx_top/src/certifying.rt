@@ -9,8 +9,10 @@ ghost use Rattle.dcx_cert_sections.specs.declared.section.Sections.{Sections as 
 ghost use Rattle.dcx_host.specs.Faults.{Rose};
 ghost use Rattle.dcx_words.specs.Commands.{certify as certifies, migrate as migrates, command_of};
 ghost use Rattle.dcx_cert_lines.specs.CertText.{cert_text};
-ghost use Rattle.dcx_top.specs.Files.{HasTextOf, ReadsCertificate};
-ghost use Rattle.dcx_top.specs.Runs.{GivesSections, EndsFiles, Causes};
+ghost use Rattle.dcx_top.specs.Files.{HasTextOf};
+ghost use Rattle.dcx_top.specs.Reading.{ReadsCertificate};
+ghost use Rattle.dcx_top.specs.Runs.{Causes};
+ghost use Rattle.dcx_top.specs.Certifying.{GivesSections, EndsFiles};
 
 use crate::files::{read_certificate, read_script, read_settings, refused_at};
 use crate::whole::refuse_whole;

@@ -1,7 +1,8 @@
 //! What the files of a command give, or the run that ends where one isn't had or is refused.
 ghost use Rattle.std.specs.Prelude.{◌≡◌, ◌≤◌, length, IfOk, IfErr};
 ghost use Rattle.dcx_host.specs.Faults.{Rose};
-ghost use Rattle.dcx_top.specs.Files.{most_bytes as most_bytes_of, run_of, GivesBytes, EndsAt, ReadsScript, ReadsSettings, refused_at as refused_at_of, ReadsCertificate};
+ghost use Rattle.dcx_top.specs.Files.{most_bytes as most_bytes_of};
+ghost use Rattle.dcx_top.specs.Reading.{run_of, GivesBytes, EndsAt, ReadsScript, ReadsSettings, refused_at as refused_at_of, ReadsCertificate};
 
 use dcx_answer::CertFault;
 use dcx_cert_sections::Sections;

@@ -13,7 +13,6 @@ pub mod laws;
 mod no_range;
 mod ranging;
 mod solving;
-mod stands;
 mod status;
 mod whole;
 

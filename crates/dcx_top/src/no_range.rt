@@ -3,9 +3,9 @@ ghost use Rattle.std.specs.Prelude.{MatchOption};
 ghost use Rattle.dcx_outcomes.specs.Ranges.{HasRange, LacksRange};
 ghost use Rattle.dcx_top.specs.NoRange.{IsPlaceOf, IsRefusedForRange};
 
-use crate::stands::place_of;
 use dcx_answer::NotRanged;
 use dcx_cache::Session;
+use dcx_declared::place_of;
 use dcx_range::ranged;
 use dcx_refusal::Refusal;
 use dcx_shape::{Name, Place};
@@ -14,7 +14,7 @@ use dcx_tree::Problem;
 /// Where a script is refused for what stands against the range of the parameter.
 fn fault_place(problem: &Problem, name: &Name, fault: NotRanged) -> Place
     requires { LacksRange problem.now name.now fault }
-    ensures { IsPlaceOf fault problem.now.tree name.now result }
+    ensures { IsPlaceOf fault problem.now name.now result }
 {
     match fault {
         NotRanged::Unknown => Place { line: 1, column: 1 },

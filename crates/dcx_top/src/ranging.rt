@@ -11,7 +11,8 @@ ghost use Rattle.dcx_answer.specs.declared.range_outcome.RangeOutcome.{RangeOutc
 ghost use Rattle.dcx_outcomes.specs.Outcomes.{Counts};
 ghost use Rattle.dcx_outcomes.specs.Ranges.{HasRange, AreRangeOutcomes};
 ghost use Rattle.dcx_elab.specs.declared.work.Work.{Work};
-ghost use Rattle.dcx_top.specs.Runs.{OrWhole, RangesFrom, Causes};
+ghost use Rattle.dcx_top.specs.Runs.{Causes};
+ghost use Rattle.dcx_top.specs.Solving.{OrWhole, RangesFrom};
 
 use crate::files::{read_script, read_settings};
 use crate::no_range::refuse_range;

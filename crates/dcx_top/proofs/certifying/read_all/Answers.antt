@@ -5,8 +5,9 @@ use Rattle.dcx_host.specs.Files.{IsTold}
 use Rattle.dcx_host.specs.Faults.{Rose}
 use Rattle.dcx_settings.proofs.Full.{items_full_in}
 use Rattle.dcx_refusal.specs.declared.refusal.RefusalSource.TheVariants.{Settings}
-use Rattle.dcx_top.specs.Files.{EndsAt, RefusesSettings}
-use Rattle.dcx_top.specs.Runs.{at_whole, at_settings}
+use Rattle.dcx_top.specs.Files.{RefusesSettings}
+use Rattle.dcx_top.specs.Reading.{EndsAt}
+use Rattle.dcx_top.specs.Certifying.{at_whole, at_settings}
 use Rattle.dcx_top.proofs.Rising.{rose_behind}
 use Rattle.dcx_top.proofs.Endings.{ends_rising}
 use Rattle.dcx_top.proofs.Reading.{sections_read, sections_end}

@@ -6,7 +6,7 @@ use Rattle.dcx_tree.specs.declared.problem.Problem.{Problem}
 use Rattle.dcx_outcomes.specs.Ranges.{HasRange, IsKeptProgram}
 use Rattle.dcx_outcomes.proofs.RangeEnds.{told_has, told_lacks}
 use Rattle.dcx_top.specs.NoRange.{IsRefusedForRange}
-use Rattle.dcx_top.proofs.Standing.{kept_of}
+use Rattle.dcx_top.proofs.NoRange.{kept_of}
 use Rattle.dcx_top.proofs.no_range.refuse_range.Goals as goal
 
 pub refused-requires : goal.refused-requires

@@ -1,7 +1,7 @@
 -- A parameter is asked by the bytes of its word.
 use Rattle.std.proofs.Common.{refl, inl, inr, subst}
 use Rattle.dcx_host.specs.Faults.{Rose}
-use Rattle.dcx_top.specs.Runs.{RangesFrom}
+use Rattle.dcx_top.specs.Solving.{RangesFrom}
 use Rattle.dcx_top.proofs.ranging.range_file.Goals as goal
 
 pub returns-in-Some-clause-run : goal.returns-in-Some-clause-run

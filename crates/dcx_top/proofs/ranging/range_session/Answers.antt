@@ -3,7 +3,7 @@ use Rattle.std.proofs.Common.{refl, sym, subst}
 use Rattle.dcx_tree.specs.declared.problem.Problem.{Problem}
 use Rattle.dcx_settings.proofs.Full.{items_full_in}
 use Rattle.dcx_outcomes.specs.Ranges.{HasRange}
-use Rattle.dcx_top.specs.Runs.{lacking, ending}
+use Rattle.dcx_top.specs.Solving.{lacking, ending}
 use Rattle.dcx_top.specs.NoRange.{IsRefusedForRange}
 use Rattle.dcx_top.proofs.Endings.{lines_ranged}
 use Rattle.dcx_top.proofs.ranging.range_session.Goals as goal

@@ -1,6 +1,6 @@
 -- The session that was begun is of the problem, and its steps are counted.
 use Rattle.std.proofs.Common.{refl, sym}
-use Rattle.dcx_top.specs.Runs.{wanting}
+use Rattle.dcx_top.specs.Solving.{wanting}
 use Rattle.dcx_top.proofs.Counting.{begun_no_more}
 use Rattle.dcx_top.proofs.Endings.{begun_counts}
 use Rattle.dcx_top.proofs.ranging.range_work.Goals as goal

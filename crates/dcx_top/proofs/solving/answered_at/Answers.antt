@@ -1,6 +1,6 @@
 -- A problem with a marked variable is branched, and any other is solved.
 use Rattle.std.proofs.Common.{inl, inr}
-use Rattle.dcx_top.proofs.Marked.{none_where_not}
+use Rattle.dcx_declared.proofs.Marked.{none_where_not}
 use Rattle.dcx_top.proofs.solving.answered_at.Goals as goal
 
 pub returns-then-has_whole : goal.returns-then-has_whole

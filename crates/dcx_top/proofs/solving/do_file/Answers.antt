@@ -1,7 +1,7 @@
 -- A task that refuses marked variables refuses first; else the lines of the settings file are done.
 use Rattle.std.proofs.Common.{IsTrue, refl, inr}
 use Rattle.dcx_settings.proofs.Full.{items_full_in}
-use Rattle.dcx_top.specs.Runs.{DoesAt, task_refuses}
+use Rattle.dcx_top.specs.Solving.{DoesAt, task_refuses}
 use Rattle.dcx_top.proofs.Endings.{lines_done}
 use Rattle.dcx_top.proofs.solving.do_file.Goals as goal
 

@@ -2,7 +2,7 @@
 use Rattle.std.proofs.Common.{List, inr, subst}
 use Rattle.dcx_point.specs.Pairs.{Pairs}
 use Rattle.dcx_overlay.specs.Settings.{AreLaidOver}
-use Rattle.dcx_top.specs.Runs.{DoesAt}
+use Rattle.dcx_top.specs.Solving.{DoesAt}
 use Rattle.dcx_top.proofs.solving.do_lines.Goals as goal
 
 pub returns-in-Ok : goal.returns-in-Ok

@@ -1,7 +1,7 @@
 -- The faults that rise while the settings are read rise behind those of the script; a script that fails ends the run.
 use Rattle.std.proofs.Common.{IsTrue}
 use Rattle.dcx_host.specs.Faults.{Rose}
-use Rattle.dcx_top.specs.Runs.{DoesAt, task_refuses, command_for}
+use Rattle.dcx_top.specs.Solving.{DoesAt, task_refuses, command_for}
 use Rattle.dcx_top.proofs.Rising.{rose_behind}
 use Rattle.dcx_top.proofs.Endings.{from_file_moved}
 use Rattle.dcx_top.proofs.Causes.{script_ends, done, task_script, task_script_name}

@@ -2,7 +2,7 @@
 use Rattle.std.proofs.Common.{List, subst}
 use Rattle.dcx_point.specs.Pairs.{Pairs}
 use Rattle.dcx_report.specs.declared.run.Word.TheVariants.{Solve}
-use Rattle.dcx_top.specs.Runs.{AnswersAt}
+use Rattle.dcx_top.specs.Solving.{AnswersAt}
 use Rattle.dcx_top.proofs.solving.solve_events.Goals as goal
 
 pub returns : goal.returns

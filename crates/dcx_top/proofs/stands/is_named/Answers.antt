@@ -1,6 +1,0 @@
--- A node declares the name where its call does.
-use Rattle.dcx_top.proofs.Standing.{call_named}
-use Rattle.dcx_top.proofs.stands.is_named.Goals as goal
-
-pub returns : goal.returns
-returns c = call_named c.args.tree.now c.args.name.now c.args.i c.call.result.now c.declares.result c.call.ensures c.declares.ensures

@@ -1,7 +1,0 @@
--- No variable in front is whole.
-use Rattle.std.proofs.Common.{ℕ, ◌<◌}
-use Rattle.dcx_top.specs.Whole.{IsWholeAt}
-use Rattle.dcx_top.proofs.whole.first_whole.Given as goal
-
-abbrev pub invariant-loop-k : goal.invariant-loop-k
-invariant-loop-k l = (j : ℕ) → j < l.k → ¬ IsWholeAt l.problem j
