@@ -23,16 +23,20 @@ use Rattle.dcx_outcomes.proofs.Complete.{outcomes_are_complete}
 use Rattle.dcx_outcomes.proofs.Zips.{zip_all}
 
 -- ---- what is found
--- no variable is to be whole
-pub of_none : (p : Problem) (limit : ℕ) (settings : List Pairs) (os : List Outcome) (count : Option ℕ) (warm : Bool) → HasNoWhole p → AreSolved warm p limit settings os count → AreFound warm p limit settings os count
-of_none p limit settings os count false none h = inl (none, h)
-of_none p limit settings os count true none h = h
+-- warm
+pub found_warm : (warm : Bool) (p : Problem) (limit : ℕ) (settings : List Pairs) (os : List Outcome) (count : Option ℕ) → warm ≡ true → AreSolved true p limit settings os count
+    → AreFound warm p limit settings os count
+found_warm warm p limit settings os count e h = subst (λ b. AreFound b p limit settings os count) (sym e) h
 
-pub solved_of : (warm : Bool) (p : Problem) (limit : ℕ) (settings : List Pairs) (os : List Outcome) (count : Option ℕ) → HasNoWhole p → AreFound warm p limit settings os count
-    → AreSolved warm p limit settings os count
-solved_of false p limit settings os count none (inl h) = h.1
-solved_of false p limit settings os count none (inr (has, h)) = absurd (none has.0 has.1)
-solved_of true p limit settings os count none h = h
+-- not warm, where no variable is to be whole
+pub found_cold : (warm : Bool) (p : Problem) (limit : ℕ) (settings : List Pairs) (os : List Outcome) (count : Option ℕ) → warm ≡ false → HasNoWhole p → AreSolved false p limit settings os count
+    → AreFound warm p limit settings os count
+found_cold warm p limit settings os count e none h = subst (λ b. AreFound b p limit settings os count) (sym e) (inl (none, h))
+
+-- or where one is
+pub found_whole : (warm : Bool) (p : Problem) (limit : ℕ) (settings : List Pairs) (os : List Outcome) (count : Option ℕ) → warm ≡ false → HasWhole p
+    → AreWholeOutcomes p limit settings os × (count ≡ None) → AreFound warm p limit settings os count
+found_whole warm p limit settings os count e has h = subst (λ b. AreFound b p limit settings os count) (sym e) (inr (has, h))
 
 -- ---- right, and one
 pub found_are_right : (warm : Bool) (p : Problem) (limit : ℕ) (settings : List Pairs) (os : List Outcome) (count : Option ℕ) → IsAccepted p → AreFound warm p limit settings os count → AreRight p settings os

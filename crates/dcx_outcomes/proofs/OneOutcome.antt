@@ -8,11 +8,12 @@ use Rattle.dcx_answer.specs.declared.stop.Stop.{Stop}
 use Rattle.dcx_answer.specs.declared.outcome.Outcome.{Outcome}
 use Rattle.dcx_answer.specs.declared.outcome.OutcomeEnd.{OutcomeEnd}
 use Rattle.dcx_answer.specs.declared.outcome.OutcomeEnd.TheVariants as the
+use Rattle.dcx_answer.specs.declared.whole_answer.WholeAnswer.{WholeAnswer}
 use Rattle.dcx_answer.specs.declared.whole_answer.WholeAnswer.TheVariants as whole
 use Rattle.dcx_cache.specs.Laws.{AreOneEnd}
 use Rattle.dcx_cache.proofs.OneEnd.{has_one_end}
 use Rattle.dcx_outcomes.specs.Outcomes.{solved_end, end_place, IsOutcome}
-use Rattle.dcx_outcomes.specs.Laws.{IsSameEnd, IsSameOutcome, WantsMemory, HadMemory, OutcomesAreOne}
+use Rattle.dcx_outcomes.specs.Laws.{IsSameWhole, IsSameEnd, IsSameOutcome, WantsMemory, HadMemory, OutcomesAreOne}
 use Rattle.dcx_outcomes.proofs.Right.{SpeaksEnd, speaks_at}
 use Rattle.dcx_outcomes.proofs.Same.{same_answer}
 use Rattle.dcx_outcomes.proofs.Zips.{zip_both}
@@ -25,6 +26,25 @@ same_itself (the.Whole (whole.Optimal value point tree nodes)) = (refl, refl, re
 same_itself (the.Whole (whole.Infeasible tree nodes)) = refl
 same_itself (the.Branch stop) = refl
 same_itself (the.Stop stop) = refl
+
+-- what doesn't speak of trees says the same of ends that are the same
+pub same_of : {A : Type 0} (f : OutcomeEnd → A) → ((a b : WholeAnswer) → IsSameWhole a b → f (the.Whole a) ≡ f (the.Whole b)) → (x y : OutcomeEnd) → IsSameEnd x y → f x ≡ f y
+same_of f same (the.Answer a) (the.Answer b) h = ap (λ z. f (the.Answer z)) h
+same_of f same (the.Answer a) (the.Whole b) h = absurd h
+same_of f same (the.Answer a) (the.Branch t) h = absurd h
+same_of f same (the.Answer a) (the.Stop t) h = absurd h
+same_of f same (the.Whole a) (the.Answer b) h = absurd h
+same_of f same (the.Whole a) (the.Whole b) h = same a b h
+same_of f same (the.Whole a) (the.Branch t) h = absurd h
+same_of f same (the.Whole a) (the.Stop t) h = absurd h
+same_of f same (the.Branch s) (the.Answer b) h = absurd h
+same_of f same (the.Branch s) (the.Whole b) h = absurd h
+same_of f same (the.Branch s) (the.Branch t) h = ap (λ z. f (the.Branch z)) h
+same_of f same (the.Branch s) (the.Stop t) h = absurd h
+same_of f same (the.Stop s) (the.Answer b) h = absurd h
+same_of f same (the.Stop s) (the.Whole b) h = absurd h
+same_of f same (the.Stop s) (the.Branch t) h = absurd h
+same_of f same (the.Stop s) (the.Stop t) h = ap (λ z. f (the.Stop z)) h
 
 same_ends : (p : Problem) (x y : Result Answer Stop) → SpeaksEnd p x → SpeaksEnd p y → AreOneEnd p x y → ¬ WantsMemory (solved_end x) → ¬ WantsMemory (solved_end y) → x ≡ y
 same_ends p (Ok a) (Ok b) s t h n m = ap Ok (same_answer p a b s t h)

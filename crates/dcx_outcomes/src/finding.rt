@@ -1,9 +1,10 @@
 //! The outcomes of a problem at settings, one after the other.
-ghost use Rattle.std.specs.Prelude.{◌≡◌, ◌+◌, ◌*◌, ◌≤◌, length, IfOk, OnOk};
+ghost use Rattle.std.specs.Prelude.{◌≡◌, ◌+◌, ◌*◌, ◌≤◌, length, None, IfOk, OnOk};
 ghost use Rattle.dcx_rules.specs.Verdicts.{IsVerdictOf};
 ghost use Rattle.dcx_tree.specs.Meaning.{IsAccepted};
 ghost use Rattle.dcx_cache.specs.Programs.{HasMap};
 ghost use Rattle.dcx_outcomes.specs.Outcomes.{Counts, CountsNoMore};
+ghost use Rattle.dcx_outcomes.specs.Wholes.{AreWholeOutcomes};
 ghost use Rattle.dcx_outcomes.specs.Warm.{AreToldFrom, AreSolved, AreFound, counted_where};
 
 use crate::beginning::begin;
@@ -106,6 +107,30 @@ fn solved_outcomes<S: Ledger>(
     }
 }
 
+/// How branch and bound ends for an accepted problem at each setting. None is warm.
+fn whole_found<S: Ledger>(
+    alloc: Global,
+    problem: Problem,
+    verdict: Verdict,
+    settings: &[Setting],
+    limit: u64,
+    steps: &mut Steps<S>,
+) -> Result<Found, AllocError>
+    requires accepted { IsAccepted problem }
+    requires verdict { IsVerdictOf problem verdict }
+    ensures outcomes { IfOk result (λ f. AreWholeOutcomes problem limit settings.now f.outcomes × (f.warm ≡ None)) }
+    ensures counted { OnOk result (Counts problem (length settings.now) steps.old steps.new) }
+    ensures few { CountsNoMore problem (length settings.now) steps.old steps.new }
+{
+    match whole_outcomes(alloc, problem, verdict, settings, limit, steps) {
+        Ok(outcomes) => Ok(Found {
+            outcomes,
+            warm: None,
+        }),
+        Err(e) => Err(e),
+    }
+}
+
 /// The outcome of an accepted problem at each setting, in order, with at most `limit` pivots each: what one session answers there; or,
 /// where a variable is to be whole, how branch and bound ends, with at most `limit` pivots in each node and at most 10,000 nodes; with
 /// the place in the script of the node that a stop names. Where `warm` says so, each setting is answered from the columns that the
@@ -127,14 +152,12 @@ pub fn outcomes<S: Ledger>(
     ensures counted { OnOk result (Counts problem (length settings.now) steps.old steps.new) }
     ensures few { CountsNoMore problem (length settings.now) steps.old steps.new }
 {
-    if warm || !has_whole(&problem) {
-        return solved_outcomes(alloc, problem, verdict, settings, limit, warm, steps);
+    if warm {
+        return solved_outcomes(alloc, problem, verdict, settings, limit, true, steps);
     }
-    match whole_outcomes(alloc, problem, verdict, settings, limit, steps) {
-        Ok(outcomes) => Ok(Found {
-            outcomes,
-            warm: None,
-        }),
-        Err(e) => Err(e),
+    if has_whole(&problem) {
+        whole_found(alloc, problem, verdict, settings, limit, steps)
+    } else {
+        solved_outcomes(alloc, problem, verdict, settings, limit, false, steps)
     }
 }
