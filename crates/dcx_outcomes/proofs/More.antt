@@ -1,20 +1,17 @@
 -- One setting more: what is told, found and counted of the settings so far, with it.
-use Rattle.std.proofs.Common.{◌≡◌, ℕ, zero, suc, ◌+◌, ◌*◌, ◌<◌, ◌≤◌, Bool, true, false, cond, List, [], ◌∷◌, ◌++◌, length, take}
-use Rattle.std.proofs.Common.{get_or, Option, None, Some, Result, Ok, Err, refl, sym, ap, ◌∙◌, subst, add-one, arith}
-use Rattle.std.specs.Prelude.{count_by, slice_get, IfErr}
+use Rattle.std.proofs.Common.{◌≡◌, ℕ, ◌+◌, ◌*◌, ◌<◌, ◌≤◌, Bool, true, false, cond, List, [], ◌∷◌, ◌++◌, length, take}
+use Rattle.std.proofs.Common.{get_or, Option, None, Result, Ok, Err, refl, sym, ap, ◌∙◌, subst, add-one, arith}
+use Rattle.std.specs.Prelude.{count_by, IfErr}
 use Rattle.std.specs.Int.{from_bool}
 use Rattle.std.proofs.Math.Seq.{take-suc}
 use Rattle.std.proofs.lemmas.List.Sums.{sum_by-append, sum_by-cons}
-use Rattle.std.proofs.lemmas.Option.{none-some, same_Some}
 use Rattle.dcx_point.specs.Pairs.{Pairs}
 use Rattle.dcx_tree.specs.declared.problem.Problem.{Problem}
-use Rattle.dcx_answer.specs.declared.answer.Answer.{Answer}
 use Rattle.dcx_answer.specs.declared.stop.Stop.{Stop}
 use Rattle.dcx_answer.specs.declared.outcome.Outcome.{Outcome}
 use Rattle.dcx_cache.specs.declared.rewarming.Warmed.{Warmed}
-use Rattle.dcx_cache.specs.Answers.{Answers}
 use Rattle.dcx_cache.specs.Warm.{WarmAnswersAll}
-use Rattle.dcx_outcomes.specs.Outcomes.{NamesNodes, IsOutcome, AreOutcomes}
+use Rattle.dcx_outcomes.specs.Outcomes.{NamesNodes, AreOutcomes}
 use Rattle.dcx_outcomes.specs.Warm.{end_in, is_kept, Tells, AreTold, AreSolved, EndsFrom, IsToldFrom, EndFrom, AreToldFrom, counted_where}
 use Rattle.dcx_outcomes.proofs.Named.{names_nodes}
 

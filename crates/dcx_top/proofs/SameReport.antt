@@ -1,6 +1,6 @@
 -- Two runs of one command over the same contents tell the same.
-use Rattle.std.proofs.Common.{◌≡◌, ◌≢◌, ℕ, zero, suc, ◌+◌, Bool, true, false, ◌||◌, not, cond, if◌then◌else◌, List, [], ◌∷◌, ◌++◌, codes, decimal, count_by, Option, Some, None, refl, sym, ap, ap₂, subst, ◌∙◌, true≢false}
-use Rattle.std.specs.List.{All, AllByRecursion, AllZip, list_any, flat_map, enumerate_from}
+use Rattle.std.proofs.Common.{◌≡◌, ◌≢◌, ℕ, ◌+◌, Bool, true, false, ◌||◌, not, cond, if◌then◌else◌, List, [], ◌∷◌, ◌++◌, codes, decimal, count_by, Option, Some, None, refl, sym, ap, ap₂, subst, ◌∙◌, true≢false}
+use Rattle.std.specs.List.{AllByRecursion, AllZip, list_any, flat_map, enumerate_from}
 use Rattle.std.proofs.lemmas.List.Elements.{All-from_recursion}
 use Rattle.std.proofs.lemmas.List.Sums.{sum_by-cons}
 use Rattle.dcx_shape.specs.declared.place.Place.{Place}
