@@ -36,7 +36,7 @@ found_cold warm p limit settings os count e none h = subst (λ b. AreFound b p l
 -- or where one is
 pub found_whole : (warm : Bool) (p : Problem) (limit : ℕ) (settings : List Pairs) (os : List Outcome) (count : Option ℕ) → warm ≡ false → HasWhole p
     → AreWholeOutcomes p limit settings os × (count ≡ None) → AreFound warm p limit settings os count
-found_whole warm p limit settings os count e has h = subst (λ b. AreFound b p limit settings os count) (sym e) (inr (has, h))
+found_whole warm p limit settings os count e has h = subst (λ b. AreFound b p limit settings os count) (sym e) (inr (has, h.0, h.1))
 
 -- ---- right, and one
 pub found_are_right : (warm : Bool) (p : Problem) (limit : ℕ) (settings : List Pairs) (os : List Outcome) (count : Option ℕ) → IsAccepted p → AreFound warm p limit settings os count → AreRight p settings os
@@ -47,8 +47,8 @@ found_are_right true p limit settings os count ok h = solved_are_right true p li
 pub found_are_one : (warm : Bool) (p : Problem) (limit : ℕ) (settings : List Pairs) (os qs : List Outcome) (m n : Option ℕ) → IsAccepted p → AreFound warm p limit settings os m
     → AreFound warm p limit settings qs n → AreOneFound os m qs n
 found_are_one false p limit settings os qs m n ok (inl h) (inl k) = solved_are_one false p limit settings os qs m n ok h.1 k.1
-found_are_one false p limit settings os qs m n ok (inl (none, h)) (inr (has, k)) = absurd (none has.0 has.1)
-found_are_one false p limit settings os qs m n ok (inr (has, h)) (inl (none, k)) = absurd (none has.0 has.1)
+found_are_one false p limit settings os qs m n ok (inl (none, h)) (inr (has, k, is)) = absurd (none has.0 has.1)
+found_are_one false p limit settings os qs m n ok (inr (has, h, is)) (inl (none, k)) = absurd (none has.0 has.1)
 found_are_one false p limit settings os qs m n ok (inr (has, h, is)) (inr (also, k, are)) =
     subst (λ (x : Option ℕ). AreOneFound os x qs n) (sym is) (subst (λ (y : Option ℕ). AreOneFound os None qs y) (sym are) (wholes_are_one p limit settings os qs h k))
 found_are_one true p limit settings os qs m n ok h k = solved_are_one true p limit settings os qs m n ok h k

@@ -21,7 +21,7 @@ use Rattle.dcx_top.proofs.OneAsked.{asked_once}
 module _ (words : List (List ℕ)) (files : Files) where
   -- without a count, where none is wanted
   no_count : (p : Problem) (limit : ℕ) (ss : List Pairs) (os : List Outcome) (m : Option ℕ) → AreFound false p limit ss os m → m ≡ None
-  no_count p limit ss os m (inl (none, are, is)) = is
+  no_count p limit ss os m (inl (none, h)) = h.1
   no_count p limit ss os m (inr (has, are, is)) = is
 
   uncounted : (p : Problem) (limit : ℕ) (ss : List Pairs) (os qs : List Outcome) (m n : Option ℕ) → AreFound false p limit ss os m → AreFound false p limit ss qs n → AreOneFound os m qs n → AreAlike os qs
