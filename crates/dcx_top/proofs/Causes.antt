@@ -44,7 +44,7 @@ use Rattle.dcx_top.specs.Certifying.{GivesSettings, GivesSections, EndsFiles, at
 use Rattle.dcx_top.proofs.Counting.{no_more_of, begun_no_more}
 use Rattle.dcx_top.proofs.Reading.{told_fault}
 use Rattle.dcx_top.specs.NoRange.{AllowsRange}
-use Rattle.dcx_top.proofs.Kinds.{of_outcomes}
+use Rattle.dcx_top.proofs.ByKind.{of_outcomes}
 use Rattle.dcx_top.proofs.Named.{unasked, allowed, allowed_reading}
 use Rattle.dcx_declared.specs.Whole.{HasNoWhole}
 use Rattle.dcx_top.specs.Whole.{IsRefusedForWhole, RefusesWhole, Takes}
@@ -53,7 +53,7 @@ use Rattle.dcx_top.specs.declared.solving.Task.{Task}
 use Rattle.dcx_top.specs.declared.solving.Task.TheVariants as tasks
 
 -- a script whose bytes give an accepted problem
-accepted_work : (told : Option Files) (command : Command) (bytes : List ℕ) (a : Accepted) → IsScriptOf told command bytes → Gives bytes (Ok a) → IsAcceptedWork told command a.work
+pub accepted_work : (told : Option Files) (command : Command) (bytes : List ℕ) (a : Accepted) → IsScriptOf told command bytes → Gives bytes (Ok a) → IsAcceptedWork told command a.work
 accepted_work told command bytes a of gives =
     let h = acceptance bytes a gives in
     record { bytes = bytes; are_of = of; script = h.script; spelled = h.spelled; stands_for = h.stands_for; accepted = h.judged.accepted; convex = h.judged.convex }

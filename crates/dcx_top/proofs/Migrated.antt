@@ -16,8 +16,8 @@ use Rattle.dcx_top.specs.Commands.{IsScriptOf, script_name, settings_name, certi
 use Rattle.dcx_top.specs.Whole.{RefusesWhole, Takes}
 use Rattle.dcx_top.specs.NoRange.{AllowsRange}
 use Rattle.dcx_top.specs.Asked.{IsAcceptedWork}
-use Rattle.dcx_top.specs.Runs.{HasCertificate, ReadsSections, IsCertRefusedRun, misread, failed, IsRefusedRun, long_script, bad_script, for_whole, for_range, bad_settings}
-use Rattle.dcx_top.specs.Runs.{long_certificate, Causes}
+use Rattle.dcx_top.specs.Runs.{HasCertificate, ReadsSections, IsCertRefusedRun, misread, failed, IsRefusedRun}
+use Rattle.dcx_top.specs.Runs.{long_script, bad_script, for_whole, for_range, bad_settings, long_certificate, Causes}
 use Rattle.dcx_top.specs.OneRun.{IsAnswered, AreOneRun, told_same, told_solved, told_tried, told_filtered, told_ranged}
 use Rattle.dcx_top.specs.Migrated.{Refuses, MigrateRefusesAsCertify}
 use Rattle.dcx_top.proofs.Refusals.{of_other}

@@ -11,7 +11,7 @@ use Rattle.dcx_report.specs.declared.run.Run.TheVariants as run
 use Rattle.dcx_words.specs.Commands.{Command, check, certificate, certify, migrate, iis, range, command_of}
 use Rattle.dcx_top.specs.Commands.{certificate_name}
 use Rattle.dcx_top.specs.Runs.{IsChecked, IsSolvedRun, IsFilteredRun, IsRangedRun, IsCertificateRun, IsMigrateRun, IsCertifiedRun, misread, failed, Causes}
-use Rattle.dcx_top.proofs.Kinds.{Kind, checks, solves, writes, certifies, migrates, filters, ranges, kind_of, is_same, same_itself, outcomes_told, is_reading, certificate_read}
+use Rattle.dcx_top.proofs.ByKind.{Kind, checks, solves, writes, certifies, migrates, filters, ranges, kind_of, is_same, same_itself, outcomes_told, is_reading, certificate_read}
 
 -- the words ask for a command of this kind
 pub record Asks (words : List (List ℕ)) (k : Kind) : Type 0 where

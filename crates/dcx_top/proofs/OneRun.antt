@@ -20,7 +20,7 @@ use Rattle.dcx_top.specs.Runs.{IsChecked, IsSolvedRun, IsFilteredRun, IsRangedRu
 use Rattle.dcx_top.specs.OneRun.{IsAnswered, AreOneRun, told_same, told_filtered, told_ranged, no_files, IsOnlyRun}
 use Rattle.dcx_top.proofs.Trials.{trial_caused}
 use Rattle.dcx_top.proofs.Refusals.{one_problem, same_command}
-use Rattle.dcx_top.proofs.Kinds.{Kind, checks, solves, writes, certifies, migrates, filters, ranges, is_reading}
+use Rattle.dcx_top.proofs.ByKind.{Kind, checks, solves, writes, certifies, migrates, filters, ranges, is_reading}
 use Rattle.dcx_top.proofs.OneKind.{Asks, may_be, same_kind, ask_checks, ask_solves, ask_filters, ask_ranges, ask_writes, ask_migrates, ask_certifies, no_other}
 use Rattle.dcx_top.proofs.OneSolved.{solved_once}
 use Rattle.dcx_top.proofs.OneFiltered.{filtered_once}
@@ -53,8 +53,8 @@ module _ (words : List (List ℕ)) (files : Files) where
   -- ---- all runs
   module _ (rose : Type 0) (was now : ℕ) where
     -- a run of another kind
-    other : {A : Type 0} (k : Kind) → Asks words k → (s : Run) → may_be k s ≡ false → Causes words (Some files) rose was now s → A
-    other k a s off h = no_other words files k a rose was now s off h
+    apart : {A : Type 0} (k : Kind) → Asks words k → (s : Run) → may_be k s ≡ false → Causes words (Some files) rose was now s → A
+    apart k a s off h = no_other words files k a rose was now s off h
 
     -- no command
     uncommanded : {A : Type 0} (c : Command) → command_of words ≡ None → command_of words ≡ Some c → A
@@ -92,71 +92,71 @@ module _ (words : List (List ℕ)) (files : Files) where
     of_refused r run.Memory h k j = absurd j
 
     of_checked : (c : Checked) (s : Run) → IsChecked words (Some files) c → Causes words (Some files) rose was now s → IsAnswered s → AreOneRun (run.Checked c) s
-    of_checked c run.Usage h k j = other checks (ask_checks words files c h) run.Usage refl k
+    of_checked c run.Usage h k j = apart checks (ask_checks words files c h) run.Usage refl k
     of_checked c (run.Refused t) h k j = absurd (refused_or_checked words files t c k.0 h)
     of_checked c (run.Checked d) h k j = told_same (ap run.Checked (checked_once c d h k.0))
-    of_checked c (run.Solved w z qs u) h k j = other checks (ask_checks words files c h) (run.Solved w z qs u) refl k
-    of_checked c (run.Certificates b q) h k j = other checks (ask_checks words files c h) (run.Certificates b q) refl k
-    of_checked c (run.Certified m) h k j = other checks (ask_checks words files c h) (run.Certified m) refl k
-    of_checked c (run.CertRefused l g) h k j = other checks (ask_checks words files c h) (run.CertRefused l g) refl k
-    of_checked c (run.Trial m qs) h k j = other checks (ask_checks words files c h) (run.Trial m qs) refl k
-    of_checked c (run.Filtered qs) h k j = other checks (ask_checks words files c h) (run.Filtered qs) refl k
-    of_checked c (run.Ranged other way qs) h k j = other checks (ask_checks words files c h) (run.Ranged other way qs) refl k
+    of_checked c (run.Solved w z qs u) h k j = apart checks (ask_checks words files c h) (run.Solved w z qs u) refl k
+    of_checked c (run.Certificates b q) h k j = apart checks (ask_checks words files c h) (run.Certificates b q) refl k
+    of_checked c (run.Certified m) h k j = apart checks (ask_checks words files c h) (run.Certified m) refl k
+    of_checked c (run.CertRefused l g) h k j = apart checks (ask_checks words files c h) (run.CertRefused l g) refl k
+    of_checked c (run.Trial m qs) h k j = apart checks (ask_checks words files c h) (run.Trial m qs) refl k
+    of_checked c (run.Filtered qs) h k j = apart checks (ask_checks words files c h) (run.Filtered qs) refl k
+    of_checked c (run.Ranged other way qs) h k j = apart checks (ask_checks words files c h) (run.Ranged other way qs) refl k
     of_checked c run.ReadFault h k j = absurd j
     of_checked c run.Memory h k j = absurd j
 
     of_solved : (old new : ℕ) (r s : Run) → IsSolvedRun words (Some files) old new r → Causes words (Some files) rose was now s → IsAnswered s → AreOneRun r s
-    of_solved old new r run.Usage h k j = other solves (ask_solves words files old new r h) run.Usage refl k
+    of_solved old new r run.Usage h k j = apart solves (ask_solves words files old new r h) run.Usage refl k
     of_solved old new r (run.Refused t) h k j = absurd (refused_or_solved words files t old new r k.0 h)
-    of_solved old new r (run.Checked d) h k j = other solves (ask_solves words files old new r h) (run.Checked d) refl k
+    of_solved old new r (run.Checked d) h k j = apart solves (ask_solves words files old new r h) (run.Checked d) refl k
     of_solved old new r (run.Solved w z qs u) h k j = solved_once words files old new was now r (run.Solved w z qs u) h k
-    of_solved old new r (run.Certificates b q) h k j = other solves (ask_solves words files old new r h) (run.Certificates b q) refl k
-    of_solved old new r (run.Certified m) h k j = other solves (ask_solves words files old new r h) (run.Certified m) refl k
-    of_solved old new r (run.CertRefused l g) h k j = other solves (ask_solves words files old new r h) (run.CertRefused l g) refl k
+    of_solved old new r (run.Certificates b q) h k j = apart solves (ask_solves words files old new r h) (run.Certificates b q) refl k
+    of_solved old new r (run.Certified m) h k j = apart solves (ask_solves words files old new r h) (run.Certified m) refl k
+    of_solved old new r (run.CertRefused l g) h k j = apart solves (ask_solves words files old new r h) (run.CertRefused l g) refl k
     of_solved old new r (run.Trial m qs) h k j = solved_once words files old new was now r (run.Trial m qs) h k
-    of_solved old new r (run.Filtered qs) h k j = other solves (ask_solves words files old new r h) (run.Filtered qs) refl k
-    of_solved old new r (run.Ranged other way qs) h k j = other solves (ask_solves words files old new r h) (run.Ranged other way qs) refl k
+    of_solved old new r (run.Filtered qs) h k j = apart solves (ask_solves words files old new r h) (run.Filtered qs) refl k
+    of_solved old new r (run.Ranged other way qs) h k j = apart solves (ask_solves words files old new r h) (run.Ranged other way qs) refl k
     of_solved old new r run.ReadFault h k j = absurd j
     of_solved old new r run.Memory h k j = absurd j
 
     of_certified : (n : ℕ) (s : Run) → IsCertifiedRun words (Some files) n → Causes words (Some files) rose was now s → IsAnswered s → AreOneRun (run.Certified n) s
-    of_certified n run.Usage h k j = other certifies (ask_certifies words files n h) run.Usage refl k
+    of_certified n run.Usage h k j = apart certifies (ask_certifies words files n h) run.Usage refl k
     of_certified n (run.Refused t) h k j = absurd (refused_or_certified words files t n k.0 h)
-    of_certified n (run.Checked d) h k j = other certifies (ask_certifies words files n h) (run.Checked d) refl k
-    of_certified n (run.Solved w z qs u) h k j = other certifies (ask_certifies words files n h) (run.Solved w z qs u) refl k
-    of_certified n (run.Certificates b q) h k j = other certifies (ask_certifies words files n h) (run.Certificates b q) refl k
+    of_certified n (run.Checked d) h k j = apart certifies (ask_certifies words files n h) (run.Checked d) refl k
+    of_certified n (run.Solved w z qs u) h k j = apart certifies (ask_certifies words files n h) (run.Solved w z qs u) refl k
+    of_certified n (run.Certificates b q) h k j = apart certifies (ask_certifies words files n h) (run.Certificates b q) refl k
     of_certified n (run.Certified m) h k j = told_same (ap run.Certified (certified_once words files n m h k.0))
     of_certified n (run.CertRefused l g) h k j = absurd (certified_or_refused words files n l g h k.0)
-    of_certified n (run.Trial m qs) h k j = other certifies (ask_certifies words files n h) (run.Trial m qs) refl k
-    of_certified n (run.Filtered qs) h k j = other certifies (ask_certifies words files n h) (run.Filtered qs) refl k
-    of_certified n (run.Ranged other way qs) h k j = other certifies (ask_certifies words files n h) (run.Ranged other way qs) refl k
+    of_certified n (run.Trial m qs) h k j = apart certifies (ask_certifies words files n h) (run.Trial m qs) refl k
+    of_certified n (run.Filtered qs) h k j = apart certifies (ask_certifies words files n h) (run.Filtered qs) refl k
+    of_certified n (run.Ranged other way qs) h k j = apart certifies (ask_certifies words files n h) (run.Ranged other way qs) refl k
     of_certified n run.ReadFault h k j = absurd j
     of_certified n run.Memory h k j = absurd j
 
     of_filtered : (old new : ℕ) (os : List FilterOutcome) (s : Run) → IsFilteredRun words (Some files) old new os → Causes words (Some files) rose was now s → IsAnswered s → AreOneRun (run.Filtered os) s
-    of_filtered old new os run.Usage h k j = other filters (ask_filters words files old new os h) run.Usage refl k
+    of_filtered old new os run.Usage h k j = apart filters (ask_filters words files old new os h) run.Usage refl k
     of_filtered old new os (run.Refused t) h k j = absurd (refused_or_filtered words files t old new os k.0 h)
-    of_filtered old new os (run.Checked d) h k j = other filters (ask_filters words files old new os h) (run.Checked d) refl k
-    of_filtered old new os (run.Solved w z qs u) h k j = other filters (ask_filters words files old new os h) (run.Solved w z qs u) refl k
-    of_filtered old new os (run.Certificates b q) h k j = other filters (ask_filters words files old new os h) (run.Certificates b q) refl k
-    of_filtered old new os (run.Certified m) h k j = other filters (ask_filters words files old new os h) (run.Certified m) refl k
-    of_filtered old new os (run.CertRefused l g) h k j = other filters (ask_filters words files old new os h) (run.CertRefused l g) refl k
-    of_filtered old new os (run.Trial m qs) h k j = other filters (ask_filters words files old new os h) (run.Trial m qs) refl k
+    of_filtered old new os (run.Checked d) h k j = apart filters (ask_filters words files old new os h) (run.Checked d) refl k
+    of_filtered old new os (run.Solved w z qs u) h k j = apart filters (ask_filters words files old new os h) (run.Solved w z qs u) refl k
+    of_filtered old new os (run.Certificates b q) h k j = apart filters (ask_filters words files old new os h) (run.Certificates b q) refl k
+    of_filtered old new os (run.Certified m) h k j = apart filters (ask_filters words files old new os h) (run.Certified m) refl k
+    of_filtered old new os (run.CertRefused l g) h k j = apart filters (ask_filters words files old new os h) (run.CertRefused l g) refl k
+    of_filtered old new os (run.Trial m qs) h k j = apart filters (ask_filters words files old new os h) (run.Trial m qs) refl k
     of_filtered old new os (run.Filtered qs) h k j = told_filtered os qs refl refl (filtered_once words files old new was now os qs h k)
-    of_filtered old new os (run.Ranged other way qs) h k j = other filters (ask_filters words files old new os h) (run.Ranged other way qs) refl k
+    of_filtered old new os (run.Ranged other way qs) h k j = apart filters (ask_filters words files old new os h) (run.Ranged other way qs) refl k
     of_filtered old new os run.ReadFault h k j = absurd j
     of_filtered old new os run.Memory h k j = absurd j
 
     of_ranged : (old new : ℕ) (name : List ℕ) (sense : Sense) (os : List RangeOutcome) (s : Run) → IsRangedRun words (Some files) old new name sense os → Causes words (Some files) rose was now s → IsAnswered s → AreOneRun (run.Ranged name sense os) s
-    of_ranged old new name sense os run.Usage h k j = other ranges (ask_ranges words files old new name sense os h) run.Usage refl k
+    of_ranged old new name sense os run.Usage h k j = apart ranges (ask_ranges words files old new name sense os h) run.Usage refl k
     of_ranged old new name sense os (run.Refused t) h k j = absurd (refused_or_ranged words files t old new name sense os k.0 h)
-    of_ranged old new name sense os (run.Checked d) h k j = other ranges (ask_ranges words files old new name sense os h) (run.Checked d) refl k
-    of_ranged old new name sense os (run.Solved w z qs u) h k j = other ranges (ask_ranges words files old new name sense os h) (run.Solved w z qs u) refl k
-    of_ranged old new name sense os (run.Certificates b q) h k j = other ranges (ask_ranges words files old new name sense os h) (run.Certificates b q) refl k
-    of_ranged old new name sense os (run.Certified m) h k j = other ranges (ask_ranges words files old new name sense os h) (run.Certified m) refl k
-    of_ranged old new name sense os (run.CertRefused l g) h k j = other ranges (ask_ranges words files old new name sense os h) (run.CertRefused l g) refl k
-    of_ranged old new name sense os (run.Trial m qs) h k j = other ranges (ask_ranges words files old new name sense os h) (run.Trial m qs) refl k
-    of_ranged old new name sense os (run.Filtered qs) h k j = other ranges (ask_ranges words files old new name sense os h) (run.Filtered qs) refl k
+    of_ranged old new name sense os (run.Checked d) h k j = apart ranges (ask_ranges words files old new name sense os h) (run.Checked d) refl k
+    of_ranged old new name sense os (run.Solved w z qs u) h k j = apart ranges (ask_ranges words files old new name sense os h) (run.Solved w z qs u) refl k
+    of_ranged old new name sense os (run.Certificates b q) h k j = apart ranges (ask_ranges words files old new name sense os h) (run.Certificates b q) refl k
+    of_ranged old new name sense os (run.Certified m) h k j = apart ranges (ask_ranges words files old new name sense os h) (run.Certified m) refl k
+    of_ranged old new name sense os (run.CertRefused l g) h k j = apart ranges (ask_ranges words files old new name sense os h) (run.CertRefused l g) refl k
+    of_ranged old new name sense os (run.Trial m qs) h k j = apart ranges (ask_ranges words files old new name sense os h) (run.Trial m qs) refl k
+    of_ranged old new name sense os (run.Filtered qs) h k j = apart ranges (ask_ranges words files old new name sense os h) (run.Filtered qs) refl k
     of_ranged old new name sense os (run.Ranged other way qs) h k j =
         let (called, way_is, alike) = ranged_once words files old new was now name other sense way os qs h k in
         told_ranged name sense os qs refl (λ i. run.Ranged (sym called i) (sym way_is i) qs) alike

@@ -12,7 +12,7 @@ use Rattle.dcx_top.specs.Runs.{IsCertificateRun, HasCertificate, ReadsSections, 
 use Rattle.dcx_top.specs.OneRun.{IsAnswered}
 use Rattle.dcx_top.specs.Verdicts.{IsRefusal, Has, long_certificate}
 use Rattle.dcx_top.specs.ReadBack.{IsTried, IsReadBack, CertificatesAreReadBack}
-use Rattle.dcx_top.proofs.Kinds.{of_outcomes}
+use Rattle.dcx_top.proofs.ByKind.{of_outcomes}
 use Rattle.dcx_top.proofs.OneRefusal.{refused_or_read}
 use Rattle.dcx_top.proofs.OneCertificate.{read_or_misread}
 use Rattle.dcx_top.proofs.Refusals.{without_fault, of_other}
@@ -58,7 +58,7 @@ module _ (writing reading : List (List ℕ)) (script settings name : List ℕ) (
     settings_told : g settings ≡ Some h.asked.are_of.bytes
     settings_told = others ∙ ap f (sym (same_Some h.name settings (ap settings_name same))) ∙ h.asked.are_of.are_told
 
-    abbrev files_are : HasCertificate reading (Some g) (certify script settings name)
+    files_are : HasCertificate reading (Some g) (certify script settings name)
     files_are = record {
       name = name;
       named = refl;

@@ -30,7 +30,7 @@ use Rattle.dcx_top.specs.Whole.{RefusesWhole, Takes}
 use Rattle.dcx_outcomes.specs.Ranges.{LacksRange}
 use Rattle.dcx_outcomes.proofs.RangeEnds.{range_is_told}
 use Rattle.dcx_top.specs.NoRange.{AllowsRange}
-use Rattle.dcx_top.proofs.Kinds.{of_outcomes}
+use Rattle.dcx_top.proofs.ByKind.{of_outcomes}
 use Rattle.dcx_top.proofs.Named.{unasked, allowed, allowed_reading}
 use Rattle.dcx_top.specs.OneRun.{IsAnswered, no_files}
 use Rattle.dcx_trial.specs.Trial.{trial_text}

@@ -127,7 +127,7 @@ pub record IsMigrateRun (words : List (List ℕ)) (told : Option Files) (bytes :
   pub sections : Sections
   pub passed : HasPassed words told (migrate script settings name) sections
   pub migrated : Sections
-  pub are : IsMigrated passed.reads.files.accepted.work.problem passed.reads.files.settings sections migrated
+  pub are : IsMigrated passed.reads.files.asked.work.problem passed.reads.files.asked.settings sections migrated
   pub text : bytes ≡ cert_text migrated
 
 -- the bytes are the text of a certificate: of the answers, or of sections that were read and passed, where no step is counted
