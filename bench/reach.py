@@ -12,15 +12,12 @@ tolerance of 1e-7, and its seconds are those that it takes with its own defaults
 
     reach.py script KIND N ..   prints the script alone, and `reach.py lp KIND N ..` the other one.
 """
-import functools
 import os
-import resource
-import subprocess
 import sys
 import tempfile
 from fractions import Fraction
 
-TOP = os.path.dirname(os.path.dirname(os.path.abspath(__file__)))
+from taken import TOP, run
 
 
 class Program:
@@ -174,12 +171,8 @@ MEASURED = {
 # ---- the runs
 def timed(words, most):
     """What a run prints, and its processor seconds; None where it takes more of them than it may."""
-    begun = os.times()
-    limit = functools.partial(resource.setrlimit, resource.RLIMIT_CPU, (most, most))
-    run = subprocess.run(words, stdout=subprocess.PIPE, stderr=subprocess.DEVNULL, text=True, preexec_fn=limit)
-    ended = os.times()
-    seconds = ended.children_user - begun.children_user + ended.children_system - begun.children_system
-    return (None if run.returncode < 0 else run.stdout), seconds
+    made = run(words, most)
+    return (None if made.status < 0 else made.printed), made.seconds
 
 
 def dcx(text, most):

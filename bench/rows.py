@@ -2,8 +2,17 @@
 
 trial: the lines s t + a - b over N points, whose distances from b are added up, and Q times the distance of s from 0.
 transport: N sources and N sinks, with what each has and wants, and what each way from a source to a sink costs.
+
+`rows.py table RUNS [NAME=]PROGRAM ..` prints a table: the least of RUNS runs of each program (that of `crates/dcx_tableau_cases`) over the linked tableau of
+each of these, the reading of the file and the building of the tableau taken off.
 """
+import os
 import sys
+import tempfile
+
+from taken import programs, run
+
+MEASURED = ["trial 20 0", "trial 20 10", "trial 100 0", "trial 100 10", "trial 298 0", "trial 298 10", "transport 20", "transport 46"]
 
 
 def trial(n, q):
@@ -29,7 +38,28 @@ def transport(n):
         print("most", 10 + 5 * j % 7, *(f"-1x{i * n + j}" for i in range(n)))
 
 
-if sys.argv[1] == "trial":
+def table(runs, measured):
+    print("| program | pivots | " + " | ".join(program.name for program in measured) + " |\n|" + "---|" * (2 + len(measured)))
+    with tempfile.TemporaryDirectory() as folder:
+        for name in MEASURED:
+            run([sys.executable, os.path.abspath(__file__), *name.split()], to=os.path.join(folder, "rows.txt"))
+            told, least = set(), {}
+            for _ in range(runs):
+                for program in measured:
+                    for most in ("1000000", "0"):
+                        made = run([program.path, "linked", "rows.txt", most], folder=folder)
+                        least[program, most] = min(least.get((program, most), made.seconds), made.seconds)
+                        told |= {made.printed} if most != "0" else set()
+            if len(told) != 1:
+                raise SystemExit(f"{name}: {told}")
+            pivots = int(told.pop().split(" pivots")[0].split()[-1])
+            cells = [f"{least[program, '1000000'] - least[program, '0']:.3f}" for program in measured]
+            print(f"| `{name}` | {pivots:,} | " + " | ".join(cells) + " |", flush=True)
+
+
+if sys.argv[1] == "table":
+    table(int(sys.argv[2]), programs(sys.argv[3:]))
+elif sys.argv[1] == "trial":
     trial(int(sys.argv[2]), int(sys.argv[3]))
 else:
     transport(int(sys.argv[2]))

@@ -35,7 +35,9 @@ addEventListener('load', () => setTimeout(async () => {
   if (window.top !== window) return;
   const seen = {alerts: 0, errors: window.probeErrors || []};
   const timing = performance.getEntriesByType('navigation')[0];
-  seen.opened = timing.domComplete - timing.responseStart;
+  document.body.getBoundingClientRect();  // so that it is laid out
+  seen.opened = performance.now() - timing.responseStart;
+  seen.elements = document.getElementsByTagName('*').length;
   seen.text = document.body.innerText;
   seen.resources = performance.getEntriesByType('resource').map((one) => one.name);
   seen.plots = [...document.querySelectorAll('svg')].map((svg) => {
@@ -48,6 +50,11 @@ addEventListener('load', () => setTimeout(async () => {
     const texts = [...svg.querySelectorAll('text:not(.label)')].map(text);
     return {texts, points: [...svg.querySelectorAll('circle')].map(point)};
   });
+  const dot = [...document.querySelectorAll('circle')].at(-1);
+  if (dot) {
+    dot.dispatchEvent(new PointerEvent('pointerover', {bubbles: true}));
+    seen.told = dot.textContent;
+  }
   const table = document.querySelector('table.sortable');
   seen.orders = [];
   if (table) {
@@ -132,6 +139,12 @@ def told(value):
     return f"{rounded} {'=' if Fraction(rounded) == value else '≈'} {value}"
 
 
+def last_told(one):
+    """What the last point says when it is pointed at, in a plot over the settings."""
+    x, y, *_ = one["plots"][-1]["points"][-1]
+    return f"setting {x}: {y}"
+
+
 class Kept(unittest.TestCase):
     """The pages of docs/pages/."""
 
@@ -187,6 +200,7 @@ class Kept(unittest.TestCase):
                 dots = {Fraction(y) for _, y, _, _ in plot["points"]}
                 self.assertLessEqual(values - {None}, dots, (name, at))
         self.assertEqual(count, 2 + 0 + 1 + 0 + 3 + 0)
+        self.assertEqual(self.seen["control"]["told"], last_told(self.seen["control"]))
 
     def test_order(self):
         """A head that is pressed puts the rows in order, once up and once down."""
@@ -234,11 +248,13 @@ class Made(unittest.TestCase):
         for _ in range(2):  # the machine may be busy
             opened = opened if opened < 1000 else min(opened, seen(text)["opened"])
         self.assertLess(opened, 1000)
+        self.assertLess(one["elements"], 18_000)
         self.assertEqual([len(plot["points"]) for plot in one["plots"]], [1000, 1000])
+        self.assertEqual(one["told"], last_told(one))
         self.assertEqual(len(one["orders"][0][1]), 1000)
         numbers = [number(cell) for cell in one["orders"][1][1]]
         self.assertEqual(numbers, sorted(numbers, reverse=True))
-        print(f"1,000 settings: {len(text.encode()):,} bytes, opened in {opened:.0f} ms")
+        print(f"1,000 settings: {len(text.encode()):,} bytes, {one['elements']:,} elements, opened in {opened:.0f} ms")
 
 
 if __name__ == "__main__":

@@ -25,7 +25,7 @@ from dcx.view import found, page
 from dcx.view.style import STYLE
 
 TOP = Path(__file__).resolve().parents[2]
-EMPTY = {"meta", "br", "wbr", "input"}
+EMPTY = {"meta", "link", "br", "wbr", "input"}
 PAGES = {
     "plan": ["examples/project/model.py", "examples/project/settings.txt"],
     "fit": ["examples/deviations/model.py"],
@@ -97,7 +97,7 @@ def listing(tree, short=False):
         if "line" in part.attributes["class"].split():
             number = int(next(part.all("span", "no")).text())
             code = next(one for one in part.parts if one.tag == "code")
-            lines[number] = [code, next((one.text() for one in part.all("div", "beside")), ""), None]
+            lines[number] = [code, next((one.text() for one in part.all(class_="beside")), ""), None]
         else:
             lines[number][2] = part
     return lines
@@ -185,11 +185,9 @@ class Answers(unittest.TestCase):
             " - 100000000000000000000*x[2]), [x[0] <= 1, x[1] <= 1, x[2] >= 1])\n"
         )
         table = next(table for table in of(script, "{}\n").all("table", "sortable"))
-        keys = [
-            [int(cell.attributes["data-k"]) for cell in row.all("td") if "data-k" in cell.attributes]
-            for row in next(table.all("tbody")).all("tr")
-        ]
-        self.assertEqual([row[-1] for row in keys], [2, 3, 1])
+        keys = [row.attributes["data-k"].split() for row in next(table.all("tbody")).all("tr")]
+        self.assertEqual([row[0] for row in keys], ["1", "2", "3"])
+        self.assertEqual([row[-1] for row in keys], ["2", "3", "1"])
 
     def test_infeasible(self):
         """The schedule's chain of tasks: 2 + 2 + 3 + 1 + 3 days are 11, and there are 10."""
@@ -402,8 +400,9 @@ class Pages(unittest.TestCase):
     def test_thousand_settings(self):
         settings = "".join(f"price = {at}/9\n" for at in range(1000))
         text = page(found(PLAN.encode(), settings.encode(), ("model.py", "settings.txt")))
-        self.assertLess(len(text), 2_500_000)
+        self.assertLess(len(text), 1_000_000)
         tree = read(text)
+        self.assertLess(sum(1 for _ in tree.all()), 18_500)  # a browser opens as many in well under a second
         rows = list(next(tree.all("table", "sortable")).all("tr"))
         self.assertEqual(len(rows), 1001)
         answers = read_report(program.run("resolve", PLAN, settings).report).answers
@@ -411,7 +410,7 @@ class Pages(unittest.TestCase):
         column = [cell.text() for cell in rows[0].parts].index("greatest objective")
         self.assertEqual([row.parts[column].text() for row in rows[1:]], [shown(value) for value in values])
         order = sorted(set(values))
-        ranks = [int(row.parts[column].attributes["data-k"]) for row in rows[1:]]
+        ranks = [int(row.attributes["data-k"].split()[column]) for row in rows[1:]]
         self.assertEqual(ranks, [order.index(value) + 1 for value in values])
         for svg in list(tree.all("svg"))[:1]:
             self.assertEqual([Fraction(dot.attributes["data-y"]) for dot in svg.all("circle")], values)

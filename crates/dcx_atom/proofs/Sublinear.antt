@@ -37,7 +37,7 @@ pub curvature_of : (m : Meaning) → IsSoundGraph m → IsTightGraph m → IsBen
 curvature_of m sound tight args sides is j below p q a b hp hq one = sublinear m sound tight args sides is j below p q a b hp hq
 
 -- 1 a + k b is a + k b
-one_combination : (a : Entries) (k : ℚ) (b : Entries) → combination (whole (pos 1)) k a b ≡ shifted a k b
+pub one_combination : (a : Entries) (k : ℚ) (b : Entries) → combination (whole (pos 1)) k a b ≡ shifted a k b
 one_combination a k b = λ t i j. *ℚ_idl (a i j) t +ℚ k *ℚ b i j
 
 -- the recession law of a call with a sound and tight graph

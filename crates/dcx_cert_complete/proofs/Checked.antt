@@ -23,17 +23,14 @@ use Rattle.dcx_convex.specs.Nodes as convex
 use Rattle.dcx_convex.specs.Nodes.{Numbers, Point, arguments, zeros}
 use Rattle.dcx_call.specs.declared.call.Call.{Call}
 use Rattle.dcx_call.specs.declared.call.Call.TheVariants as calls
-use Rattle.dcx_call.specs.declared.attribute.Attribute.{Attribute}
 use Rattle.dcx_call.specs.declared.attribute.Variable.{Variable}
-use Rattle.dcx_call.specs.Attributes.{IsSquare, counted}
-use Rattle.dcx_call.specs.declared.attribute.Whole.{Whole}
-use Rattle.dcx_call.specs.declared.attribute.Whole.TheVariants.{Not, Integer, Boolean}
+use Rattle.dcx_call.specs.Attributes.{IsSquare}
 use Rattle.dcx_convex.specs.Certificates.{IsInDualCone}
 use Rattle.dcx_atom.specs.Arrays.{number_at}
 use Rattle.dcx_call.specs.Forming.{or_passes, divided}
 use Rattle.dcx_call.specs.Values.{given_by, entry_formed}
 use Rattle.dcx_tree.specs.declared.problem.Problem.{Problem}
-use Rattle.dcx_tree.specs.Nodes.{Node, arg_sides, attribute_of, variable_attribute, convex_node, convex_nodes, head_of, source_value}
+use Rattle.dcx_tree.specs.Nodes.{Node, arg_sides, convex_node, convex_nodes, head_of, source_value}
 use Rattle.dcx_tree.specs.Meaning.{names_in, setting_of, point_of, IsAccepted, IsInDomain, Fits}
 use Rattle.dcx_unknowns.specs.Own.{is_own}
 use Rattle.dcx_unknowns.specs.Unknowns.{demanded, sides_in}
@@ -54,6 +51,7 @@ use Rattle.dcx_cert_bound.specs.Collecting.{begun, collected, fault_of}
 use Rattle.dcx_cert_bound.specs.Variables.{reaching, reaching_entry, number_check, asked, entry_check, variable_check, variables_check}
 use Rattle.dcx_cert_bound.specs.Checks.{shown_by}
 use Rattle.dcx_cert_bound.proofs.Falling.{AreFalling, is_collected}
+use Rattle.dcx_cert_bound.proofs.Shown.{counted_is}
 use Rattle.dcx_cert_bound.proofs.Sides.{are_known}
 use Rattle.dcx_cert_complete.specs.Families.{variable_numbers, rows_below}
 use Rattle.dcx_cert_complete.specs.Bounded.{IsWide, started, BoundsPrograms}
@@ -108,11 +106,6 @@ module _ (p : Problem) (setting point : Pairs) (fits : Fits p (setting_of p sett
   forming_wide Q f h = unformed_wide h.position f h.here.1
 
 -- ---- attributes
-counted_is : (w : Whole) (a : Attribute) → attribute_of (counted w a) ≡ variable_attribute w a
-counted_is Not a = refl
-counted_is Integer a = refl
-counted_is Boolean a = refl
-
 square_at : (p : Problem) (k : ℕ) (v : Variable) → slice_get p.variables k ≡ Some v → IsSquare v
 square_at p k v at = subst IsSquare (get_or_from_slice_get p.variables k v v at) (p.squares k v (slice_get_within p.variables k v at))
 

@@ -1,7 +1,8 @@
 -- One node of the pass: what bounds the coefficients of the nodes up to it, with the weighted rows of their graphs, bounds those of the
 -- nodes before it, and its weights meet the conditions of slopes.
-use Rattle.std.proofs.Common.{◌≡◌, ◌⊎◌, inl, inr, ℕ, zero, suc, ◌+◌, ◌<◌, ◌≤◌, arith, List, [], ◌∷◌, ◌++◌, map, length, get_or, All, refl, sym, ap, ap₂, ◌∙◌}
+use Rattle.std.proofs.Common.{◌≡◌, ◌⊎◌, ℕ, zero, suc, ◌+◌, ◌<◌, ◌≤◌, arith, List, [], ◌∷◌, ◌++◌, map, length, get_or, All, refl, sym, ap, ap₂, ◌∙◌}
 use Rattle.std.proofs.Common.{subst, append-nil, Option, Some, None, Result, Ok, Err, slice_get, pos, ⊎_elim}
+use Rattle.std.proofs.lemmas.Bool.{false≢true}
 use Rattle.std.proofs.lemmas.List.{length-map, get_or-map}
 use Rattle.std.specs.Prelude.{option_map}
 use Rattle.dcx_math.specs.Rational.{ℚ, whole, ◌+ℚ◌, ◌*ℚ◌, ◌-ℚ◌, ◌≤ℚ◌}
@@ -184,7 +185,7 @@ module _ (names : Names) (nodes : List Node) (are : AreNodes shape_of nodes) (s 
           exact_of u (call_entry names s x (calls.Pairing Times) ss (a g) (t i)) (told (calls.Pairing Times) same)
           (products_worth_right nodes n.args (flat nodes g) (start_of nodes i) (a g) before placed y.entries cs (pairs_at Times (sides_at ss 0) (sides_at ss 1))
           (side_is 1 y (omega (arith, two Times same)) right) t0 u start e)
-      times_exact None None left right same h u e = elim h [ inl k ↦ cc | inr k ↦ cc ]
+      times_exact None None left right same h u e = absurd (⊎_elim false≢true false≢true h)
 
       pub mat_times_exact : (o r : Option Array) → array_at values (get_or n.args 0 0) ≡ o → array_at values (get_or n.args 1 0) ≡ r → n.call ≡ calls.Pairing MatTimes → HasKnownSide MatTimes o r
           → (u : List Frac)
@@ -197,7 +198,7 @@ module _ (names : Names) (nodes : List Node) (are : AreNodes shape_of nodes) (s 
           exact_of u (call_entry names s x (calls.Pairing MatTimes) ss (a g) (t i)) (told (calls.Pairing MatTimes) same)
           (products_worth_right nodes n.args (flat nodes g) (start_of nodes i) (a g) before placed y.entries cs (pairs_at MatTimes (sides_at ss 0) (sides_at ss 1))
           (side_is 1 y (omega (arith, two MatTimes same)) right) t0 u start e)
-      mat_times_exact None None left right same h u e = elim h [ inl k ↦ cc | inr k ↦ cc ]
+      mat_times_exact None None left right same h u e = absurd (⊎_elim false≢true false≢true h)
 
       pub over_exact : (o r : Option Array) → array_at values (get_or n.args 1 0) ≡ r → n.call ≡ calls.Pairing Over → HasKnownSide Over o r → (u : List Frac) →
           with_shares t0 (pairing_hands nodes n.args Over ss o r cs) ≡ Ok u → dot u (flat nodes g) +ℚ whole (pos 0) ≡ dot t0 (flat nodes g) +ℚ own_times g

@@ -24,7 +24,7 @@ use Rattle.dcx_convex.proofs.Told.{map-same, value_tells, judgement_tells}
 use Rattle.dcx_call.specs.declared.call.Call.{Call}
 use Rattle.dcx_call.specs.declared.call.Call.TheVariants as calls
 use Rattle.dcx_call.specs.Atoms.{atom_meaning, atom_lawful}
-use Rattle.dcx_call.specs.Calls.{shape_of, own_sides}
+use Rattle.dcx_call.specs.Calls.{shape_of}
 use Rattle.dcx_call.proofs.CallLaws.{own_is}
 use Rattle.dcx_tree.specs.declared.problem.Problem.{Problem}
 use Rattle.dcx_tree.specs.Nodes.{Node, arg_sides, convex_node, head_of}
@@ -47,6 +47,7 @@ use Rattle.dcx_affine.specs.declared.pairing.Pairing.TheVariants.{Times, MatTime
 use Rattle.dcx_cert_build.proofs.Fixed.{unfixed_is_reduced}
 use Rattle.dcx_cert_bound.specs.Fixed.{AreFixedValues}
 use Rattle.dcx_cert_bound.proofs.OneTable.{value_of_fixed}
+use Rattle.dcx_cert_bound.proofs.Reaching.{no_sides}
 use Rattle.dcx_cert_complete.specs.Families.{IsFamily, AreFilled}
 
 -- ---- nodes that reach no variable have no arguments that do
@@ -55,10 +56,6 @@ all_fixed J [] t = All-nil (λ a. IsTrue (J a).fixed)
 all_fixed J (a ∷ args) t =
     let both = and_parts (J a).fixed (list_all (λ (g : Judgement). g.fixed) (map J args)) t in
     All-cons (λ a. IsTrue (J a).fixed) a args both.0 (all_fixed J args both.1)
-
-no_sides : (own : Sides) (args : List Sides) (sides : Sides) → own_sides own args ≡ Some sides → length args ≡ 0
-no_sides own [] sides e = refl
-no_sides own (a ∷ args) sides e = absurd (none-some sides e)
 
 module _ (p : Problem) where
   call_fixed : (call : Call) (args : List ℕ) (sides : Sides) → shape_of call (map (sides_at p.tree) args) ≡ Some sides →

@@ -16,7 +16,7 @@ use dcx_atom::{Array, ValueStop, copy_array};
 use dcx_call::Call;
 use dcx_frac::{Frac, Fracs};
 use dcx_shape::Shape;
-use dcx_tree::NodeId;
+use dcx_tree::{NodeId, kept_value};
 use std::alloc::{AllocError, Global};
 use std::slice;
 
@@ -30,17 +30,6 @@ fn zeros(alloc: Global, shape: Shape) -> Result<Array, AllocError>
         shape,
         entries: Fracs::from_vec(entries),
     })
-}
-
-/// The array that is kept for a node.
-pub(crate) fn kept(arrays: &[Option<Array>], node: NodeId) -> &Array
-    requires { IsSome (array_at arrays.now node.0) }
-    ensures { array_at arrays.now node.0 ≡ Some result.now }
-{
-    match &arrays[node.0 as usize] {
-        Some(array) => array,
-        None => unreachable!(),
-    }
 }
 
 /// The side of a product or a quotient that counts with its value: the divisor of a quotient, and of a product the side that has no
@@ -85,12 +74,12 @@ fn argument(
     ensures { IfOk result (IsArgument along.now.problem.now along.now.setting.now along.now.ray.now counts node.0) }
 {
     if counts {
-        return copy_array(alloc, kept(along.values, node));
+        return copy_array(alloc, kept_value(along.values, node));
     }
     if along.fixed[node.0 as usize] {
         return zeros(alloc, along.problem.tree.shape(node));
     }
-    copy_array(alloc, kept(arrays, node))
+    copy_array(alloc, kept_value(arrays, node))
 }
 
 /// The arrays of these arguments.
@@ -164,7 +153,7 @@ pub(crate) fn form(
         Err(_) => return Err(CertFault::Memory),
     };
     if ids.len() == 1 {
-        let only = slice::from_ref(kept(arrays, ids[0]));
+        let only = slice::from_ref(kept_value(arrays, ids[0]));
         return apply(alloc, along, node, only);
     }
     let side = value_side(along.problem.tree.call(node), is_first_fixed(along, &ids));

@@ -1,6 +1,6 @@
 -- The certificate of an answer that a session found last.
 use Rattle.std.proofs.Common.{◌≡◌, ◌≢◌, ◌⊎◌, inl, inr, ℕ, ◌+◌, ◌*◌, ◌<◌, ◌≤◌, List, [], ◌∷◌, ◌++◌, length, take, get_or, Bool, true}
-use Rattle.std.proofs.Common.{false, IsTrue, Option, Some, Result, Ok, Err, refl, sym, ap, ◌∙◌, subst, true≢false, arith}
+use Rattle.std.proofs.Common.{false, IsTrue, Option, Some, None, Result, Ok, Err, refl, sym, ap, ◌∙◌, subst, true≢false, arith}
 use native.Mathlib.Decide.{dec_lt}
 use Rattle.std.specs.List.{slice_get}
 use Rattle.std.proofs.lemmas.Option.{none-some, same_Some, slice_get_read}
@@ -45,6 +45,17 @@ use Rattle.dcx_cert_runs.proofs.Lists.{beside_step, taken_at, taken_from, taken_
 laid_out : (p : Problem) (setting : Pairs) (q : Program Frac) → SessionGives p setting (Ok q) → IsLaidOut p q
 laid_out p setting q (mapped map m f) = programs_are_laid_out.fixed p setting map q (programs_are_laid_out.affine p _ map m.reduces) f
 laid_out p setting q (anew n h) = programs_are_laid_out.numbers p setting q h
+
+-- an answer was found last, where the session shows one
+pub has_last : (p : Problem) (setting : Pairs) (limit : ℕ) (cached : Bool) (a : Answer) (last : Option Last) → Shows p setting limit cached a last → last ≡ None → ⊥
+has_last p setting limit cached a last shows none = subst (Shows p setting limit cached a) none shows
+
+-- and it shows the answer behind its solve
+pub shows_last : (p q : Problem) (setting : Pairs) (limit : ℕ) (before now : Bool) (a : Answer) (r : Result Answer Stop) (last : Option Last)
+    → IfOk r (λ x. Shows p setting limit before x last) → r ≡ Ok a → q ≡ p → now ≡ before → Shows q setting limit now a last
+shows_last p q setting limit before now a r last shows is same kept =
+    subst (λ (z : Problem). Shows z setting limit now a last) (sym same)
+    (subst (λ b. Shows p setting limit b a last) (sym kept) (subst (λ z. IfOk z (λ x. Shows p setting limit before x last)) is shows))
 
 module _ (p : Problem) (setting : Pairs) (limit : ℕ) (cached : Bool) (a : Answer) (last : Option Last) (l : Last) (reduced : Reduction Frac) (rows : LpAnswer)
     (shows : Shows p setting limit cached a last)

@@ -1,5 +1,5 @@
 //! The certificate of the answers that one session gives at settings.
-ghost use Rattle.std.specs.Prelude.{◌≡◌, ◌≢◌, ◌⊎◌, ◌↔◌, ◌+◌, ◌*◌, ◌≤◌, true, false, IsTrue, length, IfOk, OnOk};
+ghost use Rattle.std.specs.Prelude.{◌≡◌, ◌≢◌, ◌⊎◌, ◌↔◌, ℕ, ◌+◌, ◌*◌, ◌≤◌, true, false, IsTrue, length, IfOk, OnOk};
 ghost use Rattle.dcx_rules.specs.Verdicts.{IsVerdictOf};
 ghost use Rattle.dcx_tree.specs.Meaning.{IsAccepted};
 ghost use Rattle.dcx_cache.specs.Programs.{HasMap};
@@ -48,19 +48,19 @@ fn unbuilt(stop: AnswerStop) -> Result<Told, AllocError>
     }
 }
 
-/// The section of an answer that the session found last.
+/// The section of the answer that the session found last, with at most some number of pivots.
 fn section_of(
     alloc: Global,
     session: &Session,
     setting: &Setting,
     answer: &Answer,
-    _limit: u64,
 ) -> Result<Told, AllocError>
-    requires { Shows session.now.problem setting.now _limit session.now.cached answer.now session.now.last }
-    ensures { IfOk result (λ t. IsToldAt session.now.problem _limit setting.now t.section t.stopped) }
+    requires { (limit : ℕ) × Shows session.now.problem setting.now limit session.now.cached answer.now session.now.last }
+    ensures { (limit : ℕ) → Shows session.now.problem setting.now limit session.now.cached answer.now session.now.last
+        → IfOk result (λ t. IsToldAt session.now.problem limit setting.now t.section t.stopped) }
 {
     let Some((reduced, rows)) = session.last() else {
-        return Err(AllocError);
+        unreachable!()
     };
     match build(alloc, session.problem(), setting, answer, reduced, rows) {
         Ok(cert) => Ok(Told {
@@ -100,7 +100,7 @@ fn section<S: Ledger>(
 {
     match session.solve(alloc, setting, limit, steps) {
         Ok(answer) => {
-            let told = section_of(alloc, session, setting, &answer, limit);
+            let told = section_of(alloc, session, setting, &answer);
             drop(answer);
             told
         }

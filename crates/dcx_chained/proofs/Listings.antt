@@ -10,7 +10,8 @@ use Rattle.dcx_tab.proofs.Pivots.{turns}
 use Rattle.dcx_links.specs.declared.walk.Entry.{Entry}
 use Rattle.dcx_links.specs.Walks.{IsOver, ComesNext}
 use Rattle.dcx_links.specs.Matrix.{Matrix, number_at, row_of}
-use Rattle.dcx_chained.specs.NewRow.{AreListed, Clears, column_at, value_at, mixed_at}
+use Rattle.dcx_links.specs.Entries.{column_at, value_at}
+use Rattle.dcx_chained.specs.NewRow.{AreListed, Clears, mixed_at}
 use Rattle.dcx_chained.proofs.RowReads.{length-row_of, entry-row_of, row_is}
 use Rattle.dcx_chained.proofs.Cleared.{length-cleared}
 

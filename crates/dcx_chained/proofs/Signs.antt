@@ -7,8 +7,8 @@ use Rattle.dcx_math.specs.IntegerSums.{int_scaled}
 use Rattle.dcx_math.proofs.Divisors.{unsigned_abs-divided, gcd-dvd_left, quotient-pos}
 use native.Mathlib.Nat.{div-le_self}
 use Rattle.dcx_tab.specs.Rows.{Row, entry}
-use Rattle.dcx_tab.specs.Pivot.{turned, turned_by, cleared, IsFormed, IsFormedAt}
-use Rattle.dcx_tab.proofs.LineSteps.{AreFactors, formed_at_by, at_formed_by, cleared_by_factors, turned_negative, neg_entry}
+use Rattle.dcx_tab.specs.Pivot.{turned, cleared, IsFormed, IsFormedAt}
+use Rattle.dcx_tab.proofs.LineSteps.{AreFactors, formed_at_by, at_formed_by, cleared_by_factors, turned_negative, neg_entry, turned_same}
 use Rattle.dcx_tab.proofs.RowLaws.{entry-less, entry-scaled}
 use Rattle.dcx_chained.specs.NewRow.{mixed_at, Clears}
 
@@ -39,10 +39,6 @@ module _ (c : ℕ) (pivot row by : Row) (u v w : ℤ) (is : turned c pivot ≡ b
 
   clears_by : Clears c pivot row u v
   clears_by = record { mixed = mixed; formed = to_formed; only = from_formed }
-
-turned_same : (z : ℤ) (row : Row) → pos 0 <ℤ z → turned_by z row ≡ row
-turned_same (pos n) row h = refl
-turned_same (negsuc n) row h = absurd (omega (arith, ints))
 
 -- at a positive entry
 pub clears_positive : (c : ℕ) (pivot row : Row) (p a u v : ℤ) → pos 0 <ℤ p → entry pivot c ≡ p → entry row c ≡ a

@@ -1,7 +1,6 @@
 -- A row that is negated where its entry at a column is negative.
 use Rattle.std.proofs.Common.{◌≡◌, ℕ, ◌<◌, ◌^◌, ℤ, pos, negsuc, ◌-ℤ◌, ◌*ℤ◌, ◌≤ℤ◌, unsigned_abs, arith, refl, sym, ap, ◌∙◌}
 use Rattle.std.proofs.lemmas.Int.{ints}
-use Rattle.dcx_math.specs.Divisors.{divided}
 use Rattle.dcx_math.specs.IntegerSums.{int_scaled}
 use Rattle.dcx_math.proofs.IntegerVectors.{length-int_scaled}
 use Rattle.dcx_tab.specs.Rows.{Row, entry}

@@ -1,6 +1,7 @@
 -- The entries that a row gets in a pivot: u times the row less v times the row of the pivot.
-use Rattle.std.specs.Prelude.{◌≡◌, ℕ, ◌<◌, List, get_or, ℤ, pos, ◌-ℤ◌, ◌*ℤ◌, ◌⊎◌}
+use Rattle.std.specs.Prelude.{◌≡◌, ℕ, ◌<◌, List, ℤ, pos, ◌-ℤ◌, ◌*ℤ◌, ◌⊎◌}
 use Rattle.dcx_links.specs.declared.walk.Entry.{Entry}
+use Rattle.dcx_links.specs.Entries.{column_at, value_at}
 use Rattle.dcx_tab.specs.Rows.{Row, entry}
 use Rattle.dcx_tab.specs.Pivot.{turned, cleared, IsFormed, IsFormedAt}
 
@@ -12,13 +13,6 @@ pub record Clears (c : ℕ) (pivot row : Row) (u v : ℤ) : Type 0 where
   pub mixed : (j : ℕ) → mixed_at u row v pivot j ≡ entry (cleared c (turned c pivot) row) j
   pub formed : (j : ℕ) → IsFormed u (entry row j) v (entry pivot j) → IsFormedAt c (turned c pivot) row j
   pub only : (j : ℕ) → IsFormedAt c (turned c pivot) row j → IsFormed u (entry row j) v (entry pivot j)
-
--- the column and the number of the k-th entry
-abbrev pub column_at : List Entry → ℕ → ℕ
-column_at es k = (get_or es k (record { at = 0; value = pos 0 })).at
-
-abbrev pub value_at : List Entry → ℕ → ℤ
-value_at es k = (get_or es k (record { at = 0; value = pos 0 })).value
 
 -- the first entries are the numbers of the row in its first n columns: where there is none, the row has 0
 pub record AreListed (row : Row) (n : ℕ) (es : List Entry) (count : ℕ) : Type 0 where

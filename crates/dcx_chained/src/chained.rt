@@ -8,6 +8,7 @@ ghost use Rattle.dcx_chained.specs.Narrow.{IsNarrow};
 
 use crate::build::{put_line, put_rows};
 use crate::clear::{clear_rows, turn_row};
+use crate::cost::first_positive;
 use crate::narrow::are_rows_narrow;
 use crate::wide::first_wide;
 use dcx_links::{Entry, Links};
@@ -121,6 +122,10 @@ impl Tableau for Chained {
 
     fn entry(&self, row: u32, column: u32) -> i128 {
         self.links.get(row, column)
+    }
+
+    fn first_positive(&self, row: u32) -> Option<u32> {
+        first_positive(&self.links, row, self.plain)
     }
 
     fn basis(&self, row: u32) -> u32 {

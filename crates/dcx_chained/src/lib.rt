@@ -16,6 +16,7 @@
 mod build;
 mod chained;
 mod clear;
+mod cost;
 mod factors;
 pub mod laws;
 mod mix;

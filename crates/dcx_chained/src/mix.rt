@@ -1,9 +1,9 @@
 //! Multiples of rows, added up in their cells.
-ghost use Rattle.std.specs.Prelude.{◌≡◌, ◌≢◌, ℕ, ◌<◌, ◌≤◌, ◌^◌, length, pos, ◌*ℤ◌, ◌-ℤ◌, unsigned_abs};
+ghost use Rattle.std.specs.Prelude.{◌≡◌, ◌≢◌, ℕ, ◌<◌, ◌≤◌, ◌^◌, length, pos, ◌*ℤ◌, unsigned_abs};
 ghost use Rattle.dcx_tab.specs.Rows.{entry};
 ghost use Rattle.dcx_tab.specs.Pivot.{IsFormed};
 ghost use Rattle.dcx_links.specs.Matrix.{number_at, row_of};
-ghost use Rattle.dcx_chained.specs.NewRow.{AreListed, column_at, mixed_at, value_at};
+ghost use Rattle.dcx_chained.specs.NewRow.{AreListed, mixed_at};
 
 use dcx_links::{Entry, Links};
 use dcx_tab::Factors;
@@ -39,25 +39,6 @@ fn scale_row(links: &mut Links, i: u32, by: i128)
     }
 }
 
-/// Takes a multiple of the first entries from the numbers of row `i`.
-fn lessen_row(links: &mut Links, i: u32, by: i128, entries: &[Entry], count: usize)
-    requires row { i < links.old.height }
-    requires count { count ≤ length entries.now }
-    requires within { (k : ℕ) → k < count → column_at entries.now k < links.old.width }
-    requires rising { (j k : ℕ) → j < k → k < count → column_at entries.now j < column_at entries.now k }
-    requires product { (k : ℕ) → k < count → unsigned_abs (by *ℤ value_at entries.now k) < 2 ^ 127 }
-    requires fits { (k : ℕ) → k < count → unsigned_abs (number_at links.old i (column_at entries.now k) -ℤ by *ℤ value_at entries.now k) < 2 ^ 127 }
-    ensures there { (k : ℕ) → k < count → number_at links.new i (column_at entries.now k) ≡ number_at links.old i (column_at entries.now k) -ℤ by *ℤ value_at entries.now k }
-    ensures same { (r c : ℕ) → (r ≡ i → (k : ℕ) → k < count → c ≢ column_at entries.now k) → number_at links.new r c ≡ number_at links.old r c }
-    ensures height { links.new.height ≡ links.old.height }
-    ensures width { links.new.width ≡ links.old.width }
-{
-    'entries: for k in 0..count {
-        let entry = entries[k];
-        links.subtract(i, entry.at, by * entry.value);
-    }
-}
-
 /// Puts the one factor times row `i` less the other times row `r`, whose numbers are listed, in the place of row `i`.
 pub(crate) fn mix_row(
     links: &mut Links,
@@ -78,5 +59,5 @@ pub(crate) fn mix_row(
     ensures width { links.new.width ≡ links.old.width }
 {
     scale_row(links, i, factors.row);
-    lessen_row(links, i, factors.by, entries, count);
+    links.subtract(i, factors.by, entries, count);
 }

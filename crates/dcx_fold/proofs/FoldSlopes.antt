@@ -27,6 +27,7 @@ use Rattle.dcx_fold.specs.declared.folding.Fold.TheVariants.{Max, Min, Norm1, No
 use Rattle.dcx_fold.specs.Groups.{groups, member, group_of, member_of}
 use Rattle.dcx_fold.specs.GroupLaws.{is_member}
 use Rattle.dcx_fold.specs.Folds.{fold_bend, factors, member_rows, unknown_of, rows_of_member, group_rows, member_weights, group_conditions, member_slope, group_steps, fold_meaning}
+use Rattle.dcx_fold.specs.FoldLaws.{rows_counted}
 
 -- ---- the weights of one part among those of all
 -- a part lies within all
@@ -75,9 +76,6 @@ group_steps-same p n c v w h =
     (list_below-same n _ _ (λ i b. ap form (members-same p n v w h i b)))
 
 -- ---- the steps of a group are those of its entry
-rows_counted : (p : Fold) (u e : ℕ) → length (rows_of_member p u e) ≡ member_rows p
-rows_counted p u e = length-map (factors p) (λ q. bound_row (fold_bend p) u (argument_term 0 e q))
-
 group_counted : (p : Fold) (axis : Axis) (s : Sides) (k : ℕ) → length (group_rows p axis s k) ≡ folded_count axis s * member_rows p
 group_counted p axis s k =
     length-joined (folded_count axis s) (member_rows p) (λ i. rows_of_member p (unknown_of p (folded_count axis s) k i) (member axis s k i))

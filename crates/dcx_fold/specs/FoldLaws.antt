@@ -272,7 +272,7 @@ slope_of_member Min w u e a = least_slope (w 0) (a 0 e)
 slope_of_member Norm1 w u e a = magnitude_slope (w 0) (w 1) (a 0 e)
 slope_of_member NormInf w u e a = magnitude_slope (w 0) (w 1) (a 0 e)
 
-rows_counted : (p : Fold) (u e : ℕ) → length (rows_of_member p u e) ≡ member_rows p
+pub rows_counted : (p : Fold) (u e : ℕ) → length (rows_of_member p u e) ≡ member_rows p
 rows_counted p u e = length-map (factors p) (λ q. bound_row (fold_bend p) u (argument_term 0 e q))
 
 pub row_slopes : (p : Fold) (axis : Axis) → AreRowSlopes (fold_meaning p axis)

@@ -35,5 +35,6 @@ mod running;
 
 pub use chosen::{SumLargest, SumSmallest};
 pub use cummax::CumMax;
+pub use dcx_atom::Axis;
 pub use extremes::{MaxOf, MinOf};
 pub use norms::{Norm1, NormInf};

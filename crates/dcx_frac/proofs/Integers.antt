@@ -14,7 +14,7 @@ use Rattle.dcx_frac.specs.Frac.{num_of, den_of, value}
 use Rattle.dcx_frac.specs.Formed.{left_term, right_term, FormsSum, ProductFits}
 use Rattle.dcx_frac.proofs.Turns.{over_one}
 
-one_positive : pos 0 <ℤ pos 1
+pub one_positive : pos 0 <ℤ pos 1
 one_positive = omega (arith, ints)
 
 -- an integer over 1 is in lowest terms

@@ -74,3 +74,8 @@ quotient_of_is x y = answer_is Div x y (value x /ℚ value y) (λ fit. fit) _ _
 
 pub is_quotient_of : (x y : Frac) (r : Result Frac Passes) → IsAnswer Div x y (value x /ℚ value y) (QuotientFits x y) r → r ≡ quotient_of x y
 is_quotient_of x y r a = is_answer Div x y (value x /ℚ value y) (λ fit. fit) r (quotient_of x y) a (quotient_of_is x y)
+
+-- none is no number
+pub none_some : (r : Option Frac) → r ≡ None → IsSome r → ⊥
+none_some None e s = cc
+none_some (Some f) e s = cc

@@ -46,7 +46,8 @@ mod side;
 mod stop;
 
 pub use dcx_answer::{
-    Answer, BranchTree, CertFault, Filtered, NotRanged, Ranged, Site, Stop, WholeAnswer,
+    Answer, BranchStop, BranchTree, CertFault, FilterStop, Filtered, NotRanged, RangeStop, Ranged,
+    Site, Stop, WholeAnswer,
 };
 pub use dcx_linear::Rows;
 pub use dcx_lp_answer::LpAnswer;

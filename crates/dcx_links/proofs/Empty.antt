@@ -1,15 +1,12 @@
 -- A matrix of zeros, and one more cell without a number.
-use Rattle.std.proofs.Common.{◌≡◌, ◌≢◌, ℕ, zero, suc, ◌+◌, ◌<◌, ◌≤◌, ◌⊎◌, ◌&&◌, nat_eq, cond, inl, inr, List, [], ◌∷◌, ◌++◌, length, Some, None, refl, sym, subst, ap, ◌∙◌, arith, pos, ℤ, length-append}
-use Rattle.std.proofs.lemmas.List.{get_or_append_left, get_or_past}
+use Rattle.std.proofs.Common.{◌≡◌, ℕ, zero, suc, ◌+◌, ◌<◌, ◌≤◌, ◌⊎◌, ◌&&◌, nat_eq, cond, inl, inr, List, [], ◌∷◌, ◌++◌, length, Some, None, refl, sym, subst, ap, ◌∙◌, arith, pos, ℤ, length-append}
+use Rattle.std.proofs.lemmas.List.{get_or_append_left}
 use Rattle.std.proofs.Math.Seq.{get_or-append_seam}
 use Rattle.dcx_links.specs.declared.store.Cell.{Cell}
 use Rattle.dcx_links.specs.Lines.{Has, none, IsNext, IsFrom, AreLines, link_of}
-use Rattle.dcx_links.specs.Cells.{cell_at, head_at, IsAt, InRow, InColumn, IsStore, is_zero, cell_number, next_in_row_at, next_in_column_at, AreFree}
+use Rattle.dcx_links.specs.Cells.{cell_at, head_at, IsAt, InRow, InColumn, IsStore, is_zero, cell_number, next_in_row_at, next_in_column_at, AreFree, blank}
 use Rattle.dcx_links.proofs.Changes.{lines_same}
 use Rattle.dcx_links.proofs.Numbers.{at_within}
-
-abbrev blank : Cell
-blank = record { value = pos 0; row = 0; column = 0; next_in_row = 0; next_in_column = 0 }
 
 pub length_push : {X : Type 0} (xs : List X) (x : X) (n : ℕ) → length xs ≡ n → length (xs ++ x ∷ []) ≡ n + 1
 length_push xs x n e = length-append xs (x ∷ []) ∙ ap (λ k. k + 1) e
@@ -80,7 +77,7 @@ module _ (cells : List Cell) (rh ch : List ℕ) (free : ℕ) (store : IsStore ce
   new_cell : cell_at more (length cells) ≡ x
   new_cell = get_or-append_seam cells x [] blank
 
-  now_at : (i r c : ℕ) → IsAt cells i r c → IsAt more i r c
+  pub now_at : (i r c : ℕ) → IsAt cells i r c → IsAt more i r c
   now_at i r c at =
       let e = old_cell i (at_within cells i at.number) in
       record { number = λ z. at.number (sym (ap (λ (y : Cell). y.value) e) ∙ z); in_row = ap (λ (y : Cell). y.row) e ∙ at.in_row; in_column = ap (λ (y : Cell). y.column) e ∙ at.in_column }

@@ -5,13 +5,10 @@ use Rattle.std.proofs.lemmas.List.{get_or-set_same, get_or-set_other}
 use Rattle.std.proofs.Math.ListN.{length-set}
 use Rattle.dcx_links.specs.declared.store.Cell.{Cell}
 use Rattle.dcx_links.specs.Lines.{Has, none, IsFrom, IsSpot, AreApart, AreLines, link_of}
-use Rattle.dcx_links.specs.Cells.{head_at, cell_at, IsAt, InRow, InColumn, IsStore, cell_number, next_in_row_at, next_in_column_at, with_next_in_row, with_next_in_column, with_head, AreFree}
+use Rattle.dcx_links.specs.Cells.{head_at, cell_at, IsAt, InRow, InColumn, IsStore, cell_number, next_in_row_at, next_in_column_at, with_next_in_row, with_next_in_column, with_head, AreFree, blank}
 use Rattle.dcx_links.proofs.Lines.{lines_with}
 use Rattle.dcx_links.proofs.Numbers.{at_within, number_is, number_none, cell_or}
 use Rattle.dcx_links.proofs.Stores.{row_apart, column_apart}
-
-abbrev blank : Cell
-blank = record { value = pos 0; row = 0; column = 0; next_in_row = 0; next_in_column = 0 }
 
 pub set_same : (cells : List Cell) (i : ℕ) (x : Cell) → i < length cells → cell_at (set cells i x) i ≡ x
 set_same cells i x lt = get_or-set_same cells i x blank lt

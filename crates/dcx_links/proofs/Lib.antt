@@ -13,3 +13,4 @@ pub mod Matrices
 pub mod Steps
 pub mod Passes
 pub mod Rewrites
+pub mod Kept

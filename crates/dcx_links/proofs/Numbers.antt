@@ -3,14 +3,14 @@ use Rattle.std.proofs.Common.{◌≡◌, ◌≢◌, ℕ, zero, suc, ◌<◌, ◌
 use Rattle.std.proofs.lemmas.Bool.{cases_eq, eq-eqb, ne_eqb}
 use Rattle.std.proofs.lemmas.List.{get_or_past}
 use Rattle.dcx_links.specs.declared.store.Cell.{Cell}
-use Rattle.dcx_links.specs.Cells.{cell_at, IsAt, is_zero, cell_number}
+use Rattle.dcx_links.specs.Cells.{cell_at, IsAt, is_zero, cell_number, blank}
 
-le_or : (a b : ℕ) → (a ≤ b) ⊎ (b < a)
+pub le_or : (a b : ℕ) → (a ≤ b) ⊎ (b < a)
 le_or a b = grind arith
 
 pub at_within : (cells : List Cell) (i : ℕ) → (cell_at cells i).value ≢ pos 0 → i < length cells
 at_within cells i d = elim (le_or (length cells) i) [
-  | inl le ↦ absurd (d (ap (λ (x : Cell). x.value) (get_or_past cells i (record { value = pos 0; row = 0; column = 0; next_in_row = 0; next_in_column = 0 }) le)))
+  | inl le ↦ absurd (d (ap (λ (x : Cell). x.value) (get_or_past cells i blank le)))
   | inr lt ↦ lt
 ]
 

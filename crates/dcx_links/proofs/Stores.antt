@@ -3,12 +3,12 @@ use Rattle.std.proofs.Common.{◌≡◌, ◌≢◌, ℕ, ◌+◌, ◌<◌, ◌�
 use Rattle.std.proofs.lemmas.Option.{slice_get_read, get_or_from_slice_get}
 use Rattle.dcx_links.specs.declared.store.Cell.{Cell}
 use Rattle.dcx_links.specs.Lines.{none, IsNext, Leads, IsSpot, AreApart}
-use Rattle.dcx_links.specs.Cells.{cell_at, IsAt, InRow, InColumn, IsStore, cell_number}
+use Rattle.dcx_links.specs.Cells.{cell_at, IsAt, InRow, InColumn, IsStore, cell_number, blank}
 use Rattle.dcx_links.proofs.Lines.{nothing_from, leads_on}
 use Rattle.dcx_links.proofs.Numbers.{at_within, number_is, number_none}
 
 pub cell_read : (cells : List Cell) (i : ℕ) (x : Cell) → i < length cells → x ≡ get_or cells i x → x ≡ cell_at cells i
-cell_read cells i x lt e = sym (get_or_from_slice_get cells i x (record { value = pos 0; row = 0; column = 0; next_in_row = 0; next_in_column = 0 }) (slice_get_read cells (length cells) i x refl lt e))
+cell_read cells i x lt e = sym (get_or_from_slice_get cells i x blank (slice_get_read cells (length cells) i x refl lt e))
 
 module _ (cells : List Cell) (rh ch : List ℕ) (free : ℕ) (store : IsStore cells rh ch free) where
   pub at_real : (i m q : ℕ) → IsAt cells i m q → i < none

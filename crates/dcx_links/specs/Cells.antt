@@ -1,12 +1,16 @@
 -- How the cells of a matrix lie in memory.
-use Rattle.std.specs.Prelude.{◌≡◌, ◌≢◌, ℕ, zero, suc, ◌+◌, ◌*◌, ◌<◌, ◌≤◌, ◌&&◌, nat_eq, cond, Bool, true, false, List, [], ◌∷◌, length, Option, Some, None, ℤ, pos, negsuc, slice_index_or, slice_set}
+use Rattle.std.specs.Prelude.{◌≡◌, ◌≢◌, ℕ, zero, suc, ◌+◌, ◌<◌, ◌≤◌, ◌&&◌, nat_eq, cond, Bool, true, false, List, [], ◌∷◌, length, Option, Some, None, ℤ, pos, negsuc, slice_index_or, slice_set}
 use Rattle.dcx_links.specs.declared.store.Cell.{Cell}
 use Rattle.dcx_links.specs.declared.store.Store.{Store}
 use Rattle.dcx_links.specs.Lines.{none, Has, AreLines}
 
+-- a cell without a number
+abbrev pub blank : Cell
+blank = record { value = pos 0; row = 0; column = 0; next_in_row = 0; next_in_column = 0 }
+
 -- the cell at a place; past the end one without a number
 abbrev pub cell_at : List Cell → ℕ → Cell
-cell_at cells i = slice_index_or cells i (record { value = pos 0; row = 0; column = 0; next_in_row = 0; next_in_column = 0 })
+cell_at cells i = slice_index_or cells i blank
 
 -- the first link of a line
 abbrev pub head_at : List ℕ → ℕ → ℕ

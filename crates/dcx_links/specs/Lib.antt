@@ -5,3 +5,4 @@ pub mod Matrix
 pub mod Walks
 pub mod Views
 pub mod Laws
+pub mod Entries

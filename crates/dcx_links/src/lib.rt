@@ -13,6 +13,7 @@
 
 pub mod laws;
 mod links;
+mod multiple;
 mod number;
 mod pair;
 mod reserve;

@@ -1,16 +1,18 @@
 //! The matrix.
-ghost use Rattle.std.specs.Prelude.{◌≡◌, ◌≢◌, ℕ, ◌<◌, ◌^◌, pos, ◌-ℤ◌, ◌*ℤ◌, ◌<ℤ◌, unsigned_abs, IfOk};
+ghost use Rattle.std.specs.Prelude.{◌≡◌, ◌≢◌, ℕ, ◌<◌, ◌≤◌, ◌^◌, length, pos, ◌-ℤ◌, ◌*ℤ◌, ◌<ℤ◌, unsigned_abs, IfOk};
 ghost use Prim.Native.Nat.{◌∣◌};
 ghost use Rattle.dcx_math.specs.Divisors.{divided};
 ghost use Rattle.dcx_links.specs.Matrix.{number_at, row_of, column_of};
+ghost use Rattle.dcx_links.specs.Entries.{column_at, value_at};
 
+use crate::multiple::lessen_by;
 use crate::number::{Seen, number_near};
 use crate::pair::{Ahead, PairWalk};
 use crate::reserve::{make_heads, store_of};
 use crate::rewrite::{divide_row, multiply_row};
 use crate::store::{NONE, Store};
-use crate::walk::{ColumnWalk, RowWalk};
-use crate::write::{Near, lessen, put};
+use crate::walk::{ColumnWalk, Entry, RowWalk};
+use crate::write::{Near, put};
 use std::alloc::{AllocError, Global};
 use std::cell::Cell;
 use std::marker::Model;
@@ -86,23 +88,27 @@ impl Links {
         self.near_columns[column as usize] = near.in_column;
     }
 
-    /// Takes a number from that at a place.
-    pub fn subtract(&mut self, row: u32, column: u32, by: i128)
+    /// Takes a multiple of the first entries of a list, whose columns rise, from the numbers of a row.
+    pub fn subtract(&mut self, row: u32, by: i128, entries: &[Entry], count: usize)
         requires row { row < self.old.height }
-        requires column { column < self.old.width }
-        requires fits { unsigned_abs (number_at self.old row column -ℤ by) < 2 ^ 127 }
-        ensures there { number_at self.new row column ≡ number_at self.old row column -ℤ by }
-        ensures same { (r c : ℕ) → ¬ ((r ≡ row) × (c ≡ column)) → number_at self.new r c ≡ number_at self.old r c }
+        requires count { count ≤ length entries.now }
+        requires within { (k : ℕ) → k < count → column_at entries.now k < self.old.width }
+        requires rising { (j k : ℕ) → j < k → k < count → column_at entries.now j < column_at entries.now k }
+        requires product { (k : ℕ) → k < count → unsigned_abs (by *ℤ value_at entries.now k) < 2 ^ 127 }
+        requires fits { (k : ℕ) → k < count → unsigned_abs (number_at self.old row (column_at entries.now k) -ℤ by *ℤ value_at entries.now k) < 2 ^ 127 }
+        ensures there { (k : ℕ) → k < count → number_at self.new row (column_at entries.now k) ≡ number_at self.old row (column_at entries.now k) -ℤ by *ℤ value_at entries.now k }
+        ensures same { (r c : ℕ) → (r ≡ row → (k : ℕ) → k < count → c ≢ column_at entries.now k) → number_at self.new r c ≡ number_at self.old r c }
         ensures height { self.new.height ≡ self.old.height }
         ensures width { self.new.width ≡ self.old.width }
     {
-        let start = Near {
-            in_row: self.near_rows[row as usize],
-            in_column: self.near_columns[column as usize],
-        };
-        let near = lessen(&mut self.store, row, column, by, start);
-        self.near_rows[row as usize] = near.in_row;
-        self.near_columns[column as usize] = near.in_column;
+        lessen_by(
+            &mut self.store,
+            &mut self.near_columns,
+            row,
+            by,
+            entries,
+            count,
+        );
     }
 
     /// Multiplies the numbers of a row by a factor other than 0.

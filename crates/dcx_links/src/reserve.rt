@@ -1,7 +1,7 @@
 //! A matrix of zeros, and cells that are made as they are needed.
 ghost use Rattle.std.specs.Prelude.{◌≡◌, ◌≤◌, ℕ, length, pos, IfOk, vec_capacity};
 ghost use Rattle.dcx_links.specs.Lines.{none};
-ghost use Rattle.dcx_links.specs.Cells.{head_at, number_in, IsSound};
+ghost use Rattle.dcx_links.specs.Cells.{IsAt, head_at, number_in, IsSound};
 
 use crate::store::{Cell, NONE, Store};
 use std::alloc::{AllocError, Global};
@@ -44,6 +44,7 @@ pub(crate) fn store_of(alloc: Global, rows: u32, columns: u32) -> Result<Store, 
 pub(crate) fn make_free(store: &mut Store)
     requires sound { IsSound store.old }
     ensures sound { IsSound store.new }
+    ensures kept { (i r c : ℕ) → IsAt store.old.cells.items i r c → IsAt store.new.cells.items i r c }
     ensures ready { store.new.free ≡ none → vec_capacity store.new.cells ≤ length store.new.cells.items }
     ensures rows { length store.new.row_heads.items ≡ length store.old.row_heads.items }
     ensures columns { length store.new.column_heads.items ≡ length store.old.column_heads.items }

@@ -1,11 +1,11 @@
 //! Numbers put at places, and taken from them.
-ghost use Rattle.std.specs.Prelude.{◌≡◌, ◌≢◌, ℕ, ◌<◌, ◌≤◌, ◌^◌, length, pos, ◌-ℤ◌, unsigned_abs, IfSome, vec_capacity};
-ghost use Rattle.dcx_links.specs.Lines.{none, IsSpot, link_of};
+ghost use Rattle.std.specs.Prelude.{◌≡◌, ◌≢◌, ℕ, ◌+◌, ◌<◌, ◌≤◌, ◌^◌, length, pos, ◌-ℤ◌, unsigned_abs, IfSome, vec_capacity};
+ghost use Rattle.dcx_links.specs.Lines.{none, IsFrom, IsSpot, link_of};
 ghost use Rattle.dcx_links.specs.Cells.{head_at, InRow, InColumn, IsAt, next_in_row_at, next_in_column_at, bound_in_row, bound_in_column, number_in, with_next_in_row, with_next_in_column, with_head, IsSound};
 
 use crate::number::number_at_spot;
 use crate::reserve::make_free;
-use crate::search::{Spot, column_spot, is_there, row_spot};
+use crate::search::{Spot, column_spot, is_there, row_spot, row_spot_from};
 use crate::store::{Cell, NONE, Store};
 
 /// Makes the link of a row that comes from a cell, or else from the head, lead to another cell.
@@ -55,6 +55,7 @@ fn insert_at(
     requires row_link { in_row.link ≡ link_of (head_at store.old.row_heads.items) (next_in_row_at store.old.cells.items) row in_row.from }
     requires in_column { IsSpot (InColumn store.old.cells.items) column row in_column.from (bound_in_column store.old.cells.items in_column.from) in_column.link }
     requires column_link { in_column.link ≡ link_of (head_at store.old.column_heads.items) (next_in_column_at store.old.cells.items) column in_column.from }
+    ensures here { IsAt store.new.cells.items result row column }
     ensures sound { IsSound store.new }
     ensures rows { length store.new.row_heads.items ≡ length store.old.row_heads.items }
     ensures columns { length store.new.column_heads.items ≡ length store.old.column_heads.items }
@@ -97,6 +98,7 @@ fn remove_at(store: &mut Store, row: u32, column: u32, in_row: Spot, in_column: 
     requires row_link { in_row.link ≡ link_of (head_at store.old.row_heads.items) (next_in_row_at store.old.cells.items) row in_row.from }
     requires in_column { IsSpot (InColumn store.old.cells.items) column row in_column.from (bound_in_column store.old.cells.items in_column.from) in_column.link }
     requires column_link { in_column.link ≡ link_of (head_at store.old.column_heads.items) (next_in_column_at store.old.cells.items) column in_column.from }
+    ensures kept { (i r c : ℕ) → IsAt store.old.cells.items i r c → ¬ ((r ≡ row) × (c ≡ column)) → IsAt store.new.cells.items i r c }
     ensures sound { IsSound store.new }
     ensures rows { length store.new.row_heads.items ≡ length store.old.row_heads.items }
     ensures columns { length store.new.column_heads.items ≡ length store.old.column_heads.items }
@@ -151,8 +153,15 @@ pub(crate) struct Near {
     pub(crate) in_column: u32,
 }
 
+/// The last cell of a row that doesn't stand behind a place, if there is one, and a cell from which its column is looked through next.
+#[derive(Clone, Copy)]
+pub(crate) struct Reached {
+    pub(crate) from: Option<u32>,
+    pub(crate) near: u32,
+}
+
 /// Puts a number other than 0 at a place that has none.
-fn put_in(store: &mut Store, row: u32, column: u32, value: i128, in_row: Spot, near: u32) -> Near
+fn put_in(store: &mut Store, row: u32, column: u32, value: i128, in_row: Spot, near: u32) -> Reached
     requires sound { IsSound store.old }
     requires ready { store.old.free ≡ none → vec_capacity store.old.cells ≤ length store.old.cells.items }
     requires row { row < length store.old.row_heads.items }
@@ -161,6 +170,8 @@ fn put_in(store: &mut Store, row: u32, column: u32, value: i128, in_row: Spot, n
     requires empty { (i : ℕ) → ¬ IsAt store.old.cells.items i row column }
     requires in_row { IsSpot (InRow store.old.cells.items) row column in_row.from (bound_in_row store.old.cells.items in_row.from) in_row.link }
     requires row_link { in_row.link ≡ link_of (head_at store.old.row_heads.items) (next_in_row_at store.old.cells.items) row in_row.from }
+    ensures from { IsFrom (InRow store.new.cells.items) row result.from (bound_in_row store.new.cells.items result.from) }
+    ensures within { bound_in_row store.new.cells.items result.from ≤ column + 1 }
     ensures sound { IsSound store.new }
     ensures rows { length store.new.row_heads.items ≡ length store.old.row_heads.items }
     ensures columns { length store.new.column_heads.items ≡ length store.old.column_heads.items }
@@ -169,20 +180,22 @@ fn put_in(store: &mut Store, row: u32, column: u32, value: i128, in_row: Spot, n
 {
     let in_column = column_spot(&store.cells, &store.column_heads, row, column, near);
     let cell = insert_at(store, row, column, value, in_row, in_column);
-    Near {
-        in_row: cell,
-        in_column: cell,
+    Reached {
+        from: Some(cell),
+        near: cell,
     }
 }
 
 /// Takes the number from a place that has one.
-fn take_out(store: &mut Store, row: u32, column: u32, in_row: Spot, near: u32) -> Near
+fn take_out(store: &mut Store, row: u32, column: u32, in_row: Spot, near: u32) -> Reached
     requires sound { IsSound store.old }
     requires row { row < length store.old.row_heads.items }
     requires column { column < length store.old.column_heads.items }
     requires there { number_in store.old row column ≢ pos 0 }
     requires in_row { IsSpot (InRow store.old.cells.items) row column in_row.from (bound_in_row store.old.cells.items in_row.from) in_row.link }
     requires row_link { in_row.link ≡ link_of (head_at store.old.row_heads.items) (next_in_row_at store.old.cells.items) row in_row.from }
+    ensures from { IsFrom (InRow store.new.cells.items) row result.from (bound_in_row store.new.cells.items result.from) }
+    ensures within { bound_in_row store.new.cells.items result.from ≤ column + 1 }
     ensures sound { IsSound store.new }
     ensures rows { length store.new.row_heads.items ≡ length store.old.row_heads.items }
     ensures columns { length store.new.column_heads.items ≡ length store.old.column_heads.items }
@@ -191,22 +204,22 @@ fn take_out(store: &mut Store, row: u32, column: u32, in_row: Spot, near: u32) -
 {
     let in_column = column_spot(&store.cells, &store.column_heads, row, column, near);
     remove_at(store, row, column, in_row, in_column);
-    Near {
-        in_row: in_row.from.unwrap_or(NONE),
-        in_column: in_column.from.unwrap_or(NONE),
+    Reached {
+        from: in_row.from,
+        near: in_column.from.unwrap_or(NONE),
     }
 }
 
 /// Puts a number at a place whose spot was found before. The column is searched only where a cell comes to it or leaves it.
-///
-/// Answers the cells at the place, or before it, as far as it found them.
-fn put_at(store: &mut Store, row: u32, column: u32, value: i128, in_row: Spot, near: u32) -> Near
+fn put_at(store: &mut Store, row: u32, column: u32, value: i128, in_row: Spot, near: u32) -> Reached
     requires sound { IsSound store.old }
     requires ready { store.old.free ≡ none → vec_capacity store.old.cells ≤ length store.old.cells.items }
     requires row { row < length store.old.row_heads.items }
     requires column { column < length store.old.column_heads.items }
     requires in_row { IsSpot (InRow store.old.cells.items) row column in_row.from (bound_in_row store.old.cells.items in_row.from) in_row.link }
     requires row_link { in_row.link ≡ link_of (head_at store.old.row_heads.items) (next_in_row_at store.old.cells.items) row in_row.from }
+    ensures from { IsFrom (InRow store.new.cells.items) row result.from (bound_in_row store.new.cells.items result.from) }
+    ensures within { bound_in_row store.new.cells.items result.from ≤ column + 1 }
     ensures sound { IsSound store.new }
     ensures rows { length store.new.row_heads.items ≡ length store.old.row_heads.items }
     ensures columns { length store.new.column_heads.items ≡ length store.old.column_heads.items }
@@ -218,15 +231,15 @@ fn put_at(store: &mut Store, row: u32, column: u32, value: i128, in_row: Spot, n
             return take_out(store, row, column, in_row, near);
         }
         change_at(store, in_row.link, row, column, value);
-        return Near {
-            in_row: in_row.link,
-            in_column: in_row.link,
+        return Reached {
+            from: Some(in_row.link),
+            near: in_row.link,
         };
     }
     if value == 0 {
-        return Near {
-            in_row: in_row.from.unwrap_or(NONE),
-            in_column: near,
+        return Reached {
+            from: in_row.from,
+            near,
         };
     }
     put_in(store, row, column, value, in_row, near)
@@ -245,15 +258,30 @@ pub(crate) fn put(store: &mut Store, row: u32, column: u32, value: i128, near: N
 {
     make_free(store);
     let in_row = row_spot(&store.cells, &store.row_heads, row, column, near.in_row);
-    put_at(store, row, column, value, in_row, near.in_column)
+    let reached = put_at(store, row, column, value, in_row, near.in_column);
+    Near {
+        in_row: reached.from.unwrap_or(NONE),
+        in_column: reached.near,
+    }
 }
 
-/// Takes a number from that at a place.
-pub(crate) fn lessen(store: &mut Store, row: u32, column: u32, by: i128, near: Near) -> Near
+/// Takes a number from that at a place, which is looked for along its row from a cell before it.
+pub(crate) fn lessen(
+    store: &mut Store,
+    row: u32,
+    column: u32,
+    by: i128,
+    start: Option<u32>,
+    near: u32,
+) -> Reached
     requires sound { IsSound store.old }
     requires row { row < length store.old.row_heads.items }
     requires column { column < length store.old.column_heads.items }
+    requires start { IsFrom (InRow store.old.cells.items) row start (bound_in_row store.old.cells.items start) }
+    requires before { bound_in_row store.old.cells.items start ≤ column }
     requires fits { unsigned_abs (number_in store.old row column -ℤ by) < 2 ^ 127 }
+    ensures from { IsFrom (InRow store.new.cells.items) row result.from (bound_in_row store.new.cells.items result.from) }
+    ensures within { bound_in_row store.new.cells.items result.from ≤ column + 1 }
     ensures sound { IsSound store.new }
     ensures rows { length store.new.row_heads.items ≡ length store.old.row_heads.items }
     ensures columns { length store.new.column_heads.items ≡ length store.old.column_heads.items }
@@ -261,7 +289,7 @@ pub(crate) fn lessen(store: &mut Store, row: u32, column: u32, by: i128, near: N
     ensures same { (r c : ℕ) → ¬ ((r ≡ row) × (c ≡ column)) → number_in store.new r c ≡ number_in store.old r c }
 {
     make_free(store);
-    let in_row = row_spot(&store.cells, &store.row_heads, row, column, near.in_row);
+    let in_row = row_spot_from(&store.cells, &store.row_heads, row, column, start);
     let number = number_at_spot(store, row, column, in_row);
-    put_at(store, row, column, number - by, in_row, near.in_column)
+    put_at(store, row, column, number - by, in_row, near)
 }

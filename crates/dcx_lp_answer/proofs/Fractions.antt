@@ -15,6 +15,7 @@ use Rattle.dcx_frac.proofs.Representable.{representable_quotient}
 use Rattle.dcx_frac.proofs.Turns.{neg_size, neg_lowest}
 use Rattle.dcx_atom.specs.Formed.{frac_at}
 use Rattle.dcx_atom.proofs.FormedSums.{frac_at-value}
+use Rattle.dcx_frac.proofs.Integers.{one_positive}
 
 -- a number that is representable is that of its fraction
 pub value-frac_at : (x : ℚ) → IsRepresentable x → value (frac_at x) ≡ x
@@ -30,9 +31,6 @@ over_one x = /ℚ-unique x (whole (pos 1)) x (λ z. <ℚ-≢ zero-<ℚ-one (sym 
 
 pub not_zero : (z : ℤ) → pos 0 <ℤ z → z ≢ pos 0
 not_zero z h = λ e. absurd (omega (arith, ints, h, e))
-
-one_positive : pos 0 <ℤ pos 1
-one_positive = omega (arith, ints)
 
 -- a small whole number is representable
 pub whole_fits : (z : ℤ) → unsigned_abs z < 2 ^ 127 → IsRepresentable (whole z)

@@ -33,10 +33,7 @@ use Rattle.dcx_right.specs.Answers.{multipliers_in}
 use Rattle.dcx_graph.specs.Answers.{IsSamePoint, IsSameAnswer}
 use Rattle.dcx_iis.specs.Multipliers.{HasShapeOf}
 use Rattle.dcx_outcomes.specs.Right.{IsPointFor, SpeaksOf}
-
--- ---- arrays
-few_prop : (s : Sides) → IsProp (HasFewEntries s)
-few_prop s = hlevel props
+use Rattle.dcx_shape.proofs.OneShape.{few_prop}
 
 one_shape : (a b : Shape) → sides_of a ≡ sides_of b → a ≡ b
 one_shape a b p = λ i. record { sides = p i; few = is_prop→PathP (λ j. HasFewEntries (p j)) (λ j. few_prop (p j)) a.few b.few i }

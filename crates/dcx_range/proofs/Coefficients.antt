@@ -17,7 +17,8 @@ use Rattle.dcx_linear.specs.declared.param_term.ParamTerm.{ParamTerm}
 use Rattle.dcx_linear.proofs.Formed.{drop_at}
 use Rattle.dcx_range.specs.declared.rates.Rate.{Rate}
 use Rattle.dcx_range.specs.Coefficients.{coefficient_in, coefficient_of}
-use Rattle.dcx_range.specs.Operations.{opposite, turned, kept_rate, rate_of, rates_of}
+use Rattle.dcx_range.specs.Operations.{turned, kept_rate, rate_of, rates_of}
+use Rattle.dcx_std.specs.WholeRows.{opposite}
 
 -- the term at a place, or what the terms behind it have
 next : (k : ℕ) (ts : List ParamTerm) (i : ℕ) (t : ParamTerm) → i < length ts → t ≡ get_or ts i t

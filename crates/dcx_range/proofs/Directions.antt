@@ -26,7 +26,7 @@ use Rattle.dcx_simplex.proofs.Last.{solves_last}
 use Rattle.dcx_range.proofs.Placing.{zero_right, no_sum, put, put_length, dot_put, less, less_length, dot_less, first, first_low, at_first}
 use Rattle.dcx_range.proofs.Placing as placing
 
-none_left : (a r : ℚ) → (a +ℚ whole (negsuc 0) *ℚ a) +ℚ r *ℚ whole (pos 0) ≡ whole (pos 0)
+pub none_left : (a r : ℚ) → (a +ℚ whole (negsuc 0) *ℚ a) +ℚ r *ℚ whole (pos 0) ≡ whole (pos 0)
 none_left a r = ring (a ∷ r ∷ []) (search reads depth 30) tt
 
 cost_left : (c l z r : ℚ) → l *ℚ z ≡ c → ((whole (pos 0) +ℚ whole (negsuc 0) *ℚ c) +ℚ l *ℚ z) +ℚ r *ℚ whole (pos 0) ≡ whole (pos 0)

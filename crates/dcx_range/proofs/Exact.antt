@@ -25,7 +25,8 @@ use Rattle.dcx_lp_answer.specs.Right.{turned_if}
 use Rattle.dcx_lp_answer.proofs.Fractions.{value-negative, value-whole}
 use Rattle.dcx_range.specs.declared.rates.Rate.{Rate}
 use Rattle.dcx_range.specs.Coefficients.{coefficient_of}
-use Rattle.dcx_range.specs.Operations.{opposite, turned, kept_rate, rate_of, rates_of, factors_at, change_at, zero_of, slope_of, constant_of}
+use Rattle.dcx_range.specs.Operations.{turned, kept_rate, rate_of, rates_of, factors_at, change_at, zero_of, slope_of, constant_of}
+use Rattle.dcx_std.specs.WholeRows.{opposite}
 
 -- ---- steps
 -- what is formed in two steps is formed in each

@@ -30,10 +30,7 @@ use Rattle.dcx_simplex.proofs.Bounds.{solves_first}
 use Rattle.dcx_simplex.proofs.Last.{at_cost_of}
 use Rattle.dcx_range.proofs.Placing.{zero_right, no_sum, less, less_length, dot_less, first, first_low, at_first}
 use Rattle.dcx_range.proofs.Placing as placing
-use Rattle.dcx_range.proofs.Directions.{start, columns_are, objective_low, change, rate}
-
-none_left : (a r : ℚ) → (a +ℚ whole (negsuc 0) *ℚ a) +ℚ r *ℚ whole (pos 0) ≡ whole (pos 0)
-none_left a r = ring (a ∷ r ∷ []) (search reads depth 30) tt
+use Rattle.dcx_range.proofs.Directions.{start, columns_are, objective_low, change, rate, none_left}
 
 costs_nothing : (l r : ℚ) → ((whole (pos 0) +ℚ whole (negsuc 0) *ℚ whole (pos 0)) +ℚ l *ℚ whole (pos 0)) +ℚ r *ℚ whole (pos 0) ≡ whole (pos 0)
 costs_nothing l r = ring (l ∷ r ∷ []) (search reads depth 30) tt

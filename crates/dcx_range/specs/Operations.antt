@@ -20,11 +20,9 @@ use Rattle.dcx_range.specs.declared.ends.Ends.{Ends}
 use Rattle.dcx_range.specs.declared.asked.Asked.{Asked}
 use Rattle.dcx_answer.specs.declared.ranged.Ranged.{Ranged}
 use Rattle.dcx_answer.specs.declared.ranged.Ranged.TheVariants.{Span}
+use Rattle.dcx_std.specs.WholeRows.{opposite}
 
 -- ---- the changes of the right sides
-abbrev pub opposite : Frac → Frac
-opposite x = frac_at (neg_ℚ (value x))
-
 abbrev pub turned : Bool → Frac → Frac
 turned true x = opposite x
 turned false x = x

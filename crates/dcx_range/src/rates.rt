@@ -3,7 +3,8 @@ ghost use Rattle.std.specs.Prelude.{◌≡◌, ◌≤◌, length, Ok, IfOk, IfEr
 ghost use Rattle.std.specs.List.{All};
 ghost use Rattle.dcx_linear.specs.ParamTerms.{HoldsTerms};
 ghost use Rattle.dcx_range.specs.Coefficients.{coefficient_of};
-ghost use Rattle.dcx_range.specs.Operations.{opposite, turned, rate_of, rates_of};
+ghost use Rattle.dcx_range.specs.Operations.{turned, rate_of, rates_of};
+ghost use Rattle.dcx_std.specs.WholeRows.{opposite};
 ghost use Rattle.dcx_range.specs.Stops.{StopsAt};
 
 use crate::numbers::zero;

@@ -29,7 +29,7 @@ pub passes : (s : Symbol) (source : List ℕ) (Bad : Role → Type 0) (ts : List
 passes s source Bad [] h l = tt
 passes s source Bad (t ∷ ts) h l = h (role_of t.kind) (spelled source t) t.place (l t ts refl)
 
-name-passes : (r : Role) (bytes : List ℕ) (p : Place) → (r ≡ roles.Name → ⊥) → move name_s (terminal r bytes p) ≡ pass
+pub name-passes : (r : Role) (bytes : List ℕ) (p : Place) → (r ≡ roles.Name → ⊥) → move name_s (terminal r bytes p) ≡ pass
 name-passes roles.Name bytes p n = absurd (n refl)
 name-passes r bytes p n = refl
 

@@ -23,7 +23,7 @@ use Rattle.dcx_read.specs.Moves as moves
 use Rattle.dcx_read.specs.Steps.{Gives, Progress, Loop, StopsAt, Stops, Front, FrontOf, FrontPair, Lacks, LacksPair, Refuses}
 use Rattle.dcx_read.specs.Lines.{is_bracket, FrontPlain, LacksPlain, FrontValue, LacksValue, begins_line, starts_line, module_at}
 use Rattle.dcx_read.proofs.Progress.{Join, front, twice, goes, turns}
-use Rattle.dcx_read.proofs.Fronts.{front-terminals, Passes, passes, name-gives}
+use Rattle.dcx_read.proofs.Fronts.{front-terminals, Passes, passes, name-gives, name-passes}
 use Rattle.dcx_read.proofs.Rules.{shifts, item, leads, leads-by, LeadsAt, both, ends, refused, mark-gives, mark-stops, head-terminals, is-name, pair-front, from-name}
 use Rattle.dcx_read.proofs.Rules.{after_name-goes, rest-reads, leads-nothing, closes_round-gives, closes_round-stops, closes_square-gives, closes_square-stops}
 use Rattle.dcx_read.proofs.Complete.{is_shift}
@@ -266,10 +266,6 @@ first-attribute source ts rest w e r k = record {
 dot-passes : (r : Role) (bytes : List ℕ) (p : Place) → (r ≡ roles.Name → ⊥) → move after_dot_s (terminal r bytes p) ≡ pass
 dot-passes roles.Name bytes p n = absurd (n refl)
 dot-passes r bytes p n = refl
-
-name-passes : (r : Role) (bytes : List ℕ) (p : Place) → (r ≡ roles.Name → ⊥) → move name_s (terminal r bytes p) ≡ pass
-name-passes roles.Name bytes p n = absurd (n refl)
-name-passes r bytes p n = refl
 
 first-nameless : (source : List ℕ) (ts : List Token) → Lacks roles.Name ts → Loop after_first_s rest_s (plain dot ∷ terminals source ts) (plain dot ∷ terminals source ts) moves.begins
 first-nameless source ts l = record {

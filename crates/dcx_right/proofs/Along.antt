@@ -24,7 +24,8 @@ use Rattle.dcx_convex.proofs.Beyond.{beyond_same, IsBeyondAs, args_follow}
 use Rattle.dcx_convex.proofs.Convexity.{same_bend_is, bent_is, mixed_domain, bends_between}
 use Rattle.dcx_right.specs.Steepness.{taken_at, steep_by, steep_at}
 use Rattle.dcx_right.specs.Rays.{BendsAlong, HeadRecedes, Recedes, AreReceding}
-use Rattle.dcx_right.proofs.Calls.{one_combination, zero_shifted}
+use Rattle.dcx_atom.proofs.Sublinear.{one_combination}
+use Rattle.dcx_right.proofs.Calls.{zero_shifted}
 use Rattle.dcx_right.proofs.Told.{none_fixed, level, steep_tells}
 use Rattle.dcx_atom.specs.Farthest.{beyond_refl, beyond_trans}
 

@@ -18,10 +18,7 @@ use Rattle.dcx_convex.specs.Nodes.{Numbers}
 use Rattle.dcx_convex.specs.Pairs.{Pair, products_at, quotients_at, product_call, quotient_call}
 use Rattle.dcx_convex.proofs.Beyond.{beyond_same}
 use Rattle.dcx_right.specs.Rays.{OneGoes, Recedes}
-
--- 1 a + k b is a + k b
-pub one_combination : (a : Entries) (k : ℚ) (b : Entries) → combination (whole (pos 1)) k a b ≡ shifted a k b
-one_combination a k b = λ t i j. *ℚ_idl (a i j) t +ℚ k *ℚ b i j
+use Rattle.dcx_atom.proofs.Sublinear.{one_combination}
 
 -- ---- nonlinear and linear calls
 pub atom_recedes : (m : Meaning) → atom.Recedes m → (args : List Sides) (sides : Sides) → m.shape args ≡ Some sides → Recedes (atom_call m args sides)

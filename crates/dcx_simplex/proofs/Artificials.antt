@@ -13,8 +13,9 @@ use Rattle.dcx_tab.proofs.Lagrange.{weighted, identity, d, o, d_pos, o_is}
 use Rattle.dcx_simplex.specs.Run.{right_at}
 use Rattle.dcx_simplex.specs.Basis.{IsFeasible}
 use Rattle.dcx_simplex.specs.Start.{IsSumRow}
-use Rattle.dcx_simplex.proofs.Numbers.{term_zero, term_low, term_negative, times_zero}
+use Rattle.dcx_simplex.proofs.Numbers.{term_zero, term_low, term_negative}
 use Rattle.dcx_simplex.proofs.Clash.{weighted_negative}
+use Rattle.dcx_tab.proofs.Pivots.{times_zero}
 
 term_up : (w a o c : ℤ) → w ≡ pos 1 *ℤ a → pos 0 ≤ℤ a → pos 0 <ℤ o → pos 0 ≤ℤ c → (neg_ℤ (w *ℤ o) *ℤ c) ≤ℤ pos 0
 term_up w a o c e ha ho hc =

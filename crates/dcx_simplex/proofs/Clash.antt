@@ -13,7 +13,8 @@ use Rattle.dcx_tab.proofs.Lagrange.{weighted, identity, d, o, d_pos, o_is}
 use Rattle.dcx_simplex.specs.Run.{IsNext, IsEntering, ComesFirst, right_at}
 use Rattle.dcx_simplex.specs.Basis.{IsReady, IsBasic}
 use Rattle.dcx_simplex.proofs.Moves.{may_all}
-use Rattle.dcx_simplex.proofs.Numbers.{term_zero, term_low, term_negative, times_zero, zero_times}
+use Rattle.dcx_simplex.proofs.Numbers.{term_zero, term_low, term_negative, zero_times}
+use Rattle.dcx_tab.proofs.Pivots.{times_zero}
 
 weighted_low : (f : ℕ → ℤ) (bs : List ℕ) (row : Row) → ((k : ℕ) → k < length bs → (f k *ℤ entry row (basic_at bs k)) ≤ℤ pos 0) → weighted f bs row ≤ℤ pos 0
 weighted_low f [] row h = omega (arith, ints)

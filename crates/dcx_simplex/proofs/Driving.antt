@@ -8,7 +8,7 @@ use Rattle.dcx_tab.specs.Rows.{entry, Row, row_at, basic_at}
 use Rattle.dcx_tab.specs.Pivot.{turned, eliminated}
 use Rattle.dcx_tab.specs.Table.{Table, entry_at, after_pivot, IsOf}
 use Rattle.dcx_tab.proofs.Elimination.{zero_factor}
-use Rattle.dcx_tab.proofs.Pivots.{turns, at_r, at_other, step, IsTableauOf-pivoted}
+use Rattle.dcx_tab.proofs.Pivots.{turns, at_r, at_other, step, IsTableauOf-pivoted, times_zero}
 use Rattle.dcx_simplex.specs.Run.{right_at}
 use Rattle.dcx_simplex.specs.Drive.{IsDriver, IsLeft, Drives}
 use Rattle.dcx_simplex.specs.Drive.Drives.{Begins, Leaves, Drives_out}
@@ -16,7 +16,7 @@ use Rattle.dcx_simplex.proofs.Lengths.{length-after}
 use Rattle.dcx_simplex.specs.Basis.{IsFeasible}
 use Rattle.dcx_simplex.proofs.Chains.{IsKin}
 use Rattle.dcx_simplex.proofs.Moves.{new_zero}
-use Rattle.dcx_simplex.proofs.Numbers.{times_zero, zero_times}
+use Rattle.dcx_simplex.proofs.Numbers.{zero_times}
 
 -- where the rows below i have been looked at
 pub record IsDriven (equations : List Row) (t : Table) (i : ℕ) (u : Table) : Type 0 where

@@ -1,24 +1,21 @@
 -- What a pivot of the rule does to the rows, in terms of the tableau before.
-use Rattle.std.proofs.Common.{◌≡◌, ◌≢◌, ℕ, ◌+◌, ◌<◌, ◌≤◌, List, length, ℤ, pos, negsuc, ◌-ℤ◌, ◌*ℤ◌, ◌<ℤ◌, arith, refl, sym, ap, ◌∙◌, subst, ◌⊎◌, inl, inr}
+use Rattle.std.proofs.Common.{◌≡◌, ◌≢◌, ℕ, ◌+◌, ◌<◌, ◌≤◌, List, length, ℤ, pos, ◌-ℤ◌, ◌*ℤ◌, ◌<ℤ◌, arith, sym, ap, ◌∙◌, subst, ◌⊎◌, inl, inr}
 use Rattle.std.proofs.lemmas.Int.{ints}
 use Rattle.std.proofs.lemmas.Bool.{cases_eq, cases_lt}
 use Rattle.std.proofs.lemmas.List.{get_or-set_same, get_or-set_other}
 use Rattle.dcx_math.specs.Integers.{*ℤ_comm, *ℤ-positive}
 use Rattle.dcx_tab.specs.Rows.{entry, Row, row_at, basic_at}
-use Rattle.dcx_tab.specs.Pivot.{turned, turned_by, eliminated}
+use Rattle.dcx_tab.specs.Pivot.{turned, eliminated}
 use Rattle.dcx_tab.specs.Table.{Table, entry_at, after_pivot, IsOf}
 use Rattle.dcx_tab.proofs.Elimination.{pos_factor, zero_factor}
-use Rattle.dcx_tab.proofs.Pivots.{at_r, at_other, step, IsTableauOf-pivoted}
+use Rattle.dcx_tab.proofs.Pivots.{at_r, at_other, step, IsTableauOf-pivoted, times_zero}
 use Rattle.dcx_tab.proofs.Feasible.{positive_some}
 use Rattle.dcx_simplex.specs.Run.{IsNext, right_at}
 use Rattle.dcx_simplex.proofs.Keeps.{feasible_next}
 use Rattle.dcx_simplex.proofs.Lengths.{length-after}
 use Rattle.dcx_simplex.specs.Basis.{IsReady, lead_at, IsNotAbove, HasSameValue}
-use Rattle.dcx_simplex.proofs.Numbers.{value_le, value_lt, value_same, times_zero, zero_times}
-
-turned_same : (z : ℤ) (row : Row) → pos 0 <ℤ z → turned_by z row ≡ row
-turned_same (pos n) row h = refl
-turned_same (negsuc n) row h = absurd (omega (arith, ints))
+use Rattle.dcx_simplex.proofs.Numbers.{value_le, value_lt, value_same, zero_times}
+use Rattle.dcx_tab.proofs.LineSteps.{turned_same}
 
 -- row i, other than row r, after a pivot at row r and column c
 pub record Moves (t : Table) (r c i : ℕ) : Type 0 where

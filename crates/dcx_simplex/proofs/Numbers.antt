@@ -2,6 +2,7 @@
 use Rattle.std.proofs.Common.{◌≡◌, ℤ, pos, ◌-ℤ◌, ◌*ℤ◌, neg_ℤ, ◌<ℤ◌, ◌≤ℤ◌, arith, refl, ap, ◌∙◌}
 use Rattle.std.proofs.lemmas.Int.{ints, by_lt_z}
 use Rattle.dcx_math.specs.Integers.{ring, *ℤ-≤ℤ, *ℤ-≤ℤ_cancel, *ℤ-nonnegative, *ℤ-positive, *ℤ_cancel, *ℤ_comm}
+use Rattle.dcx_tab.proofs.Pivots.{times_zero}
 
 -- the objective's value after a pivot
 pub value_le : (k u v nr nz er ez fr : ℤ) → pos 0 <ℤ k → pos 0 <ℤ v → pos 0 <ℤ ez → pos 0 ≤ℤ fr → k *ℤ nr ≡ u *ℤ er -ℤ v *ℤ fr → k *ℤ nz ≡ u *ℤ ez → (nr *ℤ ez) ≤ℤ (er *ℤ nz)
@@ -39,9 +40,6 @@ cross_trans a b c d e f hb hd hf p q =
 pub cross_lt : (a b c d e f : ℤ) → pos 0 <ℤ b → pos 0 <ℤ d → pos 0 <ℤ f → (a *ℤ d) ≤ℤ (c *ℤ b) → (c *ℤ f) <ℤ (e *ℤ d) → (e *ℤ b) ≤ℤ (a *ℤ f) → ⊥
 cross_lt a b c d e f hb hd hf p q r =
     let w = cross_trans e f a b c d hf hb hd r p in absurd (omega (arith, ints, w, q))
-
-pub times_zero : (s z : ℤ) → z ≡ pos 0 → s *ℤ z ≡ pos 0
-times_zero s z e = rw e (omega (arith, ints))
 
 pub zero_times : (s z : ℤ) → s ≡ pos 0 → s *ℤ z ≡ pos 0
 zero_times s z e = rw e (omega (arith, ints))

@@ -15,7 +15,8 @@ use Rattle.dcx_simplex.specs.Run.{right_at, NoneLeaves, IsEntering, NoneEnters}
 use Rattle.dcx_simplex.specs.Basis.{lead_at}
 use Rattle.dcx_simplex.specs.Start.{IsSumRow}
 use Rattle.dcx_simplex.specs.Meaning.{IsPoint}
-use Rattle.dcx_simplex.proofs.Numbers.{times_zero, zero_times}
+use Rattle.dcx_simplex.proofs.Numbers.{zero_times}
+use Rattle.dcx_tab.proofs.Pivots.{times_zero}
 
 -- ---- sums of terms at least 0
 weighted_high : (f : ℕ → ℤ) (bs : List ℕ) (row : Row) → ((k : ℕ) → k < length bs → pos 0 ≤ℤ (f k *ℤ entry row (basic_at bs k))) → pos 0 ≤ℤ weighted f bs row

@@ -14,7 +14,8 @@ use Rattle.dcx_tab.proofs.Unique.{spread, int_dot-spread, product, product-pos, 
 use Rattle.dcx_simplex.specs.Run.{right_at, NoneLeaves, IsEntering}
 use Rattle.dcx_simplex.specs.Basis.{IsFeasible, IsIdle, lead_at}
 use Rattle.dcx_simplex.specs.Meaning.{IsPoint, IsRay}
-use Rattle.dcx_simplex.proofs.Numbers.{times_zero, zero_times}
+use Rattle.dcx_simplex.proofs.Numbers.{zero_times}
+use Rattle.dcx_tab.proofs.Pivots.{times_zero}
 
 unit_at : (t m : ℕ) → t ≡ m → entry (unit t) m ≡ pos 1
 unit_at t m e = subst (λ x. entry (unit t) x ≡ pos 1) e (unit_same t)

@@ -2,6 +2,7 @@
 ghost use Rattle.std.specs.Prelude.{◌≡◌, ◌<◌, ◌≤◌, ◌^◌, [], ◌∷◌, ◌++◌, ◌-◌, length, map, filter, replicate, pos, unsigned_abs, IfOk, OnOk};
 ghost use Rattle.std.specs.List.{All, range_with_len};
 ghost use Rattle.dcx_math.specs.Rational.{whole};
+ghost use Rattle.dcx_frac.specs.Results.{sum_of};
 ghost use Rattle.dcx_atom.specs.Formed.{frac_at};
 ghost use Rattle.dcx_linear.specs.Stops.{Gives, GivesBy};
 ghost use Rattle.dcx_std.specs.WholeRows.{numerators};
@@ -36,6 +37,19 @@ pub fn integer(number: i128) -> Frac
     }
 }
 
+/// The sum with an integer. Most numbers of a row are 0, and a sum with 0 isn't formed.
+///
+/// `Passes` where the sum passes 128 bits.
+fn plus(sum: Frac, number: i128) -> Result<Frac, Passes>
+    requires { unsigned_abs number < 2 ^ 127 }
+    ensures { result ≡ sum_of sum (frac_at (whole number)) }
+{
+    if number == 0 {
+        return Ok(sum);
+    }
+    sum.add(integer(number))
+}
+
 /// The sum with the number of a row at a column, where the row starts with an artificial.
 ///
 /// `Passes` where the sum passes 128 bits.
@@ -45,7 +59,7 @@ fn added(sum: Frac, row: &IntRow, plain: usize, column: usize) -> Result<Frac, P
     ensures { result ≡ added_number plain column sum row.now }
 {
     if plain <= row.basic as usize {
-        sum.add(integer(row_number(row, column)))
+        plus(sum, row_number(row, column))
     } else {
         Ok(sum)
     }

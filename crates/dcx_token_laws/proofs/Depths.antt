@@ -22,7 +22,7 @@ use Rattle.dcx_tokens.specs.Layout.{kept}
 use Rattle.dcx_tokens.specs.Position.{moved_over, next_at, line_behind}
 use Rattle.dcx_tokens.specs.Reading.{Reads, ends, stops, goes_on, IsLexed, fault_of}
 use Rattle.dcx_tokens.specs.State.{State, Answer, put, moved, dedent_at, line_supplied, all_ended, finished_at, finished, start, led}
-use Rattle.dcx_tokens.proofs.Kept.{token_of}
+use Rattle.dcx_tokens.proofs.Kept.{token_of, no_last}
 use Rattle.dcx_token_laws.specs.Cut.{AreBlanks, IsLineEnd, IsComment, EndsLine, HasNoLineEnd, place_behind, Spans, IsMark, AreMarks, Cut}
 use Rattle.dcx_token_laws.specs.Lines.{IsOfWords, depth_of, kinds, Turns, IsTogether, AreLines, ended, line}
 use Rattle.dcx_token_laws.proofs.Between.{run_is, are_blanks, is_line_end, is_comment}
@@ -566,14 +566,6 @@ pub next : (s t : State) (c : ℕ) (cs : List ℕ) (n : ℕ) → IsRising 0 s.in
 next s t c cs n rising (within row is here) step = next_within s c cs n rising row is here t step
 next s t c cs n rising (leads blanks is none column last) step = next_leads s c cs n rising blanks is none column last t step
 next s t c cs n rising (closing blanks is none end) step = next_closing s c cs n rising blanks is none t end step
-
--- ---- the end
-pub no_last : (xs : List Place) → slice_get xs (length xs - 1) ≡ None → length xs ≡ 0
-no_last [] e = refl
-no_last (x ∷ xs) e =
-    let some = slice_get-get_or (x ∷ xs) (length (x ∷ xs) - 1) x (omega arith) in
-    let both = sym e ∙ some in
-    cc
 
 all_end : (n : ℕ) (d : Token) → d.kind ≡ kind.Dedent → kinds (replicate n d) ≡ replicate n kind.Dedent
 all_end n d is = kinds-replicate n d ∙ ap (λ k. replicate n k) is

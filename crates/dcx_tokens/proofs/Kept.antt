@@ -293,7 +293,7 @@ pub record Final (I : State → Type 0) (total : ℕ) (tokens : List Token) (fau
   pub offset : state.at.offset ≤ total
   pub closed : fault ≡ None → (length state.indents ≡ 0) × (length state.brackets ≡ 0)
 
-no_last : (xs : List Place) → slice_get xs (length xs - 1) ≡ None → length xs ≡ 0
+pub no_last : (xs : List Place) → slice_get xs (length xs - 1) ≡ None → length xs ≡ 0
 no_last [] e = refl
 no_last (x ∷ xs) e =
     let some = slice_get-get_or (x ∷ xs) (length (x ∷ xs) - 1) x (omega arith) in

@@ -10,7 +10,7 @@ from .asking import Found
 from .figures import sides_text
 from .markup import Markup, el
 from .notes import cell, state_mark, turn
-from .settings import ranked
+from .settings import ranked, ranks_text
 from .sides import Row, rows
 
 MOST = 1_000
@@ -42,14 +42,15 @@ def constraints(found: Found, answer: Answer, by_multiplier: bool = False) -> Op
         entries = [" ", el("span", sides_text(shape), class_="quiet")] if shape else None
         where = [" ", el("span", turn(source), class_="quiet")] if source.turn else None
         cells = [
-            el("td", number, class_="num", data_k=number),
-            el("td", el("a", source.place.line, href=f"#L{source.place.line}"), class_="num", data_k=lines[at]),
+            el("td", number, class_="num"),
+            el("td", el("a", source.place.line, href=f"#L{source.place.line}"), class_="num"),
             el("td", el("code", shortened(source.text)), where, entries),
         ]
-        cells += [cell(slacks[at], ranks[0][at])] * has[0] + [cell(multipliers[at], ranks[1][at])] * has[1]
+        cells += [cell(slacks[at])] * has[0] + [cell(multipliers[at])] * has[1]
         cells.append(el("td", state_mark(row, number in members)))
         idle = slacks[at] and not multipliers[at]
-        body.append(el("tr", cells, class_="idle" if idle else None))
+        order_by = [number, lines[at], None, *[rank[at] for rank, is_there in zip(ranks, has) if is_there]]
+        body.append(el("tr", cells, class_="idle" if idle else None, data_k=ranks_text(order_by)))
     heads = [el("th", name, scope="col", class_="num") for name in ("no.", "line")]
     heads.append(el("th", "constraint", scope="col"))
     if has[0]:

@@ -13,12 +13,15 @@ MOST_SHOWN = 60  # entries of an array that stand open
 
 
 def number(value: Fraction) -> Markup:
-    """A number: its decimals, and its fraction where it isn't whole, with a sign that tells whether both are equal."""
+    """A number: its decimals, and its fraction where it isn't whole, with a sign that tells whether both are equal.
+
+    A page may have thousands of them, and so one element for each: nothing is around the two.
+    """
     if value.denominator == 1:
         return text(number_text(value))
     told = decimals(value, DIGITS)
     sign = "=" if Fraction(told) == value else "≈"
-    return el("span", told, " ", el("small", f"{sign} {number_text(value)}"), class_="n")
+    return text([told, " ", el("small", f"{sign} {number_text(value)}")])
 
 
 def entry_text(shape: Sequence[int], entry: int) -> str:

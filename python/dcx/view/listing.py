@@ -1,7 +1,7 @@
 """The script, line by line, with what an answer says beside and below its lines."""
 from __future__ import annotations
 
-from typing import Mapping, Optional
+from typing import Mapping, Optional, Sequence
 
 from ..sources import Lines
 from ..values import Place
@@ -35,11 +35,18 @@ def line(lines: Lines, at: int, note: Note, place: Optional[str]) -> Markup:
         "div",
         el("span", at, class_="no"),
         el("code", marked(content, note, lines)),
-        el("div", note.beside, class_="beside") if note.beside else None,
+        margin(note.beside),
         class_=classes,
         id=place,
     )
     return text([row, el("div", note.below, class_="below") if note.below else None])
+
+
+def margin(beside: Sequence[Part]) -> Optional[Markup]:
+    """What stands beside a line, a paragraph each."""
+    if len(beside) == 1:
+        return el("p", beside[0], class_="beside")
+    return el("div", [el("p", part) for part in beside], class_="beside") if beside else None
 
 
 def marked(content: str, note: Note, lines: Lines) -> Part:

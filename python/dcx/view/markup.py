@@ -12,7 +12,7 @@ class Markup(str):
 
 
 Part = Union[str, int, None, Iterable["Part"]]
-EMPTY = {"meta", "br", "wbr", "input"}
+EMPTY = {"meta", "link", "br", "wbr", "input"}
 
 
 def text(part: Part) -> Markup:

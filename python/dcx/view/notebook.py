@@ -26,7 +26,6 @@ STYLE = """
 .dcx-answer ol.vector { display: flex; flex-wrap: wrap; gap: .25em .75em; }
 .dcx-answer ol.vector { margin: 0 0 .5em; padding: 0; list-style: none; }
 .dcx-answer ol.vector li { display: flex; flex-direction: column; }
-.dcx-answer .vector .n { display: flex; flex-direction: column; }
 .dcx-answer .wide { overflow-x: auto; }
 .dcx-answer td.num { text-align: right; white-space: nowrap; }
 .dcx-answer table { margin: 0 0 .5em; }

@@ -21,10 +21,10 @@ OBJECTIVE = {"minimize": "least objective", "maximize": "greatest objective"}
 
 @dataclass
 class Note:
-    """What stands beside a line and below it; `tone` is `binds` or `way`, where the line is to be seen from afar, and
-    `marks` are texts of the line that are marked."""
+    """What stands beside a line, a paragraph each, and below it; `tone` is `binds` or `way`, where the line is to be
+    seen from afar, and `marks` are texts of the line that are marked."""
 
-    beside: list[Markup] = field(default_factory=list)
+    beside: list[Part] = field(default_factory=list)
     below: list[Markup] = field(default_factory=list)
     tone: str = ""
     marks: list[str] = field(default_factory=list)
@@ -84,7 +84,7 @@ class Notes(dict):
         note = self[source.place.line]
         for more, values in arrays:
             if not values.shape:
-                note.beside.append(el("p", el("code", name), more, " = ", number(values.entries[0])))
+                note.beside.append([el("code", name), more, " = ", number(values.entries[0])])
             else:
                 note.below.append(named(name, values, more))
 
@@ -101,7 +101,7 @@ class Notes(dict):
             told = ["no point; gap ", el("strong", number(answer.gap))]
         else:
             return
-        self[self.sources.objective.place.line].beside.insert(0, el("p", told, class_="objective"))
+        self[self.sources.objective.place.line].beside.insert(0, told)
 
     # Constraints
 
@@ -129,7 +129,7 @@ class Notes(dict):
         if len(flat) == 1 and not flat[0].entry and not self.sources.shapes[group[0][0]]:
             note.beside.append(self.single(flat[0]))
         else:
-            note.beside.append(el("p", self.counted(group, flat, members, binding)))
+            note.beside.append(self.counted(group, flat, members, binding))
             note.below.append(self.table(group, flat))
         note.below.extend(self.without(of) for of in members)
 
@@ -140,7 +140,7 @@ class Notes(dict):
             parts.append(el("span", "slack ", number(row.slack)))
         if row.multiplier is not None:
             parts.append(el("span", "multiplier ", number(row.multiplier), class_=None if row.multiplier else "quiet"))
-        return el("p", spaced(parts))
+        return spaced(parts)
 
     def counted(self, group: list, flat: list[Row], members: list[int], binding: list[Row]) -> Part:
         """How many constraints of a line there are, and how many of them bind."""
@@ -190,10 +190,10 @@ class Notes(dict):
         lines = ", ".join(dict.fromkeys(str(source.place.line) for source in sources))
         inner = el("div", table, class_="wide", tabindex=0, role="region", aria_label=f"constraints of line {lines}")
         told = f"{left_out} entries that neither bind nor have a multiplier, or are too many, are left out here."
-        parts = [inner, el("p", told, class_="quiet") if left_out else None]
+        more = el("p", told, class_="quiet") if left_out else None
         if len(shown) > MOST_SHOWN:
-            return el("details", el("summary", f"{len(flat)} entries"), parts)
-        return el("div", parts)
+            return el("details", el("summary", f"{len(flat)} entries"), inner, more)
+        return el("div", inner, more) if left_out else inner
 
     def without(self, member: int) -> Markup:
         """A point that keeps all the others of those in the way."""
@@ -221,11 +221,9 @@ def state_mark(row: Row, is_member: bool) -> Markup:
     return el("span", "equality", class_="quiet") if row.is_equality else Markup("")
 
 
-def cell(value: Optional[Fraction], rank: Optional[int] = None) -> Markup:
-    """A cell with a number. The rank orders it among the others of its column."""
-    if value is None:
-        return el("td", class_="num", data_k=rank)
-    return el("td", number(value), class_="num", data_k=rank)
+def cell(value: Optional[Fraction]) -> Markup:
+    """A cell with a number."""
+    return el("td", None if value is None else number(value), class_="num")
 
 
 def turn(source: Source) -> Markup:

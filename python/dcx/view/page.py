@@ -23,7 +23,7 @@ from .sides import rows
 from .style import STYLE
 
 MOST_BYTES = 1_000_000  # of the answers that are folded up below each other
-MANY, MOST_BYTES_OF_MANY = 200, 300_000  # the same where so many answers have a table and plots that take their time
+MANY, MOST_BYTES_OF_MANY = 200, 180_000  # the same where so many answers have a table and plots that take their time
 AROUND = 4  # lines of a settings file around the one that is told of
 
 
@@ -44,12 +44,14 @@ def page(found: Found, parameter: Optional[str] = None, chosen: int = 1, by_mult
     asks = el("p", first[1:].strip(), class_="lead") if first.startswith("#") else None
     more = el("p", title[1]) if title[1] else None
     header = el("header", el("p", told_files(found), class_="file"), el("h1", title[0]), more, asks, title[2], links)
+    footer = el("footer", el("p", "Written by python3 -m dcx view."), id="end")
     scripts = el("script", Markup(SCRIPT))
-    body = el("body", header, el("main", sections), el("footer", el("p", "Written by python3 -m dcx view.")), scripts)
+    body = el("body", header, el("main", sections), footer, scripts)
     top = [
         el("meta", charset="utf-8"),
         el("meta", name="viewport", content="width=device-width, initial-scale=1"),
         el("meta", name="color-scheme", content="light dark"),
+        el("link", rel="expect", href="#end", blocking="render"),  # laid out once, and not again as more of it is read
         el("title", f"{file}: {title[0]}"),
         el("style", Markup(STYLE)),
     ]

@@ -12,6 +12,7 @@ from .markup import Markup, Part, el
 WIDTH, HEIGHT = 720, 320
 LEFT, RIGHT, TOP, BOTTOM = 84, 20, 28, 56
 LARGEST = Fraction(10) ** 300
+MANY = 200  # points: where there are more they are small, and the page's script writes what is told of each
 
 
 class Point(NamedTuple):
@@ -77,10 +78,12 @@ def figure(axes_parts: Part, parts: Part, caption: Part, label: str) -> Markup:
     return el("figure", svg, el("figcaption", caption))
 
 
-def dot(axes: Axes, point: Point, class_: str = "dot", radius: str = "3.5") -> Markup:
+def dot(
+    axes: Axes, point: Point, class_: Optional[str] = "dot", radius: str = "3.5", has_title: bool = True
+) -> Markup:
     """A point, with its numbers."""
     x, y = axes.at(point.x, point.y)
-    title = el("title", point.label)
+    title = el("title", point.label) if has_title else None
     exact = {"data_x": number_text(point.x), "data_y": number_text(point.y)}
     return el("circle", title, cx=x, cy=y, r=radius, class_=class_, **exact)
 
@@ -94,13 +97,13 @@ def points(
     if len(shown) < 2:
         return None
     axes = Axes([point.x for point in shown] + [x for x, _ in missing], [point.y for point in shown], whole)
-    radius = "3.5" if len(shown) <= 200 else "2"
+    is_many = len(shown) > MANY
     marks: list[Part] = []
     for at, label in missing:
         x, y = axes.at(at, axes.y[0])
         cross = f"M{x - 4:g} {y - 12:g}l8 8m0 -8l-8 8"
         marks.append(el("path", el("title", label), d=cross, class_="cross", data_x=number_text(at)))
-    dots = [dot(axes, point, radius=radius) for point in shown]
+    dots = el("g", [dot(axes, point, None, "2" if is_many else "3.5", not is_many) for point in shown], class_="dot")
     return figure(axes.drawn(x_label, y_label), [marks, dots], caption, f"{y_label} over {x_label}")
 
 

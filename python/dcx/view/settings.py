@@ -2,7 +2,7 @@
 from __future__ import annotations
 
 from fractions import Fraction
-from typing import NamedTuple, Optional, Sequence
+from typing import Iterable, NamedTuple, Optional, Sequence
 
 from .. import messages
 from ..grids import decimals
@@ -62,10 +62,8 @@ def table(found: Found, link: str, places: set[int]) -> Markup:
     body = [
         el(
             "tr",
-            [
-                el("td", column.cells[at], class_="num" if column.is_number else None, data_k=rank[at])
-                for column, rank in zip(columns, ranks)
-            ],
+            [el("td", column.cells[at], class_="num" if column.is_number else None) for column in columns],
+            data_k=ranks_text(rank[at] for rank in ranks),
         )
         for at in range(len(answers))
     ]
@@ -78,6 +76,11 @@ def ranked(keys: Sequence[object]) -> list[int]:
     order = sorted({key for key in keys if key is not None})
     at = {key: rank for rank, key in enumerate(order, 1)}
     return [0 if key is None else at[key] for key in keys]
+
+
+def ranks_text(ranks: Iterable[Optional[int]]) -> str:
+    """The ranks of a row's cells, by which the page's script puts rows in order; a hyphen where a cell has none."""
+    return " ".join("-" if rank is None else str(rank) for rank in ranks)
 
 
 def numbers(name: Part, values: Sequence[Optional[Fraction]]) -> Column:

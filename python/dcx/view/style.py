@@ -30,9 +30,7 @@ section { margin: 2.5rem 0 0; padding-top: 1.25rem; border-top: 1px solid var(--
 a { color: var(--accent); text-underline-offset: .15em; }
 :focus-visible { outline: 2px solid var(--accent); outline-offset: 2px; border-radius: 2px; }
 code, .no { font-family: var(--mono); font-size: .875em; }
-small { color: var(--quiet); font-size: .8125em; overflow-wrap: anywhere; }
-.n { white-space: nowrap; }
-.n small { white-space: normal; }
+small { color: var(--quiet); font-size: .8125em; white-space: normal; overflow-wrap: anywhere; }
 .quiet, .comment { color: var(--quiet); }
 .mark, mark { color: var(--accent); font-weight: 650; background: none; }
 mark { background: var(--tint); border-radius: 3px; padding: .1em .15em; margin: 0 -.15em; box-decoration-break: clone; -webkit-box-decoration-break: clone; }
@@ -49,7 +47,7 @@ nav ul, .facts, .downloads { display: flex; flex-wrap: wrap; gap: .25rem 1.25rem
 .line > code { white-space: pre-wrap; overflow-wrap: anywhere; line-height: 1.6; }
 .no { color: var(--quiet); text-align: right; user-select: none; line-height: 1.6; }
 .beside { font-size: .875rem; line-height: 1.5; }
-.beside p { margin: 0; }
+.beside, .beside p { margin: 0; }
 .beside i { color: var(--quiet); font-style: normal; }
 .binds { border-left-color: var(--accent); }
 .way { border-left-color: var(--accent); background: var(--tint); }
@@ -60,7 +58,6 @@ nav ul, .facts, .downloads { display: flex; flex-wrap: wrap; gap: .25rem 1.25rem
 .vector li { display: flex; flex-direction: column; padding: .125rem .5rem .1875rem; border-radius: 4px; background: var(--soft); }
 .vector .k { color: var(--quiet); font-size: .6875rem; line-height: 1.3; }
 .vector small { line-height: 1.2; }
-.vector .n { display: flex; flex-direction: column; }
 .wide { overflow-x: auto; max-width: 100%; }
 .wide + p, .wide + .quiet { margin-top: .75rem; }
 .message { padding: .625rem .875rem; border-left: 3px solid var(--accent); background: var(--soft); border-radius: 0 6px 6px 0; max-width: 46rem; }

@@ -14,9 +14,9 @@ returns-then-counts c =
     let setting = c.args.along.now.setting.now in
     let ray = c.args.along.now.ray.now in
     let i = c.args.node.0 in
-    let is : IsArgument p setting ray c.args.counts i c.kept.result.now =
-    subst (λ (b : Bool). IsArgument p setting ray b i c.kept.result.now) (sym c.if-counts.true)
-    (value_argument p setting ray c.args.along.now.values.now c.requires.given.values i c.kept.result.now (c.requires.fixed c.if-counts.true) c.kept.ensures) in
+    let is : IsArgument p setting ray c.args.counts i c.kept_value.result.now =
+    subst (λ (b : Bool). IsArgument p setting ray b i c.kept_value.result.now) (sym c.if-counts.true)
+    (value_argument p setting ray c.args.along.now.values.now c.requires.given.values i c.kept_value.result.now (c.requires.fixed c.if-counts.true) c.kept_value.ensures) in
     ok_weaker c.copy_array.result (λ (v : Array) e. subst (IsArgument p setting ray c.args.counts i) (sym e) is) c.copy_array.ensures
 
 pub returns-then-along-node : goal.returns-then-along-node

@@ -19,8 +19,8 @@ first_id : (ids : List NodeId) (x : NodeId) → length ids ≡ 1 → x ≡ get_o
 first_id [] x one is = absurd (omega (arith, one))
 first_id (a ∷ ids) x one is = ap (λ (z : NodeId). z.0) (sym is)
 
-pub kept-requires : goal.kept-requires
-kept-requires c =
+pub kept_value-requires : goal.kept_value-requires
+kept_value-requires c =
     let p = c.args.along.now.problem.now in
     let ids = c.in-Ok.ids.items in
     let one : length ids ≡ 1 = first_of (omega (arith, c.len.ensures, c.if-len-eq1.true), search rules) in
@@ -36,9 +36,9 @@ apply-requires-clause-args c =
     let one : length ids ≡ 1 = first_of (omega (arith, c.len.ensures, c.if-len-eq1.true), search rules) in
     let all : length (positions ids) ≡ 1 = let n = length-positions ids in omega (arith, n, one) in
     let first = first_id ids c.index.result.now one c.index.ensures in
-    let there = subst (λ (k : ℕ). array_at c.args.arrays.now k ≡ Some c.kept.result.now) (sym first) c.kept.ensures in
+    let there = subst (λ (k : ℕ). array_at c.args.arrays.now k ≡ Some c.kept_value.result.now) (sym first) c.kept_value.ensures in
     subst (TakesArguments a.problem.now a.setting.now a.ray.now c.args.node.0) (sym c.from_ref-only.ensures.value)
-    (only_takes a.problem.now a.setting.now a.ray.now c.args.node.0 (positions ids) c.kept.result.now c.in-Ok.ensures all (c.requires.kept.steep (get_or (positions ids) 0 0) c.kept.result.now there))
+    (only_takes a.problem.now a.setting.now a.ray.now c.args.node.0 (positions ids) c.kept_value.result.now c.in-Ok.ensures all (c.requires.kept.steep (get_or (positions ids) 0 0) c.kept_value.result.now there))
 
 pub is_first_fixed-requires-clause-there : goal.is_first_fixed-requires-clause-there
 is_first_fixed-requires-clause-there c =

@@ -1,15 +1,12 @@
 -- A number of the array that is kept, or 0.
-use Rattle.std.proofs.Common.{◌≡◌, ◌<◌, inl, inr, List, length, Option, Some, None, IsSome, sym, ap, ◌∙◌, arith}
+use Rattle.std.proofs.Common.{◌≡◌, ◌<◌, inl, inr, List, length, Some, None, IsSome, sym, ap, ◌∙◌, subst, arith}
+use Rattle.std.proofs.lemmas.Bool.{false≢true}
 use Rattle.dcx_frac.specs.declared.fraction.Frac.{Frac}
 use Rattle.dcx_atom.specs.Arrays.{number_at}
 use Rattle.dcx_tree.specs.Values.{array_at}
 use Rattle.dcx_cert_rays.proofs.Steep.{level}
 use Rattle.dcx_cert_rays.proofs.Tables.{read_at}
 use Rattle.dcx_cert_rays.proofs.table.steepness.Goals as goal
-
-none_some : {A : Type 0} (o : Option A) → o ≡ None → IsSome o → ⊥
-none_some None e h = cc
-none_some (Some x) e h = cc
 
 pub returns-in-Some : goal.returns-in-Some
 returns-in-Some c =
@@ -27,5 +24,5 @@ returns-in-None c =
     let there : array_at arrays i ≡ None = read_at arrays i c.index-arrays-node.result within c.index-arrays-node.is ∙ c.in-None.is in
     c.zero.ensures ∙ sym (elim c.requires.known [
       | inl t ↦ level c.args.along.now.problem.now c.args.along.now.setting.now c.args.along.now.ray.now i c.requires.there t c.args.entry
-      | inr some ↦ absurd (none_some (array_at arrays i) there some)
+      | inr some ↦ absurd (false≢true (subst IsSome there some))
     ])

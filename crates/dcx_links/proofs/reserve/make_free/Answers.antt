@@ -1,8 +1,7 @@
 -- The cell that is made has no number, and is the first free one.
-use Rattle.std.proofs.Common.{arith, rules, ◌≡◌, ◌<◌, length, pos, refl, sym, subst}
+use Rattle.std.proofs.Common.{arith, rules, ◌≡◌, ◌<◌, length, pos, refl, sym}
 use Rattle.dcx_links.specs.declared.store.Cell.{Cell}
 use Rattle.dcx_links.specs.Lines.{none}
-use Rattle.dcx_links.specs.Cells.{IsStore}
 use Rattle.dcx_links.proofs.Empty.{pushed, number_push}
 use Rattle.dcx_links.proofs.reserve.make_free.Goals as goal
 

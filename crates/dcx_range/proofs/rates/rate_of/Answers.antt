@@ -1,8 +1,9 @@
 -- The product is that of the definition.
 use Rattle.std.proofs.Common.{Ok, sym, ap, ◌∙◌}
 use Rattle.dcx_atom.specs.Formed.{and_then}
-use Rattle.dcx_range.specs.Operations.{opposite, kept_rate}
+use Rattle.dcx_range.specs.Operations.{kept_rate}
 use Rattle.dcx_range.proofs.Coefficients.{rate_is}
+use Rattle.dcx_std.specs.WholeRows.{opposite}
 use Rattle.dcx_range.proofs.rates.rate_of.Goals as goal
 
 pub returns-in-Ok-clause-rate : goal.returns-in-Ok-clause-rate

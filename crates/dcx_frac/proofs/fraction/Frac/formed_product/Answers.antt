@@ -9,6 +9,7 @@ use Rattle.dcx_frac.proofs.Parts.{sizes_fit, exists_exactly, has_value}
 use Rattle.dcx_frac.proofs.Products.{sign, upper, lower, left_pos, right_pos, parts_coprime, lower_pos, product_lowest}
 use Rattle.dcx_frac.proofs.fraction.Frac.formed_product.Goals as goal
 use Rattle.dcx_frac.proofs.fraction.Frac.formed_product.Goals.{After-gcd-k}
+use Rattle.dcx_frac.proofs.Results.{none_some}
 
 record Found (x y : Frac) (a b c d g k : ℕ) : Type 0 where
   g_pos : 0 < g
@@ -32,10 +33,6 @@ found c =
       num_is = ap₂ ◌*◌ (ap₂ ◌/◌ a g) (ap₂ ◌/◌ e k);
       den_is = ap₂ ◌*◌ (ap₂ ◌/◌ b k) (ap₂ ◌/◌ d g);
     }
-
-none_some : (r : Option Frac) → r ≡ None → IsSome r → ⊥
-none_some None e s = cc
-none_some (Some f) e s = cc
 
 pub nonzero_div-a : goal.nonzero_div-a
 nonzero_div-a c = (found c).g_pos

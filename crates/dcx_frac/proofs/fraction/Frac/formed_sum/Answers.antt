@@ -13,6 +13,7 @@ use Rattle.dcx_frac.proofs.Parts.{sizes_fit, exists_exactly, has_value}
 use Rattle.dcx_frac.proofs.Sums.{top, out, bottom, left_is, right_is, shared_divisor_pos, out_pos, parts_coprime, bottom_pos, sum_lowest}
 use Rattle.dcx_frac.proofs.fraction.Frac.formed_sum.Goals as goal
 use Rattle.dcx_frac.proofs.fraction.Frac.formed_sum.Goals.{After-gcd-g, After-gcd-k}
+use Rattle.dcx_frac.proofs.Results.{none_some}
 
 x_den : (c : After-gcd-g) → c.unsigned_abs-b.result ≡ unsigned_abs c.args.self.den
 x_den c = c.unsigned_abs-b.ensures.value ∙ ap unsigned_abs (back c.args.self.den c.args.self.den_fits)
@@ -32,10 +33,6 @@ left_found c = ap₂ (λ z n. z *ℤ pos n) (back c.args.self.num c.args.self.nu
 
 right_found : (c : After-gcd-g) → to_z w128 (of_z w128 c.args.other.num) *ℤ pos (c.unsigned_abs-b.result / c.gcd-g.result) ≡ right_term c.args.self c.args.other
 right_found c = ap₂ (λ z n. z *ℤ pos n) (back c.args.other.num c.args.other.num_fits) (ap₂ ◌/◌ (x_den c) (g_is c)) ∙ right_is c.args.self c.args.other
-
-none_some : (r : Option Frac) → r ≡ None → IsSome r → ⊥
-none_some None e s = cc
-none_some (Some f) e s = cc
 
 pub nonzero_div-d : goal.nonzero_div-d
 nonzero_div-d c = g_pos c

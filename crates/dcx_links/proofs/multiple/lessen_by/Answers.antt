@@ -1,22 +1,15 @@
--- The next entry is taken behind those so far.
+-- The next multiple is taken behind those so far, and its column stands before those of the others.
 use Rattle.std.proofs.Common.{rules, arith, ◌≡◌, ◌<◌, ◌^◌, ◌-ℤ◌, ◌*ℤ◌, unsigned_abs, sym, ap, ◌∙◌, subst, inl, inr, to_z-of_z, SFits}
 use Rattle.std.specs.Int.{w128}
+use Rattle.std.proofs.Math.ListN.{length-set}
 use Rattle.std.proofs.lemmas.Int.{fits_signed_from_abs}
 use Rattle.std.proofs.lemmas.Bool.{cases_eq}
-use Rattle.dcx_links.specs.Matrix.{number_at}
-use Rattle.dcx_chained.specs.NewRow.{column_at, value_at}
-use Rattle.dcx_chained.proofs.mix.lessen_row.Goals as goal
+use Rattle.dcx_links.specs.Cells.{number_in}
+use Rattle.dcx_links.specs.Entries.{column_at, value_at}
+use Rattle.dcx_links.proofs.multiple.lessen_by.Goals as goal
 
-pub overflow_mul-by : goal.overflow_mul-by
-overflow_mul-by c =
-    let es = c.args.entries.now in
-    let i = c.entries.k in
-    let fb : SFits w128 c.args.by = search rules in
-    let fv : SFits w128 (value_at es i) = search rules in
-    simp to_z-of_z (fits_signed_from_abs w128 (c.args.by *ℤ value_at es i) (c.requires.product i c.entries-test.true))
-
-pub subtract-requires-clause-fits : goal.subtract-requires-clause-fits
-subtract-requires-clause-fits c =
+pub lessen-reached-requires-clause-fits : goal.lessen-reached-requires-clause-fits
+lessen-reached-requires-clause-fits c =
     let v = c.entries.invariant in
     let es = c.args.entries.now in
     let i = c.entries.k in
@@ -24,27 +17,33 @@ subtract-requires-clause-fits c =
     let fb : SFits w128 c.args.by = search rules in
     let fv : SFits w128 (value_at es i) = search rules in
     let fp : SFits w128 (c.args.by *ℤ value_at es i) = fits_signed_from_abs w128 (c.args.by *ℤ value_at es i) (c.requires.product i lt) in
-    let was = v.same c.args.i (column_at es i) (λ _ k k_in e. let z = c.requires.rising k i k_in lt in omega (arith, z, e)) in
+    let was = v.same c.args.row (column_at es i) (λ _ k k_in e. let z = c.requires.rising k i k_in lt in omega (arith, z, e)) in
     simp to_z-of_z (subst (λ z. unsigned_abs (z -ℤ c.args.by *ℤ value_at es i) < 2 ^ 127) (sym was) (c.requires.fits i lt))
 
 pub entries-preserved : goal.entries-preserved
 entries-preserved c =
     let v = c.entries.invariant in
-    let n = c.subtract.ensures in
+    let n = c.lessen-reached.ensures in
+    let s = c.lessen-reached.new.store in
     let es = c.args.entries.now in
+    let row = c.args.row in
     let i = c.entries.k in
     let lt = c.entries-test.true in
     let fb : SFits w128 c.args.by = search rules in
     let fv : SFits w128 (value_at es i) = search rules in
     let fp : SFits w128 (c.args.by *ℤ value_at es i) = fits_signed_from_abs w128 (c.args.by *ℤ value_at es i) (c.requires.product i lt) in
-    let was = v.same c.args.i (column_at es i) (λ _ k k_in e. let z = c.requires.rising k i k_in lt in omega (arith, z, e)) in
-    let here : number_at c.subtract.new.self c.args.i (column_at es i) ≡ number_at c.args.links.now c.args.i (column_at es i) -ℤ c.args.by *ℤ value_at es i = (simp to_z-of_z at n.there) ∙ ap (λ z. z -ℤ c.args.by *ℤ value_at es i) was in
+    let was = v.same row (column_at es i) (λ _ k k_in e. let z = c.requires.rising k i k_in lt in omega (arith, z, e)) in
+    let here : number_in s row (column_at es i) ≡ number_in c.args.store.now row (column_at es i) -ℤ c.args.by *ℤ value_at es i = (simp to_z-of_z at n.there) ∙ ap (λ z. z -ℤ c.args.by *ℤ value_at es i) was in
     record {
-      height = n.height ∙ v.height;
-      width = n.width ∙ v.width;
+      sound = n.sound;
+      rows = n.rows ∙ v.rows;
+      columns = n.columns ∙ v.columns;
+      near = length-set c.entries.near (column_at es i) c.lessen-reached.result.near ∙ v.near;
+      from = n.from;
+      before = λ k le k_in. let z = c.requires.rising i k (omega (arith, le)) k_in in let y = n.within in omega (arith, z, y);
       there = λ k k_in. elim (cases_eq k i) [
-        | inl e ↦ simp to_z-of_z (subst (λ x. number_at c.subtract.new.self c.args.i (column_at es x) ≡ number_at c.args.links.now c.args.i (column_at es x) -ℤ c.args.by *ℤ value_at es x) (sym e) here)
-        | inr d ↦ let below : k < i = omega (arith, k_in, d) in let z = c.requires.rising k i below lt in simp to_z-of_z (n.same c.args.i (column_at es k) (λ h. let y = h.1 in omega (arith, z, y)) ∙ (simp to_z-of_z at (v.there k below)))
+        | inl e ↦ simp to_z-of_z (subst (λ x. number_in s row (column_at es x) ≡ number_in c.args.store.now row (column_at es x) -ℤ c.args.by *ℤ value_at es x) (sym e) here)
+        | inr d ↦ let below : k < i = omega (arith, k_in, d) in let z = c.requires.rising k i below lt in simp to_z-of_z (n.same row (column_at es k) (λ h. let y = h.1 in omega (arith, z, y)) ∙ (simp to_z-of_z at (v.there k below)))
       ];
       same = λ r d h. n.same r d (λ e. h e.0 i (omega arith) e.1) ∙ v.same r d (λ e k k_in. h e k (omega (arith, k_in)));
     }
