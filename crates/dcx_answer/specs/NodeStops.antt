@@ -7,8 +7,6 @@ use Rattle.dcx_answer.specs.declared.outcome.OutcomeEnd.{OutcomeEnd}
 use Rattle.dcx_answer.specs.declared.outcome.OutcomeEnd.TheVariants as the
 use Rattle.dcx_answer.specs.declared.filter_outcome.FilterEnd.{FilterEnd}
 use Rattle.dcx_answer.specs.declared.filter_outcome.FilterEnd.TheVariants as filter
-use Rattle.dcx_answer.specs.declared.whole_outcome.WholeEnd.{WholeEnd}
-use Rattle.dcx_answer.specs.declared.whole_outcome.WholeEnd.TheVariants as whole
 use Rattle.dcx_answer.specs.declared.range_outcome.RangeEnd.{RangeEnd}
 use Rattle.dcx_answer.specs.declared.range_outcome.RangeEnd.TheVariants as range
 
@@ -20,17 +18,14 @@ stop_names_node _ = false
 
 abbrev pub names_node : OutcomeEnd → Bool
 names_node (the.Answer answer) = false
+names_node (the.Whole answer) = false
+names_node (the.Branch stop) = false
 names_node (the.Stop stop) = stop_names_node stop
 
 abbrev pub filter_names_node : FilterEnd → Bool
 filter_names_node (filter.Filtered found) = false
 filter_names_node (filter.Filter stop) = false
 filter_names_node (filter.Stop stop) = stop_names_node stop
-
-abbrev pub whole_names_node : WholeEnd → Bool
-whole_names_node (whole.Whole answer) = false
-whole_names_node (whole.Branch stop) = false
-whole_names_node (whole.Stop stop) = stop_names_node stop
 
 abbrev pub range_names_node : RangeEnd → Bool
 range_names_node (range.Ranged ranged) = false

@@ -11,7 +11,7 @@
 //! |---|---|
 //! | multipliers are a list of arrays, one for each constraint, made and given back without taking memory | `Duals` |
 //! | so are lists of constraints, of points, of outcomes and of a tree's nodes | `Members`, `Points`, `Outcomes`, `BranchTree` |
-//! | an outcome has a place exactly where its stop names a node of the problem | `Outcome`, `FilterOutcome`, `WholeOutcome`, `RangeOutcome`, `specs/NodeStops.antt` |
+//! | an outcome has a place exactly where its stop names a node of the problem | `Outcome`, `FilterOutcome`, `RangeOutcome`, `specs/NodeStops.antt` |
 //! | of the stops and faults, the empty allocation is want of memory | `FilterStop`, `RangeStop`, `BranchStop`, `CertFault` |
 #![tactic(auto)]
 
@@ -30,7 +30,6 @@ mod ranged;
 mod site;
 mod stop;
 mod whole_answer;
-mod whole_outcome;
 
 pub use answer::Answer;
 pub use branch_tree::{BoundWeight, BoundWeights, BranchNode, BranchTree};
@@ -47,4 +46,3 @@ pub use ranged::Ranged;
 pub use site::Site;
 pub use stop::Stop;
 pub use whole_answer::{BranchStop, WholeAnswer};
-pub use whole_outcome::{WholeEnd, WholeOutcome, WholeOutcomes};

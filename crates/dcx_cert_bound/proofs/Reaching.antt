@@ -41,7 +41,7 @@ variable_named name (Some (calls.Linear l)) e = absurd (false≢true e)
 variable_named name (Some (calls.Pairing q)) e = absurd (false≢true e)
 
 module _ (p : Problem) where
-  bare : (i : ℕ) (n : Node) (v : Variable) → IsNode p.tree i n → n.call ≡ calls.Variable v → n.args ≡ []
+  pub bare : (i : ℕ) (n : Node) (v : Variable) → IsNode p.tree i n → n.call ≡ calls.Variable v → n.args ≡ []
   bare i n v at is =
       no_nodes (sides_at p.tree) n.args
       (no_sides (sides_of v.shape) (map (sides_at p.tree) n.args) n.sides (ap (λ c. shape_of c (map (sides_at p.tree) n.args)) (sym is) ∙ p.nodes.shaped i n at))

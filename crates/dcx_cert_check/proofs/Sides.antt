@@ -1,12 +1,10 @@
 -- What kept values tell of the constraints and of the objective.
-use Rattle.std.proofs.Common.{◌≡◌, ℕ, ◌<◌, true, List, [], ◌∷◌, length, Some, option_map, Result, refl, sym, ap, ap₂, ◌∙◌, subst}
+use Rattle.std.proofs.Common.{◌≡◌, ℕ, ◌<◌, true, List, [], ◌∷◌, length, Some, Result, refl, sym, ap, ap₂, ◌∙◌, subst}
 use Rattle.std.specs.List.{slice_get, All}
 use Rattle.std.proofs.lemmas.List.Elements.{All-nil, All-cons}
-use Rattle.std.proofs.Math.Logic.{∥∥₁_elim}
 use Rattle.std.proofs.Math.Path.{fun_ext}
-use Rattle.std.proofs.lemmas.Option.{slice_get-map, slice_get_within, get_or_from_slice_get}
+use Rattle.std.proofs.lemmas.Option.{slice_get_within, get_or_from_slice_get}
 use Rattle.dcx_math.specs.Rational.{ℚ}
-use Rattle.dcx_math.proofs.Orders.{≡ℚ_prop}
 use Rattle.dcx_frac.specs.declared.fraction.Frac.{Frac}
 use Rattle.dcx_frac.specs.Frac.{value}
 use Rattle.dcx_shape.specs.Shape.{sides_of}
@@ -21,19 +19,16 @@ use Rattle.dcx_arena.specs.Gather.{has}
 use Rattle.dcx_arena.specs.Unfold.{IsReached}
 use Rattle.dcx_tree.specs.Nodes.{Node}
 use Rattle.dcx_convex.specs.Problems.{minimized}
-use Rattle.dcx_call.specs.declared.call.Call.{Call}
-use Rattle.dcx_call.specs.declared.call.Call.TheVariants as calls
 use Rattle.dcx_tree.specs.declared.constraint.Kind.{Kind}
 use Rattle.dcx_tree.specs.declared.constraint.Constraint.{Constraint}
 use Rattle.dcx_tree.specs.declared.problem.Problem.{Problem}
-use Rattle.dcx_tree.specs.Problems.{IsListed, AreDeclared}
-use Rattle.dcx_tree.specs.Meaning.{names_in, sense_of, value_at, objective_at, setting_of, point_of}
-use Rattle.dcx_tree.specs.Values.{IsNamed, AreNamed, IsValueOf}
-use Rattle.dcx_tree.proofs.Sublists.{contains_at}
+use Rattle.dcx_tree.specs.Meaning.{sense_of, value_at, objective_at, setting_of, point_of}
+use Rattle.dcx_tree.specs.Values.{IsValueOf}
 use Rattle.dcx_answer.specs.declared.cert_fault.CertFault.{CertFault}
 use Rattle.dcx_answer.specs.declared.cert_fault.CertFault.TheVariants as faults
 use Rattle.dcx_cert_sections.specs.Checks.{Checked}
 use Rattle.dcx_cert_values.specs.Broken.{IsFirstBroken}
+use Rattle.dcx_cert_bound.proofs.OneTable.{number_is_value}
 use Rattle.dcx_cert_check.specs.SingleChecks.{numbers_hold, entries_hold}
 
 -- a root is reached
@@ -47,17 +42,6 @@ sides_there p k c at =
     (All-cons (λ r. r < length p.tree) c.right.0 [] (p.constraints_kept.right k c at).there (All-nil (λ r. r < length p.tree)))
 
 -- ---- a kept value is the value of its node
-call_named : (p : Problem) (call : Call) → IsListed p.variables p.parameters call → IsNamed (names_in p) call
-call_named p (calls.Variable v) l = let (k, at) = contains_at p.variables v l in (k, slice_get-map (λ v. v.name) p.variables k ∙ ap (option_map (λ v. v.name)) at)
-call_named p (calls.Parameter q) l = let (k, at) = contains_at p.parameters q l in (k, slice_get-map (λ q. q.name) p.parameters k ∙ ap (option_map (λ q. q.name)) at)
-call_named p (calls.Constant x) l = tt
-call_named p (calls.Atom m) l = tt
-call_named p (calls.Linear m) l = tt
-call_named p (calls.Pairing m) l = tt
-
-all_named : (p : Problem) → AreDeclared p.tree p.variables p.parameters → (i : ℕ) → AreNamed p.tree (names_in p) i
-all_named p d i j n reached there = call_named p n.call (d.listed j n there)
-
 -- the number that stands at a place of a list
 number_read : (xs : List Frac) (j : ℕ) (x : Frac) → slice_get xs j ≡ Some x → value x ≡ number_at xs j
 number_read xs j x at = number_is xs j x (slice_get_within xs j x at) (sym (get_or_from_slice_get xs j x x at))
@@ -66,13 +50,9 @@ number_told : (xs : List Frac) (j : ℕ) (x : Frac) → slice_get xs j ≡ Some 
 number_told xs j x at = sym (frac_at-value x) ∙ ap frac_at (number_read xs j x at)
 
 module _ (p : Problem) (setting point : Pairs) where
-  pub number_is_value : (i : ℕ) (v : Array) → IsValueOf p.tree setting point i v → (j : ℕ) → number_at v.entries j ≡ value_at p (setting_of p setting) (point_of p point) i j
-  number_is_value i v is j =
-      ∥∥₁_elim p.declared (≡ℚ_prop (number_at v.entries j) (value_at p (setting_of p setting) (point_of p point) i j)) (λ d. is.numbers (names_in p) (all_named p d i) j)
-
   -- the numbers of a kept array are the values of its node
   pub numbers_are_values : (i : ℕ) (v : Array) → IsValueOf p.tree setting point i v → number_at v.entries ≡ value_at p (setting_of p setting) (point_of p point) i
-  numbers_are_values i v is = fun_ext (number_is_value i v is)
+  numbers_are_values i v is = fun_ext (number_is_value p setting point i v is)
 
   -- so what holds of the numbers of both sides holds of their values
   pub sides_are : (k : ℕ) (c : Constraint) (left right : Array) → slice_get p.constraints k ≡ Some c → IsValueOf p.tree setting point c.left.0 left → IsValueOf p.tree setting point c.right.0 right →
@@ -88,7 +68,7 @@ module _ (p : Problem) (setting point : Pairs) where
   -- the number of the objective is the objective
   pub objective_is_value : (v : Array) → IsValueOf p.tree setting point p.objective.0 v → (x : ℚ) → x ≡ minimized (sense_of p.sense) (number_at v.entries 0)
       → x ≡ objective_at p (setting_of p setting) (point_of p point)
-  objective_is_value v is x e = e ∙ ap (minimized (sense_of p.sense)) (number_is_value p.objective.0 v is 0)
+  objective_is_value v is x e = e ∙ ap (minimized (sense_of p.sense)) (number_is_value p setting point p.objective.0 v is 0)
 
 -- ---- the first entry that breaks a constraint
 pub broken_fails : (kind : Kind) (left right : List Frac) (k entry : ℕ) (x y : Frac) → IsFirstBroken kind left right entry x y

@@ -1,7 +1,7 @@
 -- The pass raises no bound: the total, what reaches the variables and what isn't handed on yet, times the values, never rise.
 use Rattle.std.proofs.Common.{◌≡◌, ◌⊎◌, ℕ, zero, suc, ◌+◌, ◌<◌, ◌≤◌, arith, Bool, true, false, List, [], ◌∷◌, ◌++◌, map, length, take, drop, get_or, refl, sym, ap, ap₂, ◌∙◌, subst, inl, inr, Option, Some, None, IsSome, Result, Ok, Err, IfOk, slice_get, pos}
 use Rattle.std.specs.Prelude.{option_map, unwrap_or}
-use Rattle.std.proofs.lemmas.List.{length-map, length-take-le, take-append-drop, get_or-map}
+use Rattle.std.proofs.lemmas.List.{length-take-le, take-append-drop, get_or-map}
 use Rattle.std.proofs.lemmas.Option.{slice_get-get_or}
 use Rattle.dcx_math.specs.Rational.{ℚ, whole, ◌+ℚ◌, ◌*ℚ◌, ◌/ℚ◌, ◌≤ℚ◌}
 use Rattle.dcx_math.specs.Sums.{rat_sum_below, rat_sum_by}
@@ -32,8 +32,8 @@ use Rattle.dcx_call.specs.declared.call.Call.{Call}
 use Rattle.dcx_call.specs.declared.call.Call.TheVariants as calls
 use Rattle.dcx_call.specs.Atoms.{atom_meaning, atom_lawful}
 use Rattle.dcx_call.specs.Linears.{linear_meaning, linear_lawful}
-use Rattle.dcx_call.specs.Calls.{shape_of, sides_of_two}
-use Rattle.dcx_atom.specs.Fractions.{HaveFewEntries, AreFractionSlopes}
+use Rattle.dcx_call.specs.Calls.{shape_of}
+use Rattle.dcx_atom.specs.Fractions.{AreFractionSlopes}
 use Rattle.dcx_call.proofs.Coefficients.{coefficients_fit}
 use Rattle.dcx_tree.specs.Nodes.{Names, Node, pairs_of, head_of, arg_sides}
 use Rattle.dcx_tree.specs.Values.{array_at}
@@ -45,11 +45,12 @@ use Rattle.dcx_cert_collect.specs.Calls.{unless, slopes_stop, slope_shares, slop
 use Rattle.dcx_cert_collect.specs.declared.pairs.Scaling.TheVariants.{ByRight, ByLeft, Divided}
 use Rattle.dcx_cert_collect.specs.Pass.{Kept, begin, or_passes, handed, with_below, with_total, counted, reached_by, reached_if, call_shares, pairing_hands, shares_if, node_reached, node_shares, HaveFractions, passed, step, then_on, pass_down}
 use Rattle.dcx_cert_collect.specs.Laws.{table_times, reached_times, HasKnownSide, MayHandOn, AreKnown}
-use Rattle.dcx_cert_collect.proofs.Starting.{start_next, start_within, start_all}
+use Rattle.dcx_cert_collect.proofs.Starting.{start_all}
 use Rattle.dcx_cert_collect.proofs.Passing.{same_Ok, own_count, start_inside, passed_count}
 use Rattle.dcx_cert_collect.proofs.Flat.{frac_value, dot, dot-nil, dot-append, dot-sum, dot-table, flat, flat-place}
 use Rattle.dcx_cert_collect.proofs.Bound.{number_of, IsBefore}
-use Rattle.dcx_cert_collect.proofs.Points.{first_in, at_point, node_value, place_number, place_before, some_item}
+use Rattle.dcx_cert_collect.proofs.Points.{first_in, at_point, node_value, place_number, some_item}
+use Rattle.dcx_cert_collect.proofs.ArgSides.{two_sides, as_many, args_before, args_there, few_sides}
 use Rattle.dcx_cert_collect.proofs.Worth.{linear_worth, products_worth_right, products_worth_left, quotients_worth, slopes_worth}
 
 -- ---- sums
@@ -95,12 +96,6 @@ not_stopped : (t u : List Frac) (i : ℕ) (o : Option SlopeStop) (shares : List 
 not_stopped t u i None shares e = (refl, below_of t u shares e)
 not_stopped t u i (Some stop) shares e = cc
 
-two_sides : (p : Pairing) (ss : List Sides) (sides : Sides) → sides_of_two p ss ≡ Some sides → length ss ≡ 2
-two_sides p [] sides e = cc
-two_sides p (a ∷ []) sides e = cc
-two_sides p (a ∷ b ∷ []) sides e = omega arith
-two_sides p (a ∷ b ∷ c ∷ rest) sides e = cc
-
 -- the shares of a node by its call and its arguments
 abbrev shares_at : List Node → List (Option Array) → ℕ → Option Call → List ℕ → (cs ws : List Frac) → Result (List Share) CollectStop
 shares_at nodes values i None args cs ws = Ok []
@@ -137,9 +132,6 @@ module _ (names : Names) (nodes : List Node) (are : AreNodes shape_of nodes) (s 
   abbrev own_times : ℕ → List Frac → ℚ
   own_times i cs = rat_sum_below (length cs) (λ j. number_at cs j *ℚ f i j)
 
-  few : (i : ℕ) → i < length nodes → entries_of (sides_of_node nodes i) ≤ 20000
-  few i b = omega (arith, start_next nodes i b, start_within nodes (i + 1), are.room.few_entries)
-
   -- the value of a call at its arguments
   entries_are : (size : ℕ) (cs : List Frac) (i : ℕ) (v : Numbers) → length cs ≡ size → ((j : ℕ) → j < size → f i j ≡ v j) → rat_sum_below (length cs) (λ j. number_at cs j *ℚ v j) ≡ own_times i cs
   entries_are size cs i v count is = rat_sum_below-same (length cs) _ _ (λ j b. ap (λ z. number_at cs j *ℚ z) (sym (is j (omega (arith, b, count)))))
@@ -156,23 +148,13 @@ module _ (names : Names) (nodes : List Node) (are : AreNodes shape_of nodes) (s 
     a = arguments (map f n.args)
 
     before : (k e : ℕ) → IsBefore (start_of nodes i) (place_of nodes (slice_get n.args k) e)
-    before = place_before nodes n.args i (omega (arith, b)) (are.earlier i n at)
+    before = args_before nodes are i b n at
 
     placed : (k e : ℕ) → number_of F (place_of nodes (slice_get n.args k) e) ≡ a k e
-    placed = place_number names nodes are s y n.args (λ k d c. lower (get_or n.args k d) (are.earlier i n at k d c))
-      where
-        lower : (j : ℕ) → j < i → j < length nodes
-        lower j c = omega (arith, b, c)
+    placed = place_number names nodes are s y n.args (args_there nodes are i b n at)
 
     many : length n.args ≡ length ss
-    many = sym (length-map n.args (sides_of_node nodes))
-
-    few_sides : HaveFewEntries ss
-    few_sides = λ k d c. subst (λ (r : Sides). entries_of r ≤ 20000) (sym (get_or-map (sides_of_node nodes) n.args k 0 d (omega (arith, c, many))))
-        (few (get_or n.args k 0) (lower (get_or n.args k 0) (are.earlier i n at k 0 (omega (arith, c, many)))))
-      where
-        lower : (j : ℕ) → j < i → j < length nodes
-        lower j c = omega (arith, b, c)
+    many = as_many nodes n
 
     shaped : shape_of n.call ss ≡ Some n.sides
     shaped = are.shaped i n at
@@ -237,7 +219,7 @@ module _ (names : Names) (nodes : List Node) (are : AreNodes shape_of nodes) (s 
         let m = linear_meaning l in
         let shape : m.shape ss ≡ Some n.sides = subst (λ c. shape_of c ss ≡ Some n.sides) same shaped in
         level _ _ _ _
-        (linear_worth nodes n.args F (start_of nodes i) a before placed m ss cs (λ j c. coefficients_fit l ss n.sides j shape (omega (arith, c, size)) few_sides)
+        (linear_worth nodes n.args F (start_of nodes i) a before placed m ss cs (λ j c. coefficients_fit l ss n.sides j shape (omega (arith, c, size)) (few_sides nodes are i b n at))
         (λ j c. (linear_lawful l).linearity ss n.sides shape j (omega (arith, c, size)) a) t u start (below_of t u (linear_shares nodes n.args cs (m.terms ss)) e))
         (entries_are (entries_of n.sides) cs i (m.value ss a) size (λ j c. value_is (calls.Linear l) same j ∙ first_in (entries_of n.sides) (m.value ss a) j c))
     call_bound (calls.Atom g) same may fit e =

@@ -8,6 +8,7 @@ pub mod Passing
 pub mod Flat
 pub mod Bound
 pub mod Points
+pub mod ArgSides
 pub mod Worth
 pub mod Bounded
 pub mod Multiplied

@@ -1,6 +1,6 @@
 -- What bounds the total and all that reaches the variables, at all points of the domain: the total is bounded, and what reaches each
 -- variable is in the dual cone of its attribute.
-use Rattle.std.proofs.Common.{◌≡◌, ◌≢◌, ℕ, ◌+◌, ◌<◌, arith, Bool, true, false, List, [], ◌∷◌, map, length, Option, Some, None, refl, sym, ap, ap₂, ◌∙◌, subst, pos}
+use Rattle.std.proofs.Common.{◌≡◌, ◌≢◌, ℕ, ◌+◌, ◌<◌, arith, Bool, true, false, List, [], ◌∷◌, length, Option, Some, None, refl, sym, ap, ap₂, ◌∙◌, subst, pos}
 use Rattle.std.specs.Prelude.{if◌then◌else◌, nat_lt}
 use Rattle.std.specs.List.{All, slice_get}
 use native.Mathlib.Decide.{ℕ_discrete}
@@ -19,15 +19,14 @@ use Rattle.dcx_shape.specs.Shape.{sides_of}
 use Rattle.dcx_shape.specs.Sides.{entries_of}
 use Rattle.dcx_atom.specs.Arrays.{number_at}
 use Rattle.dcx_point.proofs.Puts.{same_name-refl, same_name-true}
-use Rattle.dcx_arena.specs.Nodes.{IsNode, call_at, sides_at}
+use Rattle.dcx_arena.specs.Nodes.{call_at}
 use Rattle.dcx_convex.specs.Nodes.{Attribute, Free, Nonneg, Nonpos, Symmetric, Diag, Numbers, Point, Keeps, first_of, zeros}
 use Rattle.dcx_convex.specs.Certificates.{times, IsInDualCone}
 use Rattle.dcx_call.specs.declared.attribute.Variable.{Variable}
 use Rattle.dcx_call.specs.declared.call.Call.{Call}
 use Rattle.dcx_call.specs.declared.call.Call.TheVariants as calls
-use Rattle.dcx_call.specs.Calls.{shape_of}
 use Rattle.dcx_tree.specs.declared.problem.Problem.{Problem}
-use Rattle.dcx_tree.specs.Nodes.{Node, number_in, variable_attribute}
+use Rattle.dcx_tree.specs.Nodes.{number_in, variable_attribute}
 use Rattle.dcx_tree.specs.Problems.{AreDeclared}
 use Rattle.dcx_tree.specs.Meaning.{names_in, IsInDomain}
 use Rattle.dcx_tree.proofs.Names.{found_in}
@@ -39,7 +38,7 @@ use Rattle.dcx_cert_collect.specs.Laws.{reached_times}
 use Rattle.dcx_cert_collect.proofs.Points.{first_in, first_past}
 use Rattle.dcx_cert_bound.specs.Variables.{is_named, reaching}
 use Rattle.dcx_cert_bound.proofs.Falling.{AreFalling}
-use Rattle.dcx_cert_bound.proofs.Reaching.{listed, no_sides, no_nodes}
+use Rattle.dcx_cert_bound.proofs.Reaching.{bare, listed}
 use Rattle.dcx_cert_complete.specs.Families.{variable_by, variable_if, variable_numbers}
 use Rattle.dcx_cert_complete.proofs.Scaling.{bounded_multiples}
 use Rattle.dcx_cert_complete.proofs.Sums.{further_zero}
@@ -101,15 +100,11 @@ module _ (p : Problem) (d : AreDeclared p.tree p.variables p.parameters) where
       let number : k ≡ m = sym (number_is p d k v at) ∙ ap (number_in (names_in p).variables) same ∙ number_is p d m w there in
       same_Some v w (sym at ∙ ap (slice_get p.variables) number ∙ there)
 
-  bare : (i : ℕ) (n : Node) (v : Variable) → IsNode p.tree i n → n.call ≡ calls.Variable v → n.args ≡ []
-  bare i n v at is =
-      no_nodes (sides_at p.tree) n.args (no_sides (sides_of v.shape) (map (sides_at p.tree) n.args) n.sides (ap (λ c. shape_of c (map (sides_at p.tree) n.args)) (sym is) ∙ p.nodes.shaped i n at))
-
   one_node : (i j : ℕ) (v : Variable) → call_at p.tree i ≡ Some (calls.Variable v) → call_at p.tree j ≡ Some (calls.Variable v) → i ≡ j
   one_node i j v a b =
       let (m, here, is) = found_in (slice_get p.tree i) (calls.Variable v) a in
       let (n, there, are) = found_in (slice_get p.tree j) (calls.Variable v) b in
-      p.nodes.distinct i j m n here there (record { same_call = is ∙ sym are; same_args = bare i m v here is ∙ sym (bare j n v there are) })
+      p.nodes.distinct i j m n here there (record { same_call = is ∙ sym are; same_args = bare p i m v here is ∙ sym (bare p j n v there are) })
 
   module _ (k : ℕ) (v : Variable) (at : slice_get p.variables k ≡ Some v) where
     -- a node of its name is its node

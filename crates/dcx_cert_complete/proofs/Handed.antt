@@ -3,7 +3,7 @@
 use Rattle.std.proofs.Common.{◌≡◌, ◌⊎◌, ℕ, zero, suc, ◌+◌, ◌<◌, ◌≤◌, arith, List, [], ◌∷◌, ◌++◌, map, length, get_or, All, refl, sym, ap, ap₂, ◌∙◌}
 use Rattle.std.proofs.Common.{subst, append-nil, Option, Some, None, Result, Ok, Err, slice_get, pos, ⊎_elim}
 use Rattle.std.proofs.lemmas.Bool.{false≢true}
-use Rattle.std.proofs.lemmas.List.{length-map, get_or-map}
+use Rattle.std.proofs.lemmas.List.{get_or-map}
 use Rattle.std.specs.Prelude.{option_map}
 use Rattle.dcx_math.specs.Rational.{ℚ, whole, ◌+ℚ◌, ◌*ℚ◌, ◌-ℚ◌, ◌≤ℚ◌}
 use Rattle.dcx_math.specs.Sums.{rat_sum_below}
@@ -33,7 +33,7 @@ use Rattle.dcx_atom.specs.Duality.{no_entries, no_filling, balance}
 use Rattle.dcx_affine.specs.declared.pairing.Pairing.{Pairing}
 use Rattle.dcx_affine.specs.declared.pairing.Pairing.TheVariants.{Times, MatTimes, Over}
 use Rattle.dcx_affine.specs.Pairing.{pairs_at}
-use Rattle.dcx_arena.specs.Nodes.{AreNodes, IsNode, sides_at as sides_of_node}
+use Rattle.dcx_arena.specs.Nodes.{AreNodes, IsNode}
 use Rattle.dcx_convex.specs.Nodes.{Numbers, Setting, Point, arguments, zeros}
 use Rattle.dcx_convex.proofs.Told.{map-same}
 use Rattle.dcx_call.specs.declared.atoms.AtomCall.{AtomCall}
@@ -41,10 +41,10 @@ use Rattle.dcx_call.specs.declared.call.Call.{Call}
 use Rattle.dcx_call.specs.declared.call.Call.TheVariants as calls
 use Rattle.dcx_call.specs.Atoms.{atom_meaning, atom_lawful}
 use Rattle.dcx_call.specs.Linears.{linear_meaning, linear_lawful}
-use Rattle.dcx_call.specs.Calls.{shape_of, sides_of_two}
+use Rattle.dcx_call.specs.Calls.{shape_of}
 use Rattle.dcx_atom.proofs.Fractions.{value-frac_at}
 use Rattle.dcx_call.proofs.CallLaws.{own_is}
-use Rattle.dcx_atom.specs.Fractions.{HaveFewEntries, HasFractionSlopes}
+use Rattle.dcx_atom.specs.Fractions.{HasFractionSlopes}
 use Rattle.dcx_call.proofs.Coefficients.{coefficients_fit}
 use Rattle.dcx_tree.specs.Nodes.{Names, Node, arg_sides, number_in}
 use Rattle.dcx_shape.specs.Shape.{sides_of}
@@ -58,11 +58,11 @@ use Rattle.dcx_cert_collect.specs.Starts.{start_of, place_of}
 use Rattle.dcx_cert_collect.specs.Calls.{share_to, first_of_entries, unless, slopes_stop, slope_shares, slope_frac, linear_shares}
 use Rattle.dcx_cert_collect.specs.Pass.{reached_by, call_shares, pairing_hands}
 use Rattle.dcx_cert_collect.specs.Laws.{reached_times, HasKnownSide, AreKnown}
-use Rattle.dcx_cert_collect.proofs.Starting.{start_next, start_within}
 use Rattle.dcx_cert_collect.proofs.Passing.{same_Ok}
 use Rattle.dcx_cert_collect.proofs.Flat.{dot, flat}
 use Rattle.dcx_cert_collect.proofs.Bound.{number_of, IsBefore, worth_of, below_dot, joined_dot, IsWorth}
-use Rattle.dcx_cert_collect.proofs.Points.{first_in, argument_place, place_before}
+use Rattle.dcx_cert_collect.proofs.Points.{first_in, argument_place}
+use Rattle.dcx_cert_collect.proofs.ArgSides.{two_sides, as_many, args_before, args_there, few_sides}
 use Rattle.dcx_cert_collect.proofs.Worth.{linear_worth, products_worth_right, products_worth_left, quotients_worth}
 use Rattle.dcx_cert_complete.specs.Families.{IsFamily, AreFilled, AreWeighed, atom_rows, call_rows, rows_below, variable_if, variable_numbers}
 use Rattle.dcx_cert_complete.proofs.Scaling.{times_filling, balance_times, nothing_lowers}
@@ -75,12 +75,6 @@ IsPassing (stops.Slope node entry stated found) = ⊥
 IsPassing (stops.Passes passes) = Unit {0}
 IsPassing stops.Memory = ⊥
 
-two_sides : (p : Pairing) (ss : List Sides) (sides : Sides) → sides_of_two p ss ≡ Some sides → length ss ≡ 2
-two_sides p [] sides e = cc
-two_sides p (a ∷ []) sides e = cc
-two_sides p (a ∷ b ∷ []) sides e = omega arith
-two_sides p (a ∷ b ∷ c ∷ rest) sides e = cc
-
 carried : (v c r d o q u l z : ℚ) → v ≤ℚ c +ℚ r +ℚ (d +ℚ o) +ℚ (l +ℚ z) → u +ℚ q ≡ d +ℚ o → z ≡ whole (pos 0) → v ≤ℚ c +ℚ (r +ℚ q) +ℚ u +ℚ l
 carried v c r d o q u l z h e f = linear (v ∷ c ∷ r ∷ d ∷ o ∷ q ∷ u ∷ l ∷ z ∷ []) (+ℚ-≤ℚ h (+ℚ-≤ℚ (≤ℚ-from_≡ (sym e)) (≤ℚ-from_≡ f))) (search reads depth 40 fits 20000) tt
 
@@ -89,9 +83,6 @@ module _ (names : Names) (nodes : List Node) (are : AreNodes shape_of nodes) (s 
   -- P holds at each point of the domain, all unknowns of their kinds and the arrays that stand there
   abbrev pub Everywhere : (Point → (ℕ → Filling) → (ℕ → Numbers) → Type 0) → Type 0
   Everywhere P = (x : Point) → D x → (t : ℕ → Filling) → AreFilled nodes values t → (g : ℕ → Numbers) → IsFamily names nodes s values x t g → P x t g
-
-  few : (i : ℕ) → i < length nodes → entries_of (sides_of_node nodes i) ≤ 20000
-  few i b = omega (arith, start_next nodes i b, start_within nodes (i + 1), are.room.few_entries)
 
   module _ (i : ℕ) (b : i < length nodes) (n : Node) (at : IsNode nodes i n) (none : array_at values i ≡ None) (cs t0 : List Frac) (size : length cs ≡ entries_of n.sides)
       (start : length t0 ≡ start_of nodes i)
@@ -120,20 +111,13 @@ module _ (names : Names) (nodes : List Node) (are : AreNodes shape_of nodes) (s 
 
     -- ---- where the arguments stand
     before : (k e : ℕ) → IsBefore (start_of nodes i) (place_of nodes (slice_get n.args k) e)
-    before = place_before nodes n.args i (omega (arith, b)) (are.earlier i n at)
+    before = args_before nodes are i b n at
 
     there : All (λ k. k < length nodes) n.args
-    there = λ k d c. lower (get_or n.args k d) (are.earlier i n at k d c)
-      where
-        lower : (j : ℕ) → j < i → j < length nodes
-        lower j c = omega (arith, b, c)
+    there = args_there nodes are i b n at
 
     many : length n.args ≡ length ss
-    many = sym (length-map n.args (sides_of_node nodes))
-
-    few_sides : HaveFewEntries ss
-    few_sides = λ k d c. subst (λ (r : Sides). entries_of r ≤ 20000) (sym (get_or-map (sides_of_node nodes) n.args k 0 d (omega (arith, c, many))))
-        (few (get_or n.args k 0) (there k 0 (omega (arith, c, many))))
+    many = as_many nodes n
 
     shaped : (call : Call) → n.call ≡ call → shape_of call ss ≡ Some n.sides
     shaped call same = subst (λ c. shape_of c ss ≡ Some n.sides) same (are.shaped i n at)
@@ -171,7 +155,7 @@ module _ (names : Names) (nodes : List Node) (are : AreNodes shape_of nodes) (s 
           let shape : m.shape ss ≡ Some n.sides = shaped (calls.Linear l) same in
           let law : (j : ℕ) → j < entries_of n.sides → m.value ss (a g) j ≡ _ = λ j c. (linear_lawful l).linearity ss n.sides shape j c (a g) in
           exact_of u (m.value ss (a g)) (λ j c. told (calls.Linear l) same j c ∙ sym (law j c))
-          (linear_worth nodes n.args (flat nodes g) (start_of nodes i) (a g) before placed m ss cs (λ j c. coefficients_fit l ss n.sides j shape (omega (arith, c, size)) few_sides)
+          (linear_worth nodes n.args (flat nodes g) (start_of nodes i) (a g) before placed m ss cs (λ j c. coefficients_fit l ss n.sides j shape (omega (arith, c, size)) (few_sides nodes are i b n at))
           (λ j c. law j (omega (arith, c, size))) t0 u start e)
 
       pub times_exact : (o r : Option Array) → array_at values (get_or n.args 0 0) ≡ o → array_at values (get_or n.args 1 0) ≡ r → n.call ≡ calls.Pairing Times → HasKnownSide Times o r

@@ -1,8 +1,7 @@
 -- What holds of the outcomes of settings at which a question is asked of a session's program.
-use Rattle.std.proofs.Common.{◌≡◌, ◌≢◌, ◌⊎◌, inl, inr, ℕ, ◌+◌, ◌<◌, List, [], ◌∷◌, ◌++◌, length, take, get_or, Option, Result, Ok, Err, refl, sym, ap, ◌∙◌, subst}
+use Rattle.std.proofs.Common.{◌≡◌, ◌≢◌, ◌⊎◌, inl, inr, List, Option, Result, Ok, Err, refl, sym, ap, ◌∙◌, subst}
 use Rattle.std.specs.Prelude.{IfOk}
 use Rattle.std.specs.List.{AllZip}
-use Rattle.std.proofs.lemmas.Slice.Zip.{all_zipped_more}
 use Rattle.dcx_shape.specs.declared.place.Place.{Place}
 use Rattle.dcx_frac.specs.declared.fraction.Frac.{Frac}
 use Rattle.dcx_point.specs.Pairs.{Pairs}
@@ -18,30 +17,9 @@ use Rattle.dcx_graph.specs.Program.{Program}
 use Rattle.dcx_cache.specs.Programs.{SessionGives, IsUnformed, ProgramStops}
 use Rattle.dcx_cache.specs.Stops.{program_stop}
 use Rattle.dcx_cache.proofs.OneEnd.{one_program, program_apart, same_program, unfit}
-use Rattle.dcx_outcomes.specs.Asking.{EndsAt, node_place, IsAskedOutcome, AreAskedOutcomes, IsRightAt, FindsRight, WantsMemory, IsSameEnd, AreOneEnd}
+use Rattle.dcx_outcomes.specs.Asking.{EndsAt, node_place, IsAskedOutcome, AreAskedOutcomes, IsRightAt, FindsRight, IsSameEnd, AreOneEnd}
 use Rattle.dcx_outcomes.specs.Outcomes.{stop_place}
-use Rattle.dcx_outcomes.proofs.More.{one_taken}
-
--- ---- lists
--- one element more
-pub zip_more : {A B : Type 0} (R : A → B → Type 0) (xs : List A) (ys items : List B) (i : ℕ) (x : A) (y : B) → i < length xs → x ≡ get_or xs i x → items ≡ ys ++ y ∷ [] → AllZip R (take i xs) ys → R x y → AllZip R (take (i + 1) xs) items
-zip_more R xs ys items i x y lt is pushed h k =
-    subst (AllZip R (take (i + 1) xs)) (sym pushed) (subst (λ zs. AllZip R zs (ys ++ y ∷ [])) (sym (one_taken xs i x lt is)) (all_zipped_more R (take i xs) ys x y h k))
-
-zip_weaker : {A B : Type 0} (R S : A → B → Type 0) → ((a : A) (b : B) → R a b → S a b) → (xs : List A) (ys : List B) → AllZip R xs ys → AllZip S xs ys
-zip_weaker R S f [] [] h = tt
-zip_weaker R S f [] (y ∷ ys) h = absurd h
-zip_weaker R S f (x ∷ xs) [] h = absurd h
-zip_weaker R S f (x ∷ xs) (y ∷ ys) h = (f x y h.0, zip_weaker R S f xs ys h.1)
-
--- two lists beside one list stand beside each other
-zip_both : {A B : Type 0} (R : A → B → Type 0) (S : B → B → Type 0) → ((a : A) (b c : B) → R a b → R a c → S b c) → (xs : List A) (ys zs : List B) → AllZip R xs ys → AllZip R xs zs → AllZip S ys zs
-zip_both R S f [] [] [] h k = tt
-zip_both R S f [] [] (z ∷ zs) h k = absurd k
-zip_both R S f [] (y ∷ ys) zs h k = absurd h
-zip_both R S f (x ∷ xs) [] zs h k = absurd h
-zip_both R S f (x ∷ xs) (y ∷ ys) [] h k = absurd k
-zip_both R S f (x ∷ xs) (y ∷ ys) (z ∷ zs) h k = (f x y z h.0 k.0, zip_both R S f xs ys zs h.1 k.1)
+use Rattle.dcx_outcomes.proofs.Zips.{zip_weaker, zip_both}
 
 -- ---- the stops of a program
 module _ (p : Problem) (setting : Pairs) where
@@ -79,19 +57,19 @@ module _ (p : Problem) (setting : Pairs) where
 
 -- ---- outcomes
 -- an outcome that tells how a setting ends, with its place
-pub outcome_of : {A O : Type 0} (Gives : Problem → Pairs → Program Frac → A → Type 0) (end : O → Result A Stop) (place : O → Option Place) (p : Problem) (setting : Pairs) (e : Result A Stop) (o : O) →
-    EndsAt Gives p setting e → end o ≡ e → place o ≡ node_place p e → IsAskedOutcome Gives end place p setting o
-outcome_of Gives end place p setting e o h told placed = record {
-  ends = subst (EndsAt Gives p setting) (sym told) h;
-  placed = placed ∙ ap (node_place p) (sym told);
-}
+pub outcome_of : {A O : Type 0} (Gives : Problem → Pairs → Program Frac → A → Type 0) (Tells : O → Result A Stop → Type 0) (place : O → Option Place) (p : Problem) (setting : Pairs)
+    (e : Result A Stop) (o : O) → EndsAt Gives p setting e → Tells o e → place o ≡ node_place p e → IsAskedOutcome Gives Tells place p setting o
+outcome_of Gives Tells place p setting e o h told placed = record { end = e; ends = h; tells = told; placed = placed }
 
 -- what is found is right, where each answer is
-pub are_right : {F E O : Type 0} (Gives : Problem → Pairs → Program Frac → Result F E → Type 0) (end : O → Result (Result F E) Stop) (place : O → Option Place) (p : Problem) (Right : Pairs → F → Type 0) →
+-- `Told` says what that is of an outcome
+pub are_right : {F E O : Type 0} (Gives : Problem → Pairs → Program Frac → Result F E → Type 0) (Tells : O → Result (Result F E) Stop → Type 0) (place : O → Option Place) (p : Problem)
+    (Right : Pairs → F → Type 0) (Told : Pairs → O → Type 0) →
     ((s : Pairs) (q : Program Frac) (r : Result F E) → FitsParameters p.parameters s → SessionGives p s (Ok q) → Gives p s q r → IfOk r (IsRightAt p s (Right s))) →
-    (settings : List Pairs) (os : List O) → AreAskedOutcomes Gives end place p settings os → AllZip (λ s o. FindsRight p s (Right s) (end o)) settings os
-are_right {F} {E} Gives end place p Right right settings os h =
-    zip_weaker (IsAskedOutcome Gives end place p) (λ s o. FindsRight p s (Right s) (end o)) (λ s o k. by s (end o) k.ends) settings os h
+    ((s : Pairs) (o : O) (e : Result (Result F E) Stop) → Tells o e → FindsRight p s (Right s) e → Told s o) →
+    (settings : List Pairs) (os : List O) → AreAskedOutcomes Gives Tells place p settings os → AllZip Told settings os
+are_right {F} {E} Gives Tells place p Right Told right told settings os h =
+    zip_weaker (IsAskedOutcome Gives Tells place p) Told (λ s o k. told s o k.end k.tells (by s k.end k.ends)) settings os h
   where
     by : (s : Pairs) (e : Result (Result F E) Stop) → EndsAt Gives p s e → FindsRight p s (Right s) e
     by s (Ok r) k = right s k.program r k.fits k.gives k.answers
@@ -121,13 +99,14 @@ same_end (Err s) (Ok (Ok b)) h = absurd h
 same_end (Err s) (Ok (Err t)) h = absurd h
 same_end (Err s) (Err t) h = ap Err h
 
--- settings have one list of outcomes, where a program has one answer; `Alike` says what two outcomes with the same end and place are
-pub are_one : {F E O : Type 0} (Gives : Problem → Pairs → Program Frac → Result F E → Type 0) (end : O → Result (Result F E) Stop) (place : O → Option Place) (p : Problem) (memory : E) (Same : F → F → Type 0) (Alike : O → O → Type 0) →
+-- settings have one list of outcomes, where a program has one answer; `Alike` says what two outcomes with one end are
+pub are_one : {F E O : Type 0} (Gives : Problem → Pairs → Program Frac → Result F E → Type 0) (Tells : O → Result (Result F E) Stop → Type 0) (place : O → Option Place) (p : Problem)
+    (memory : E) (Same : F → F → Type 0) (Alike : O → O → Type 0) →
     ((s : Pairs) (q : Program Frac) (x y : Result F E) → FitsParameters p.parameters s → SessionGives p s (Ok q) → Gives p s q x → Gives p s q y → AreOneEnd memory Same (Ok x) (Ok y)) →
-    ((o q : O) → IsSameEnd Same (end o) (end q) → place o ≡ place q → Alike o q) →
-    (settings : List Pairs) (os qs : List O) → AreAskedOutcomes Gives end place p settings os → AreAskedOutcomes Gives end place p settings qs → AllZip (λ o q. ¬ WantsMemory memory (end o) → ¬ WantsMemory memory (end q) → Alike o q) os qs
-are_one {F} {E} {O} Gives end place p memory Same Alike one alike settings os qs h k =
-    zip_both (IsAskedOutcome Gives end place p) (λ o q. ¬ WantsMemory memory (end o) → ¬ WantsMemory memory (end q) → Alike o q) (λ s o q x y n m. both o q x.placed y.placed (by s (end o) (end q) x.ends y.ends n m)) settings os qs h k
+    ((o q : O) (x y : Result (Result F E) Stop) → Tells o x → Tells q y → AreOneEnd memory Same x y → (IsSameEnd Same x y → place o ≡ place q) → Alike o q) →
+    (settings : List Pairs) (os qs : List O) → AreAskedOutcomes Gives Tells place p settings os → AreAskedOutcomes Gives Tells place p settings qs → AllZip Alike os qs
+are_one {F} {E} {O} Gives Tells place p memory Same Alike one alike settings os qs h k =
+    zip_both (IsAskedOutcome Gives Tells place p) (IsAskedOutcome Gives Tells place p) Alike (λ s o q x y. both s o q x y) settings os qs h k
   where
     by : (s : Pairs) (x y : Result (Result F E) Stop) → EndsAt Gives p s x → EndsAt Gives p s y → AreOneEnd memory Same x y
     by s (Ok x) (Ok y) h k n m =
@@ -137,8 +116,8 @@ are_one {F} {E} {O} Gives end place p memory Same Alike one alike settings os qs
     by s (Err e) (Ok y) h k n m = absurd (given_apart p s k.program e n k.fits k.gives h)
     by s (Err e) (Err f) h k n m = same_stop p s e f n m h k
 
-    both : (o q : O) → place o ≡ node_place p (end o) → place q ≡ node_place p (end q) → IsSameEnd Same (end o) (end q) → Alike o q
-    both o q x y same = alike o q same (x ∙ same_place p Same (end o) (end q) same ∙ sym y)
+    both : (s : Pairs) (o q : O) → IsAskedOutcome Gives Tells place p s o → IsAskedOutcome Gives Tells place p s q → Alike o q
+    both s o q x y = alike o q x.end y.end x.tells y.tells (by s x.end y.end x.ends y.ends) (λ same. x.placed ∙ same_place p Same x.end y.end same ∙ sym y.placed)
 
 -- ---- answers
 -- what is found is right, and the setting fits

@@ -1,6 +1,5 @@
 -- Where nothing stops a setting, no cause of a stop holds.
-use Rattle.std.proofs.Common.{◌≡◌, ◌≢◌, ◌⊎◌, inl, inr, ℕ, true, false, List, Option, None, Some, Ok, Err, Result, refl, ap, ◌∙◌, subst}
-use Rattle.std.specs.List.{slice_get}
+use Rattle.std.proofs.Common.{◌≡◌, ◌≢◌, inl, inr, ℕ, None, Ok, Err, Result, refl, ap, ◌∙◌, subst}
 use Rattle.dcx_frac.specs.declared.fraction.Frac.{Frac}
 use Rattle.dcx_point.specs.Pairs.{Pairs}
 use Rattle.dcx_tree.specs.declared.problem.Problem.{Problem}
@@ -8,7 +7,6 @@ use Rattle.dcx_answer.specs.declared.answer.Answer.{Answer}
 use Rattle.dcx_answer.specs.declared.stop.Stop.{Stop}
 use Rattle.dcx_answer.specs.declared.stop.Stop.TheVariants as why
 use Rattle.dcx_answer.specs.declared.outcome.Outcome.{Outcome}
-use Rattle.dcx_answer.specs.declared.outcome.OutcomeEnd.{OutcomeEnd}
 use Rattle.dcx_answer.specs.declared.outcome.OutcomeEnd.TheVariants as the
 use Rattle.dcx_lp_solve.specs.declared.solving.Solved.{Solved}
 use Rattle.dcx_lp_solve.specs.Solved.{IsSolved, Stops as RowsStop}
@@ -20,10 +18,11 @@ use Rattle.dcx_cache.specs.Answers.{StopsAt, at_program, at_run, at_reading, Sto
 use Rattle.dcx_cache.specs.declared.rewarming.Warmed.{Warmed}
 use Rattle.dcx_cache.specs.Warm.{WarmAnswers}
 use Rattle.dcx_cache.proofs.OneEnd.{program_apart, same_program, unfit}
-use Rattle.dcx_outcomes.specs.Outcomes.{end_of}
+use Rattle.dcx_outcomes.specs.Outcomes.{solved_end, IsOutcome}
 use Rattle.dcx_outcomes.specs.Warm.{end_in}
 use Rattle.dcx_outcomes.specs.Complete.{NothingStops, HasAnswer, OutcomesAreComplete}
-use Rattle.dcx_outcomes.proofs.Warm.{IsWarmOutcome, warm_at}
+use Rattle.dcx_outcomes.proofs.Warm.{IsWarmOutcome, warm_all}
+use Rattle.dcx_outcomes.proofs.Zips.{zip_weaker}
 
 module _ (p : Problem) (limit : ℕ) (setting : Pairs) (n : NothingStops p limit setting) where
   no_reading_stop : (s : Solved) → IsSolved limit (rows_of n.program) s → (e : AnswerStop) → e ≢ reads.Memory → StopsReading p s.answer e → ⊥
@@ -47,18 +46,25 @@ module _ (p : Problem) (limit : ℕ) (setting : Pairs) (n : NothingStops p limit
   wants (why.PivotLimit count) h = absurd (no_part_stops (why.PivotLimit count) h.stops)
   wants why.Memory h = refl
 
-  answered : (x : OutcomeEnd) → Answers p setting limit (end_of x) → ((a : Answer) × (x ≡ the.Answer a)) ⊎ (x ≡ the.Stop why.Memory)
-  answered (the.Answer a) h = inl (a, refl)
-  answered (the.Stop stop) h = inr (ap the.Stop (wants stop h))
+  answered : (o : Outcome) → IsOutcome p limit setting o → HasAnswer o
+  answered o h = by h.end h.told h.answers
+    where
+      by : (x : Result Answer Stop) → o.end ≡ solved_end x → Answers p setting limit x → HasAnswer o
+      by (Ok a) e k = inl (a, e)
+      by (Err stop) e k = inr (e ∙ ap the.Stop (wants stop k))
 
   answered_warm : (o : Outcome) → IsWarmOutcome p limit setting o → HasAnswer o
-  answered_warm o h = by o.end h.end h.tells.end h.answers
+  answered_warm o h = by h.end h.tells.end h.answers
     where
-      by : (x : OutcomeEnd) (r : Result Warmed Stop) → end_of x ≡ end_in r → WarmAnswers p setting limit h.before r h.after → ((a : Answer) × (x ≡ the.Answer a)) ⊎ (x ≡ the.Stop why.Memory)
-      by (the.Answer a) r e k = inl (a, refl)
-      by (the.Stop stop) (Ok w) e k = absurd cc
-      by (the.Stop stop) (Err other) e k = let same : stop ≡ other = cc in inr (ap the.Stop (same ∙ wants other k.stops))
+      by : (r : Result Warmed Stop) → o.end ≡ solved_end (end_in r) → WarmAnswers p setting limit h.before r h.after → HasAnswer o
+      by (Ok w) e k = inl (w.answer, e)
+      by (Err stop) e k = inr (e ∙ ap the.Stop (wants stop k.stops))
 
 pub outcomes_are_complete : OutcomesAreComplete
-outcomes_are_complete false p limit settings outcomes count h = λ k s o at here n. answered p limit s n o.end (h.0.each k s o at here).answers
-outcomes_are_complete true p limit settings outcomes count (m, h, is) = λ k s o at here n. answered_warm p limit s n o (warm_at p limit None settings h.ends outcomes h.answers h.told k s o at here)
+outcomes_are_complete = record {
+  fresh = λ p limit settings outcomes h.
+      zip_weaker (IsOutcome p limit) (λ s o. NothingStops p limit s → HasAnswer o) (λ s o k n. answered p limit s n o k) settings outcomes h;
+  warm = λ p limit settings outcomes kept h.
+      zip_weaker (IsWarmOutcome p limit) (λ s o. NothingStops p limit s → HasAnswer o) (λ s o k n. answered_warm p limit s n o k) settings outcomes
+      (warm_all p limit None settings h.ends outcomes h.answers h.told);
+}

@@ -1,5 +1,5 @@
 -- What holds of the outcomes of settings at which constraints are filtered.
-use Rattle.std.proofs.Common.{◌≡◌, ℕ, suc, List, [], ◌∷◌, Result, Ok, Err, is_some, refl, ap, ap₂}
+use Rattle.std.proofs.Common.{◌≡◌, ℕ, suc, List, [], ◌∷◌, Result, Ok, Err, is_some, refl, sym, ap, ap₂, subst}
 use Rattle.std.specs.Prelude.{IfOk}
 use Rattle.std.proofs.Props.{props}
 use Rattle.std.specs.List.{AllZip}
@@ -16,6 +16,7 @@ use Rattle.dcx_answer.specs.declared.filtered.Filtered.TheVariants as found
 use Rattle.dcx_answer.specs.declared.filter_outcome.FilterEnd.{FilterEnd}
 use Rattle.dcx_answer.specs.declared.filter_outcome.FilterEnd.TheVariants as the
 use Rattle.dcx_answer.specs.declared.filter_outcome.FilterOutcome.{FilterOutcome}
+use Rattle.dcx_answer.specs.declared.stop.Stop.{Stop}
 use Rattle.dcx_answer.specs.NodeStops.{filter_names_node}
 use Rattle.dcx_graph.specs.Program.{Program}
 use Rattle.dcx_graph.specs.Answers.{IsSamePoint}
@@ -28,9 +29,9 @@ use Rattle.dcx_cache.proofs.Answered.{sound}
 use Rattle.dcx_iis.proofs.Right.{found_is_right}
 use Rattle.dcx_iis.proofs.Ends.{found_or_stopped, stops_are_one}
 use Rattle.dcx_iis.proofs.OneFound.{found_is_one}
-use Rattle.dcx_outcomes.specs.Asking.{IsRightAt, IsSameEnd, AreOneEnd}
+use Rattle.dcx_outcomes.specs.Asking.{IsRightAt, FindsRight, WantsMemory, IsSameEnd, AreOneEnd}
 use Rattle.dcx_outcomes.specs.Filters.{FilterGives, filter_end}
-use Rattle.dcx_outcomes.specs.FilterLaws.{FiltersAreRight, FiltersAreOne}
+use Rattle.dcx_outcomes.specs.FilterLaws.{HadMemory, FiltersAreRight, FiltersAreOne}
 use Rattle.dcx_outcomes.specs.Right.{IsPointFor}
 use Rattle.dcx_outcomes.proofs.Asked.{are_right, same_end, are_one}
 use Rattle.dcx_outcomes.proofs.Same.{same_point, same_multipliers}
@@ -105,10 +106,20 @@ same_outcome o q h f =
       placed = is_prop→PathP (λ j. is_some (f j) ≡ filter_names_node (e j)) (λ j. hlevel props) o.placed q.placed i;
     }
 
+-- outcomes with one end are the same
+alike : (o q : FilterOutcome) (x y : Result (Result Filtered FilterStop) Stop) → filter_end o.end ≡ x → filter_end q.end ≡ y → AreOneEnd filter.Memory (λ (a b : Filtered). a ≡ b) x y → (IsSameEnd (λ (a b : Filtered). a ≡ b) x y → o.place ≡ q.place)
+    → HadMemory o → HadMemory q → o ≡ q
+alike o q x y t u one places n m =
+    let same = one (subst (λ e. ¬ WantsMemory filter.Memory e) t n) (subst (λ e. ¬ WantsMemory filter.Memory e) u m) in
+    same_outcome o q (subst (λ e. IsSameEnd (λ (a b : Filtered). a ≡ b) e (filter_end q.end)) (sym t) (subst (IsSameEnd (λ (a b : Filtered). a ≡ b) x) (sym u) same)) (places same)
+
 pub filters_are_right : FiltersAreRight
 filters_are_right p limit settings outcomes ok h =
-    are_right (FilterGives limit) (λ (o : FilterOutcome). filter_end o.end) (λ (o : FilterOutcome). o.place) p (λ s. IsRight p (setting_of p s)) (right_filter p limit ok) settings outcomes h
+    are_right (FilterGives limit) (λ (o : FilterOutcome) (e : Result (Result Filtered FilterStop) Stop). filter_end o.end ≡ e) (λ (o : FilterOutcome). o.place) p (λ s. IsRight p (setting_of p s))
+    (λ s o. FindsRight p s (IsRight p (setting_of p s)) (filter_end o.end)) (right_filter p limit ok)
+    (λ s o e t k. subst (FindsRight p s (IsRight p (setting_of p s))) (sym t) k) settings outcomes h
 
 pub filters_are_one : FiltersAreOne
 filters_are_one p limit settings os qs ok h k =
-    are_one (FilterGives limit) (λ (o : FilterOutcome). filter_end o.end) (λ (o : FilterOutcome). o.place) p filter.Memory (λ (a b : Filtered). a ≡ b) (λ (o q : FilterOutcome). o ≡ q) (one_answer p limit ok) same_outcome settings os qs h k
+    are_one (FilterGives limit) (λ (o : FilterOutcome) (e : Result (Result Filtered FilterStop) Stop). filter_end o.end ≡ e) (λ (o : FilterOutcome). o.place) p filter.Memory (λ (a b : Filtered). a ≡ b) (λ (o q : FilterOutcome). HadMemory o → HadMemory q → o ≡ q)
+    (one_answer p limit ok) alike settings os qs h k

@@ -8,7 +8,9 @@ pub mod More
 pub mod Warm
 pub mod Complete
 pub mod Counting
+pub mod Zips
 pub mod Asked
 pub mod FilterEnds
 pub mod WholeEnds
 pub mod RangeEnds
+pub mod Finds

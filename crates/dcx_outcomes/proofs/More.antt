@@ -1,21 +1,18 @@
 -- One setting more: what is told, found and counted of the settings so far, with it.
-use Rattle.std.proofs.Common.{◌≡◌, ℕ, zero, suc, ◌+◌, ◌*◌, ◌<◌, ◌≤◌, Bool, true, false, cond, List, [], ◌∷◌, ◌++◌, length, take}
-use Rattle.std.proofs.Common.{get_or, Option, None, Some, Result, Ok, Err, refl, sym, ap, ◌∙◌, subst, add-one, arith}
-use Rattle.std.specs.Prelude.{count_by, slice_get, IfErr}
+use Rattle.std.proofs.Common.{◌≡◌, ℕ, ◌+◌, ◌*◌, ◌<◌, ◌≤◌, Bool, true, false, cond, List, [], ◌∷◌, ◌++◌, length, take}
+use Rattle.std.proofs.Common.{get_or, Option, None, Result, Ok, Err, refl, sym, ap, ◌∙◌, subst, add-one, arith}
+use Rattle.std.specs.Prelude.{count_by, IfErr}
 use Rattle.std.specs.Int.{from_bool}
 use Rattle.std.proofs.Math.Seq.{take-suc}
 use Rattle.std.proofs.lemmas.List.Sums.{sum_by-append, sum_by-cons}
-use Rattle.std.proofs.lemmas.Option.{none-some, same_Some}
 use Rattle.dcx_point.specs.Pairs.{Pairs}
 use Rattle.dcx_tree.specs.declared.problem.Problem.{Problem}
-use Rattle.dcx_answer.specs.declared.answer.Answer.{Answer}
 use Rattle.dcx_answer.specs.declared.stop.Stop.{Stop}
 use Rattle.dcx_answer.specs.declared.outcome.Outcome.{Outcome}
 use Rattle.dcx_cache.specs.declared.rewarming.Warmed.{Warmed}
-use Rattle.dcx_cache.specs.Answers.{Answers}
 use Rattle.dcx_cache.specs.Warm.{WarmAnswersAll}
-use Rattle.dcx_outcomes.specs.Outcomes.{NamesNodes, IsOutcome, AreOutcomes}
-use Rattle.dcx_outcomes.specs.Warm.{is_kept, Tells, AreTold, AreFound, EndsFrom, IsToldFrom, EndFrom, AreToldFrom, counted_where}
+use Rattle.dcx_outcomes.specs.Outcomes.{NamesNodes, AreOutcomes}
+use Rattle.dcx_outcomes.specs.Warm.{end_in, is_kept, Tells, AreTold, AreSolved, EndsFrom, IsToldFrom, EndFrom, AreToldFrom, counted_where}
 use Rattle.dcx_outcomes.proofs.Named.{names_nodes}
 
 pub one_taken : {X : Type 0} (xs : List X) (i : ℕ) (x : X) → i < length xs → x ≡ get_or xs i x → take (i + 1) xs ≡ take i xs ++ x ∷ []
@@ -97,29 +94,20 @@ told_none warm p limit before = record { ends = []; end = refl; told = tt; count
 -- ---- all settings
 -- without the columns
 module _ (p : Problem) (limit : ℕ) where
-  fresh_count : (ss : List Pairs) (before : Option (List ℕ)) (rs : List (Result Warmed Stop)) (after : Option (List ℕ)) (os : List Outcome) → EndFrom false p limit ss before rs after
-      → AreTold p rs os → length os ≡ length ss
-  fresh_count [] before [] after [] h k = refl
-  fresh_count [] before [] after (o ∷ os) h k = absurd k
-  fresh_count [] before (r ∷ rs) after os h k = absurd h
-  fresh_count (s ∷ ss) before [] after os h k = absurd h
-  fresh_count (s ∷ ss) before (r ∷ rs) after [] h k = absurd k
-  fresh_count (s ∷ ss) before (r ∷ rs) after (o ∷ os) (mid, e, h) k = ap suc (fresh_count ss mid rs after os h k.1)
-
-  fresh_each : (ss : List Pairs) (before : Option (List ℕ)) (rs : List (Result Warmed Stop)) (after : Option (List ℕ)) (os : List Outcome) → EndFrom false p limit ss before rs after → AreTold p rs os
-      → (k : ℕ) (s : Pairs) (o : Outcome) → slice_get ss k ≡ Some s → slice_get os k ≡ Some o → IsOutcome p limit s o
-  fresh_each [] before rs after os h t k s o at here = absurd (none-some s at)
-  fresh_each (u ∷ ss) before [] after os h t k s o at here = absurd h
-  fresh_each (u ∷ ss) before (r ∷ rs) after [] h t k s o at here = absurd t
-  fresh_each (u ∷ ss) before (r ∷ rs) after (q ∷ os) (mid, e, h) t zero s o at here =
-      let setting = same_Some u s at in
-      let outcome = same_Some q o here in
-      subst (λ (z : Pairs). IsOutcome p limit z o) setting (subst (λ (z : Outcome). IsOutcome p limit u z) outcome
-      (record { answers = subst (λ (z : Result Answer Stop). Answers p u limit z) (sym t.0.end) e.0; placed = t.0.placed }))
-  fresh_each (u ∷ ss) before (r ∷ rs) after (q ∷ os) (mid, e, h) t (suc k) s o at here = fresh_each ss mid rs after os h t.1 k s o at here
+  fresh_all : (ss : List Pairs) (before : Option (List ℕ)) (rs : List (Result Warmed Stop)) (after : Option (List ℕ)) (os : List Outcome) → EndFrom false p limit ss before rs after → AreTold p rs os
+      → AreOutcomes p limit ss os
+  fresh_all [] before [] after [] h t = tt
+  fresh_all [] before [] after (o ∷ os) h t = absurd t
+  fresh_all [] before (r ∷ rs) after os h t = absurd h
+  fresh_all (s ∷ ss) before [] after os h t = absurd h
+  fresh_all (s ∷ ss) before (r ∷ rs) after [] h t = absurd t
+  fresh_all (s ∷ ss) before (r ∷ rs) after (o ∷ os) (mid, e, h) t = (
+    record { end = end_in r; answers = e.0; told = t.0.end; placed = t.0.placed },
+    fresh_all ss mid rs after os h t.1,
+  )
 
   pub fresh_outcomes : (ss : List Pairs) (before : Option (List ℕ)) (os : List Outcome) (n : ℕ) (after : Option (List ℕ)) → AreToldFrom false p limit ss before os n after → AreOutcomes p limit ss os
-  fresh_outcomes ss before os n after h = record { count = fresh_count ss before h.ends after os h.end h.told; each = fresh_each ss before h.ends after os h.end h.told }
+  fresh_outcomes ss before os n after h = fresh_all ss before h.ends after os h.end h.told
 
   -- from the columns
   warm_answers : (ss : List Pairs) (before : Option (List ℕ)) (rs : List (Result Warmed Stop)) (after : Option (List ℕ)) → EndFrom true p limit ss before rs after → WarmAnswersAll p limit before ss rs
@@ -128,16 +116,16 @@ module _ (p : Problem) (limit : ℕ) where
   warm_answers [] before (r ∷ rs) after h = absurd h
   warm_answers (s ∷ ss) before [] after h = absurd h
 
-  found_from : (warm : Bool) (ss : List Pairs) (os : List Outcome) (n : ℕ) (after : Option (List ℕ)) → AreToldFrom warm p limit ss None os n after → AreFound warm p limit ss os (counted_where warm n)
+  found_from : (warm : Bool) (ss : List Pairs) (os : List Outcome) (n : ℕ) (after : Option (List ℕ)) → AreToldFrom warm p limit ss None os n after → AreSolved warm p limit ss os (counted_where warm n)
   found_from false ss os n after h = (fresh_outcomes ss None os n after h, refl)
   found_from true ss os n after h = (n, record { ends = h.ends; answers = warm_answers ss None h.ends after h.end; told = h.told; count = h.count }, refl)
 
 -- what a session found that began without columns
 pub found_all : (p q : Problem) (limit : ℕ) (warm : Bool) (ss : List Pairs) (before : Option (List ℕ)) (os found : List Outcome) (n : ℕ) (after : Option (List ℕ)) (count : Option ℕ) → q ≡ p
     → before ≡ None → AreToldFrom warm q limit ss before os n after → found ≡ os → count ≡ counted_where warm n
-    → AreFound warm p limit ss found count
+    → AreSolved warm p limit ss found count
 found_all p q limit warm ss before os found n after count same none h is counted =
-    subst (λ (z : List Outcome). AreFound warm p limit ss z count) (sym is) (subst (λ (z : Option ℕ). AreFound warm p limit ss os z) (sym counted)
+    subst (λ (z : List Outcome). AreSolved warm p limit ss z count) (sym is) (subst (λ (z : Option ℕ). AreSolved warm p limit ss os z) (sym counted)
     (found_from p limit warm ss os n after (subst (λ (z : Option (List ℕ)). AreToldFrom warm p limit ss z os n after) none
     (subst (λ (z : Problem). AreToldFrom warm z limit ss before os n after) same h))))
 

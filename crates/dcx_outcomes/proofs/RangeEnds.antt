@@ -1,5 +1,5 @@
 -- What holds of the outcomes of settings at which a parameter's range is told.
-use Rattle.std.proofs.Common.{◌≡◌, ℕ, List, [], Option, Some, None, Result, Ok, Err, is_some, refl, ap, subst}
+use Rattle.std.proofs.Common.{◌≡◌, ℕ, List, [], Option, Some, None, Result, Ok, Err, is_some, refl, sym, ap, subst}
 use Rattle.std.specs.Prelude.{IfOk}
 use Rattle.std.proofs.Props.{props}
 use mathlib.Core.HLevel.{is_prop→PathP}
@@ -16,6 +16,7 @@ use Rattle.dcx_answer.specs.declared.range_stop.RangeStop.TheVariants as range
 use Rattle.dcx_answer.specs.declared.range_outcome.RangeEnd.{RangeEnd}
 use Rattle.dcx_answer.specs.declared.range_outcome.RangeEnd.TheVariants as the
 use Rattle.dcx_answer.specs.declared.range_outcome.RangeOutcome.{RangeOutcome}
+use Rattle.dcx_answer.specs.declared.stop.Stop.{Stop}
 use Rattle.dcx_answer.specs.NodeStops.{range_names_node}
 use Rattle.dcx_graph.specs.Program.{Program}
 use Rattle.dcx_graph.specs.Fixing.{FixGives}
@@ -29,9 +30,9 @@ use Rattle.dcx_range.specs.Laws.{AreOneRange}
 use Rattle.dcx_range.proofs.Named.{tells_once}
 use Rattle.dcx_range.proofs.Right.{ranges_are_right as right_told}
 use Rattle.dcx_range.proofs.OneRange.{ranges_are_one as one_range}
-use Rattle.dcx_outcomes.specs.Asking.{IsRightAt, IsSameEnd, AreOneEnd}
+use Rattle.dcx_outcomes.specs.Asking.{IsRightAt, FindsRight, WantsMemory, IsSameEnd, AreOneEnd}
 use Rattle.dcx_outcomes.specs.Ranges.{IsKeptProgram, HasRange, LacksRange, TellsOf, range_end}
-use Rattle.dcx_outcomes.specs.RangeLaws.{RangeIsTold, RangesAreRight, RangesAreOne}
+use Rattle.dcx_outcomes.specs.RangeLaws.{RangeIsTold, HadMemory, RangesAreRight, RangesAreOne}
 use Rattle.dcx_outcomes.proofs.Asked.{are_right, same_end, are_one, right_there}
 
 -- ---- the program with affine coefficients
@@ -102,7 +103,9 @@ right_range p name limit s q r fits given g =
 -- ---- all settings
 pub ranges_are_right : RangesAreRight
 ranges_are_right p name limit settings outcomes h =
-    are_right (TellsOf name limit) (λ (o : RangeOutcome). range_end o.end) (λ (o : RangeOutcome). o.place) p (λ s. HoldsOn p (setting_of p s) name) (right_range p name limit) settings outcomes h
+    are_right (TellsOf name limit) (λ (o : RangeOutcome) (e : Result (Result Ranged RangeStop) Stop). range_end o.end ≡ e) (λ (o : RangeOutcome). o.place) p (λ s. HoldsOn p (setting_of p s) name)
+    (λ s o. FindsRight p s (HoldsOn p (setting_of p s) name) (range_end o.end)) (right_range p name limit)
+    (λ s o e t k. subst (FindsRight p s (HoldsOn p (setting_of p s) name)) (sym t) k) settings outcomes h
 
 module _ (p : Problem) (name : List ℕ) (limit : ℕ) (s : Pairs) (q : Program Frac) where
   one_told : (x y : Result Ranged RangeStop) → TellsOf name limit p s q x → TellsOf name limit p s q y → AreOneRange x y
@@ -137,6 +140,14 @@ same_outcome o q h f =
       placed = is_prop→PathP (λ j. is_some (f j) ≡ range_names_node (e j)) (λ j. hlevel props) o.placed q.placed i;
     }
 
+-- outcomes with one end are the same
+alike : (o q : RangeOutcome) (x y : Result (Result Ranged RangeStop) Stop) → range_end o.end ≡ x → range_end q.end ≡ y → AreOneEnd range.Memory (λ (a b : Ranged). a ≡ b) x y → (IsSameEnd (λ (a b : Ranged). a ≡ b) x y → o.place ≡ q.place)
+    → HadMemory o → HadMemory q → o ≡ q
+alike o q x y t u one places n m =
+    let same = one (subst (λ e. ¬ WantsMemory range.Memory e) t n) (subst (λ e. ¬ WantsMemory range.Memory e) u m) in
+    same_outcome o q (subst (λ e. IsSameEnd (λ (a b : Ranged). a ≡ b) e (range_end q.end)) (sym t) (subst (IsSameEnd (λ (a b : Ranged). a ≡ b) x) (sym u) same)) (places same)
+
 pub ranges_are_one : RangesAreOne
 ranges_are_one p name limit settings os qs h k =
-    are_one (TellsOf name limit) (λ (o : RangeOutcome). range_end o.end) (λ (o : RangeOutcome). o.place) p range.Memory (λ (a b : Ranged). a ≡ b) (λ (o q : RangeOutcome). o ≡ q) (λ s q x y fits given. one_answer p name limit s q x y) same_outcome settings os qs h k
+    are_one (TellsOf name limit) (λ (o : RangeOutcome) (e : Result (Result Ranged RangeStop) Stop). range_end o.end ≡ e) (λ (o : RangeOutcome). o.place) p range.Memory (λ (a b : Ranged). a ≡ b) (λ (o q : RangeOutcome). HadMemory o → HadMemory q → o ≡ q)
+    (λ s q x y fits given. one_answer p name limit s q x y) alike settings os qs h k

@@ -1,5 +1,5 @@
 -- Each answer among the outcomes is right, and speaks of the problem.
-use Rattle.std.proofs.Common.{◌≡◌, ℕ, List, [], ◌∷◌, map, Ok, refl, ap₂, subst}
+use Rattle.std.proofs.Common.{◌≡◌, ℕ, List, [], ◌∷◌, map, Result, Ok, Err, refl, sym, ap₂, subst}
 use Rattle.std.specs.Prelude.{⊤, drop}
 use Rattle.dcx_frac.specs.declared.fraction.Frac.{Frac}
 use Rattle.dcx_shape.specs.Shape.{sides_of}
@@ -14,16 +14,17 @@ use Rattle.dcx_lp_answer.specs.declared.answer.LpAnswer.{LpAnswer}
 use Rattle.dcx_lp_answer.specs.declared.answer.RowNote.{RowNote}
 use Rattle.dcx_answer.specs.declared.answer.Answer.{Answer}
 use Rattle.dcx_answer.specs.declared.answer.Answer.TheVariants.{Optimal, Infeasible, Unbounded}
-use Rattle.dcx_answer.specs.declared.outcome.OutcomeEnd.{OutcomeEnd}
-use Rattle.dcx_answer.specs.declared.outcome.OutcomeEnd.TheVariants as the
+use Rattle.dcx_answer.specs.declared.stop.Stop.{Stop}
+use Rattle.dcx_answer.specs.declared.outcome.Outcome.{Outcome}
 use Rattle.dcx_unknowns.specs.Layout.{constraint_rows}
 use Rattle.dcx_postsolve.specs.Duals.{AreDuals}
 use Rattle.dcx_graph.specs.Answers.{IsPointRead, IsRead}
 use Rattle.dcx_cache.specs.Answers.{Answers}
 use Rattle.dcx_cache.proofs.Answered.{answers_are_right}
-use Rattle.dcx_outcomes.specs.Outcomes.{end_of}
-use Rattle.dcx_outcomes.specs.Right.{IsPointFor, SpeaksOf, IsRightAnswer}
+use Rattle.dcx_outcomes.specs.Outcomes.{solved_end, IsOutcome}
+use Rattle.dcx_outcomes.specs.Right.{IsPointFor, SpeaksOf, IsRightEnd}
 use Rattle.dcx_outcomes.specs.Laws.{OutcomesAreRight}
+use Rattle.dcx_outcomes.proofs.Zips.{zip_weaker}
 
 -- multipliers have the shapes of the constraints
 shaped : (status : LpStatus) (cs : List Constraint) (notes : List RowNote) (xs : List Array) → AreDuals status cs notes xs → map (λ a. sides_of a.shape) xs ≡ map (λ c. sides_of c.shape) cs
@@ -42,21 +43,22 @@ speaks p kinds a (Infeasible duals gap) (e, n, are) = shaped a.status p.constrai
 speaks p kinds a (Unbounded point ray bound slope) (e, b, s, at, along) = (point_for p kinds a.columns point at, point_for p kinds a.ray ray along)
 
 -- where a setting is answered, the answer does
-abbrev pub SpeaksEnd : Problem → OutcomeEnd → Type 0
-SpeaksEnd p (the.Answer a) = SpeaksOf p a
-SpeaksEnd p (the.Stop stop) = ⊤
+abbrev pub SpeaksEnd : Problem → Result Answer Stop → Type 0
+SpeaksEnd p (Ok a) = SpeaksOf p a
+SpeaksEnd p (Err stop) = ⊤
 
-pub speaks_at : (p : Problem) (limit : ℕ) (s : Pairs) (x : OutcomeEnd) → Answers p s limit (end_of x) → SpeaksEnd p x
-speaks_at p limit s (the.Answer a) (q, solved, h) = speaks p q.kinds solved.answer a h.read
-speaks_at p limit s (the.Stop stop) h = tt
+pub speaks_at : (p : Problem) (limit : ℕ) (s : Pairs) (x : Result Answer Stop) → Answers p s limit x → SpeaksEnd p x
+speaks_at p limit s (Ok a) (q, solved, h) = speaks p q.kinds solved.answer a h.read
+speaks_at p limit s (Err stop) h = tt
 
-right_at : (p : Problem) (limit : ℕ) (s : Pairs) (a : Answer) → IsAccepted p → Answers p s limit (Ok a) → IsRightAnswer p s a
-right_at p limit s a ok (q, solved, h) =
-    let right = answers_are_right p s limit a ok (q, solved, h) in
-    record { fits = right.0; right = right.1; speaks = speaks p q.kinds solved.answer a h.read }
+right_at : (p : Problem) (limit : ℕ) (s : Pairs) (o : Outcome) → IsAccepted p → IsOutcome p limit s o → IsRightEnd p s o.end
+right_at p limit s o ok h = subst (IsRightEnd p s) (sym h.told) (by h.end h.answers)
+  where
+    by : (x : Result Answer Stop) → Answers p s limit x → IsRightEnd p s (solved_end x)
+    by (Ok a) (q, solved, k) =
+        let right = answers_are_right p s limit a ok (q, solved, k) in
+        record { fits = right.0; right = right.1; speaks = speaks p q.kinds solved.answer a k.read }
+    by (Err stop) k = tt
 
 pub outcomes_are_right : OutcomesAreRight
-outcomes_are_right p limit settings outcomes ok h = record {
-  count = h.count;
-  each = λ k s o a at here is. right_at p limit s a ok (subst (λ (e : OutcomeEnd). Answers p s limit (end_of e)) is (h.each k s o at here).answers);
-}
+outcomes_are_right p limit settings outcomes ok h = zip_weaker (IsOutcome p limit) (λ s o. IsRightEnd p s o.end) (λ s o k. right_at p limit s o ok k) settings outcomes h

@@ -31,16 +31,19 @@ abbrev pub node_place : {A : Type 0} → Problem → Result A Stop → Option Pl
 node_place p (Ok answer) = None
 node_place p (Err stop) = stop_place p stop
 
--- the outcome of a setting, which tells how it ends and that place
-pub record IsAskedOutcome {A O : Type 0} (Gives : Problem → Pairs → Program Frac → A → Type 0) (end : O → Result A Stop) (place : O → Option Place) (p : Problem) (setting : Pairs)
-    (o : O) : Type 0 where
-  pub ends : EndsAt Gives p setting (end o)
-  pub placed : place o ≡ node_place p (end o)
+-- the outcome of a setting, which tells how it ends, as `Tells` says, and that place
+pub record IsAskedOutcome {A O : Type 0} (Gives : Problem → Pairs → Program Frac → A → Type 0) (Tells : O → Result A Stop → Type 0) (place : O → Option Place) (p : Problem)
+    (setting : Pairs) (o : O) : Type 0 where
+  pub end : Result A Stop
+  pub ends : EndsAt Gives p setting end
+  pub tells : Tells o end
+  pub placed : place o ≡ node_place p end
 
 -- ---- all settings
 -- one outcome for each, in order
-abbrev pub AreAskedOutcomes : {A O : Type 0} → (Problem → Pairs → Program Frac → A → Type 0) → (O → Result A Stop) → (O → Option Place) → Problem → List Pairs → List O → Type 0
-AreAskedOutcomes Gives end place p settings outcomes = AllZip (IsAskedOutcome Gives end place p) settings outcomes
+abbrev pub AreAskedOutcomes : {A O : Type 0} → (Problem → Pairs → Program Frac → A → Type 0) → (O → Result A Stop → Type 0) → (O → Option Place) → Problem → List Pairs → List O
+    → Type 0
+AreAskedOutcomes Gives Tells place p settings outcomes = AllZip (IsAskedOutcome Gives Tells place p) settings outcomes
 
 -- ---- right
 -- the setting fits, and what is found there is right

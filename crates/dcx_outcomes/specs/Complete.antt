@@ -1,5 +1,6 @@
 -- Completeness: a setting that nothing stops has its answer, or memory is wanting.
-use Rattle.std.specs.Prelude.{◌≡◌, ◌⊎◌, ℕ, Bool, List, Option, Some, Ok, slice_get}
+use Rattle.std.specs.Prelude.{◌≡◌, ◌⊎◌, ℕ, List, Ok}
+use Rattle.std.specs.List.{AllZip}
 use Rattle.dcx_frac.specs.declared.fraction.Frac.{Frac}
 use Rattle.dcx_point.specs.Pairs.{Pairs}
 use Rattle.dcx_tree.specs.declared.problem.Problem.{Problem}
@@ -16,7 +17,8 @@ use Rattle.dcx_lp_solve.specs.Solved.{IsSolved, Stops as RowsStop}
 use Rattle.dcx_graph.specs.Program.{Program}
 use Rattle.dcx_graph.specs.Answers.{rows_of, PassesAt}
 use Rattle.dcx_cache.specs.Programs.{SessionGives}
-use Rattle.dcx_outcomes.specs.Warm.{AreFound}
+use Rattle.dcx_outcomes.specs.Outcomes.{AreOutcomes}
+use Rattle.dcx_outcomes.specs.Warm.{AreWarmOutcomes}
 
 -- Nothing stops the setting. It fits: it names parameters of the problem alone, and gives each a value of its shape and sign. The problem
 -- has a program there: few rows and columns, no divisor that is 0, and no operation that passes 128 bits. Its rows have a scaled program,
@@ -34,8 +36,9 @@ HasAnswer o = ((a : Answer) × (o.end ≡ the.Answer a)) ⊎ (o.end ≡ the.Stop
 
 -- so it is wherever nothing stops
 abbrev pub AreComplete : Problem → ℕ → List Pairs → List Outcome → Type 0
-AreComplete p limit settings outcomes = (k : ℕ) (s : Pairs) (o : Outcome) → slice_get settings k ≡ Some s → slice_get outcomes k ≡ Some o → NothingStops p limit s → HasAnswer o
+AreComplete p limit settings outcomes = AllZip (λ s o. NothingStops p limit s → HasAnswer o) settings outcomes
 
--- of all outcomes, warm or not
-abbrev pub OutcomesAreComplete : Type 0
-OutcomesAreComplete = (warm : Bool) (p : Problem) (limit : ℕ) (settings : List Pairs) (outcomes : List Outcome) (count : Option ℕ) → AreFound warm p limit settings outcomes count → AreComplete p limit settings outcomes
+-- of all outcomes of a solve, warm or not
+pub record OutcomesAreComplete : Type 0 where
+  pub fresh : (p : Problem) (limit : ℕ) (settings : List Pairs) (outcomes : List Outcome) → AreOutcomes p limit settings outcomes → AreComplete p limit settings outcomes
+  pub warm : (p : Problem) (limit : ℕ) (settings : List Pairs) (outcomes : List Outcome) (kept : ℕ) → AreWarmOutcomes p limit settings outcomes kept → AreComplete p limit settings outcomes

@@ -1,5 +1,5 @@
 -- The outcomes of settings at which constraints are filtered.
-use Rattle.std.specs.Prelude.{ℕ, List, Result, Ok, Err, IfOk, IfErr}
+use Rattle.std.specs.Prelude.{◌≡◌, ℕ, List, Result, Ok, Err, IfOk, IfErr}
 use Rattle.dcx_frac.specs.declared.fraction.Frac.{Frac}
 use Rattle.dcx_point.specs.Pairs.{Pairs}
 use Rattle.dcx_tree.specs.declared.problem.Problem.{Problem}
@@ -30,4 +30,4 @@ filter_end (the.Stop stop) = Err stop
 -- ---- all settings
 -- one outcome for each, in order
 abbrev pub AreFilterOutcomes : Problem → ℕ → List Pairs → List FilterOutcome → Type 0
-AreFilterOutcomes p limit settings outcomes = AreAskedOutcomes (FilterGives limit) (λ (o : FilterOutcome). filter_end o.end) (λ (o : FilterOutcome). o.place) p settings outcomes
+AreFilterOutcomes p limit settings outcomes = AreAskedOutcomes (FilterGives limit) (λ (o : FilterOutcome) (e : Result (Result Filtered FilterStop) Stop). filter_end o.end ≡ e) (λ (o : FilterOutcome). o.place) p settings outcomes

@@ -7,7 +7,6 @@ pub mod Asking
 pub mod Filters
 pub mod FilterLaws
 pub mod Wholes
-pub mod WholeLaws
 pub mod Ranges
 pub mod RangeLaws
 pub mod Complete

@@ -1,5 +1,6 @@
 -- The outcomes of settings.
-use Rattle.std.specs.Prelude.{◌≡◌, ℕ, ◌+◌, ◌*◌, ◌<◌, ◌≤◌, ⊤, List, length, Option, Some, None, Result, Ok, Err, slice_get}
+use Rattle.std.specs.Prelude.{◌≡◌, ℕ, ◌+◌, ◌*◌, ◌<◌, ◌≤◌, ⊤, List, length, Option, None, Result, Ok, Err}
+use Rattle.std.specs.List.{AllZip}
 use Rattle.dcx_shape.specs.declared.place.Place.{Place}
 use Rattle.dcx_point.specs.Pairs.{Pairs}
 use Rattle.dcx_arena.specs.Nodes.{place_at}
@@ -16,10 +17,10 @@ use Rattle.dcx_cache.specs.Programs.{HasMap}
 use Rattle.dcx_cache.specs.Answers.{Answers}
 
 -- ---- one outcome
--- an answer, or a stop
-abbrev pub end_of : OutcomeEnd → Result Answer Stop
-end_of (the.Answer a) = Ok a
-end_of (the.Stop stop) = Err stop
+-- how a setting ends that a session answers: with its answer, or with its stop
+abbrev pub solved_end : Result Answer Stop → OutcomeEnd
+solved_end (Ok a) = the.Answer a
+solved_end (Err stop) = the.Stop stop
 
 -- where the node stands in the script at which a stop is
 abbrev pub site_place : Problem → Site → Option Place
@@ -42,6 +43,8 @@ stop_place p stops.Memory = None
 
 abbrev pub end_place : Problem → OutcomeEnd → Option Place
 end_place p (the.Answer a) = None
+end_place p (the.Whole a) = None
+end_place p (the.Branch stop) = None
 end_place p (the.Stop stop) = stop_place p stop
 
 -- the nodes at which a stop is are nodes of the problem
@@ -65,14 +68,15 @@ NamesNodes p stops.Memory = ⊤
 
 -- the outcome of a setting: what a session answers there, with the place of the node that a stop names
 pub record IsOutcome (p : Problem) (limit : ℕ) (setting : Pairs) (o : Outcome) : Type 0 where
-  pub answers : Answers p setting limit (end_of o.end)
+  pub end : Result Answer Stop
+  pub answers : Answers p setting limit end
+  pub told : o.end ≡ solved_end end
   pub placed : o.place ≡ end_place p o.end
 
 -- ---- all outcomes
 -- one for each setting, in order
-pub record AreOutcomes (p : Problem) (limit : ℕ) (settings : List Pairs) (outcomes : List Outcome) : Type 0 where
-  pub count : length outcomes ≡ length settings
-  pub each : (k : ℕ) (s : Pairs) (o : Outcome) → slice_get settings k ≡ Some s → slice_get outcomes k ≡ Some o → IsOutcome p limit s o
+abbrev pub AreOutcomes : Problem → ℕ → List Pairs → List Outcome → Type 0
+AreOutcomes p limit settings outcomes = AllZip (IsOutcome p limit) settings outcomes
 
 -- ---- steps
 -- how many steps are counted for so many settings: one for each node, where the problem has a map; and else at most as many, and as

@@ -1,5 +1,5 @@
 -- The outcomes of settings at which a parameter's range is told.
-use Rattle.std.specs.Prelude.{ℕ, List, Option, Some, None, Result, Ok, Err}
+use Rattle.std.specs.Prelude.{◌≡◌, ℕ, List, Option, Some, None, Result, Ok, Err}
 use Rattle.dcx_frac.specs.declared.fraction.Frac.{Frac}
 use Rattle.dcx_point.specs.Pairs.{Pairs}
 use Rattle.dcx_tree.specs.declared.problem.Problem.{Problem}
@@ -51,4 +51,4 @@ range_end (the.Stop stop) = Err stop
 -- ---- all settings
 -- one outcome for each, in order
 abbrev pub AreRangeOutcomes : Problem → List ℕ → ℕ → List Pairs → List RangeOutcome → Type 0
-AreRangeOutcomes p name limit settings outcomes = AreAskedOutcomes (TellsOf name limit) (λ (o : RangeOutcome). range_end o.end) (λ (o : RangeOutcome). o.place) p settings outcomes
+AreRangeOutcomes p name limit settings outcomes = AreAskedOutcomes (TellsOf name limit) (λ (o : RangeOutcome) (e : Result (Result Ranged RangeStop) Stop). range_end o.end ≡ e) (λ (o : RangeOutcome). o.place) p settings outcomes

@@ -1,5 +1,5 @@
 -- The outcomes of settings from what a session keeps: each from the columns that the settings before it left.
-use Rattle.std.specs.Prelude.{◌≡◌, ⊤, ℕ, Bool, true, false, List, [], ◌∷◌, Option, None, Some, Result, Ok, Err, count_by}
+use Rattle.std.specs.Prelude.{◌≡◌, ◌⊎◌, ⊤, ℕ, Bool, true, false, List, [], ◌∷◌, Option, None, Some, Result, Ok, Err, count_by}
 use Rattle.dcx_point.specs.Pairs.{Pairs}
 use Rattle.dcx_tree.specs.declared.problem.Problem.{Problem}
 use Rattle.dcx_answer.specs.declared.answer.Answer.{Answer}
@@ -8,7 +8,9 @@ use Rattle.dcx_answer.specs.declared.outcome.Outcome.{Outcome}
 use Rattle.dcx_cache.specs.declared.rewarming.Warmed.{Warmed}
 use Rattle.dcx_cache.specs.Answers.{Answers}
 use Rattle.dcx_cache.specs.Warm.{WarmAnswers, WarmAnswersAll}
-use Rattle.dcx_outcomes.specs.Outcomes.{end_of, end_place, AreOutcomes}
+use Rattle.dcx_declared.specs.Whole.{HasNoWhole, HasWhole}
+use Rattle.dcx_outcomes.specs.Outcomes.{solved_end, end_place, AreOutcomes}
+use Rattle.dcx_outcomes.specs.Wholes.{AreWholeOutcomes}
 
 -- ---- one setting
 -- the answer, or the stop
@@ -23,7 +25,7 @@ is_kept (Err stop) = false
 
 -- the outcome tells how a setting ends, with the place of the node that a stop names
 pub record Tells (p : Problem) (r : Result Warmed Stop) (o : Outcome) : Type 0 where
-  pub end : end_of o.end ≡ end_in r
+  pub end : o.end ≡ solved_end (end_in r)
   pub placed : o.place ≡ end_place p o.end
 
 -- ---- all settings
@@ -42,10 +44,16 @@ pub record AreWarmOutcomes (p : Problem) (limit : ℕ) (settings : List Pairs) (
   pub told : AreTold p ends outcomes
   pub count : kept ≡ count_by is_kept ends
 
--- the outcomes of settings, warm or not; the warm ones are counted
+-- the outcomes of a solve at each setting, warm or not; the warm ones are counted
+abbrev pub AreSolved : Bool → Problem → ℕ → List Pairs → List Outcome → Option ℕ → Type 0
+AreSolved false p limit settings outcomes warm = AreOutcomes p limit settings outcomes × (warm ≡ None)
+AreSolved true p limit settings outcomes warm = (n : ℕ) × AreWarmOutcomes p limit settings outcomes n × (warm ≡ Some n)
+
+-- those of a problem: where a variable is to be whole, they are those of branch and bound, unless they are to be warm
 abbrev pub AreFound : Bool → Problem → ℕ → List Pairs → List Outcome → Option ℕ → Type 0
-AreFound false p limit settings outcomes warm = AreOutcomes p limit settings outcomes × (warm ≡ None)
-AreFound true p limit settings outcomes warm = (n : ℕ) × AreWarmOutcomes p limit settings outcomes n × (warm ≡ Some n)
+AreFound false p limit settings outcomes warm =
+    (HasNoWhole p × AreSolved false p limit settings outcomes warm) ⊎ (HasWhole p × AreWholeOutcomes p limit settings outcomes × (warm ≡ None))
+AreFound true p limit settings outcomes warm = AreSolved true p limit settings outcomes warm
 
 -- ---- parts of the way
 -- how a session ends at a setting, warm or not, from what it keeps before

@@ -1,12 +1,12 @@
 -- The outcomes of settings at which a problem with marked variables is solved.
-use Rattle.std.specs.Prelude.{ℕ, List, Result, Ok, Err}
+use Rattle.std.specs.Prelude.{◌≡◌, ℕ, List, Result, Ok, Err}
 use Rattle.dcx_frac.specs.declared.fraction.Frac.{Frac}
 use Rattle.dcx_point.specs.Pairs.{Pairs}
 use Rattle.dcx_tree.specs.declared.problem.Problem.{Problem}
 use Rattle.dcx_answer.specs.declared.stop.Stop.{Stop}
-use Rattle.dcx_answer.specs.declared.whole_outcome.WholeEnd.{WholeEnd}
-use Rattle.dcx_answer.specs.declared.whole_outcome.WholeEnd.TheVariants as the
-use Rattle.dcx_answer.specs.declared.whole_outcome.WholeOutcome.{WholeOutcome}
+use Rattle.dcx_answer.specs.declared.outcome.Outcome.{Outcome}
+use Rattle.dcx_answer.specs.declared.outcome.OutcomeEnd.{OutcomeEnd}
+use Rattle.dcx_answer.specs.declared.outcome.OutcomeEnd.TheVariants as the
 use Rattle.dcx_graph.specs.Program.{Program}
 use Rattle.dcx_answer.specs.declared.whole_answer.WholeAnswer.{WholeAnswer}
 use Rattle.dcx_answer.specs.declared.whole_answer.BranchStop.{BranchStop}
@@ -23,12 +23,13 @@ abbrev pub WholeGives : ℕ → Problem → Pairs → Program Frac → Result Wh
 WholeGives limit p setting program r = IsEndOf p program limit most_nodes r
 
 -- how a setting ends: with the end of the run, or with what stops the program
-abbrev pub whole_end : WholeEnd → Result (Result WholeAnswer BranchStop) Stop
-whole_end (the.Whole answer) = Ok (Ok answer)
-whole_end (the.Branch stop) = Ok (Err stop)
-whole_end (the.Stop stop) = Err stop
+abbrev pub whole_end : Result (Result WholeAnswer BranchStop) Stop → OutcomeEnd
+whole_end (Ok (Ok answer)) = the.Whole answer
+whole_end (Ok (Err stop)) = the.Branch stop
+whole_end (Err stop) = the.Stop stop
 
 -- ---- all settings
 -- one outcome for each, in order
-abbrev pub AreWholeOutcomes : Problem → ℕ → List Pairs → List WholeOutcome → Type 0
-AreWholeOutcomes p limit settings outcomes = AreAskedOutcomes (WholeGives limit) (λ (o : WholeOutcome). whole_end o.end) (λ (o : WholeOutcome). o.place) p settings outcomes
+abbrev pub AreWholeOutcomes : Problem → ℕ → List Pairs → List Outcome → Type 0
+AreWholeOutcomes p limit settings outcomes =
+    AreAskedOutcomes (WholeGives limit) (λ (o : Outcome) (e : Result (Result WholeAnswer BranchStop) Stop). o.end ≡ whole_end e) (λ (o : Outcome). o.place) p settings outcomes

@@ -43,8 +43,8 @@ pub(crate) trait Question {
     /// Which answers it has at a setting of a problem, for a program there.
     ghost gives: { Self → Problem → Pairs → Program Frac → Self.Answer → Type 0 };
 
-    /// How a setting ends, as its outcome tells.
-    ghost told_end: { Self.Outcome → Result Self.Answer Stop };
+    /// Whether an outcome tells that a setting ends so.
+    ghost tells: { Self.Outcome → Result Self.Answer Stop → Type 0 };
 
     /// The place that its outcome tells.
     ghost told_place: { Self.Outcome → Option Place };
@@ -66,13 +66,13 @@ pub(crate) trait Question {
 
     /// The outcome that tells an answer.
     fn answered(&self, answer: Self::Answer) -> Self::Outcome
-        ensures end { told_end result ≡ Ok answer }
+        ensures end { tells result (Ok answer) }
         ensures place { told_place result ≡ None };
 
     /// The outcome that tells what stops the program, with the place of the node that it names.
     fn stopped(&self, stop: Stop, place: Option<Place>) -> Self::Outcome
         requires { is_some place ≡ stop_names_node stop }
-        ensures end { told_end result ≡ Err stop }
+        ensures end { tells result (Err stop) }
         ensures place { told_place result ≡ place };
 }
 
@@ -102,7 +102,7 @@ fn outcome<Q: Question, S: Ledger>(
     steps: &mut Steps<S>,
 ) -> Q::Outcome
     requires { Q.can_ask question.now session.old.problem }
-    ensures outcome { IsAskedOutcome (Q.gives question.now) Q.told_end Q.told_place session.old.problem setting.now result }
+    ensures outcome { IsAskedOutcome (Q.gives question.now) Q.tells Q.told_place session.old.problem setting.now result }
     ensures same { session.new.problem ≡ session.old.problem }
     ensures counted { HasMap session.old.problem → steps.new ≡ steps.old }
     ensures few { steps.new ≤ steps.old + length session.old.problem.tree }
@@ -129,7 +129,7 @@ pub(crate) fn ask_session<Q: Question, S: Ledger>(
     steps: &mut Steps<S>,
 ) -> Result<Vec<Q::Outcome>, AllocError>
     requires { Q.can_ask question.now session.old.problem }
-    ensures outcomes { IfOk result (λ v. AreAskedOutcomes (Q.gives question.now) Q.told_end Q.told_place session.old.problem settings.now v.items) }
+    ensures outcomes { IfOk result (λ v. AreAskedOutcomes (Q.gives question.now) Q.tells Q.told_place session.old.problem settings.now v.items) }
     ensures counted { HasMap session.old.problem → steps.new ≡ steps.old }
     ensures few { steps.new ≤ steps.old + length settings.now * length session.old.problem.tree }
 {
@@ -153,7 +153,7 @@ pub(crate) fn ask_problem<Q: Question, S: Ledger>(
     requires accepted { IsAccepted problem }
     requires verdict { IsVerdictOf problem verdict }
     requires can { Q.can_ask question.now problem }
-    ensures outcomes { IfOk result (λ v. AreAskedOutcomes (Q.gives question.now) Q.told_end Q.told_place problem settings.now v.items) }
+    ensures outcomes { IfOk result (λ v. AreAskedOutcomes (Q.gives question.now) Q.tells Q.told_place problem settings.now v.items) }
     ensures counted { OnOk result (Counts problem (length settings.now) steps.old steps.new) }
     ensures few { CountsNoMore problem (length settings.now) steps.old steps.new }
 {

@@ -1,5 +1,5 @@
 //! The outcomes of a problem at settings at which its constraints are filtered.
-ghost use Rattle.std.specs.Prelude.{⊤, length, IfOk, OnOk};
+ghost use Rattle.std.specs.Prelude.{◌≡◌, ⊤, length, IfOk, OnOk};
 ghost use Rattle.dcx_rules.specs.Verdicts.{IsVerdictOf};
 ghost use Rattle.dcx_tree.specs.Meaning.{IsAccepted};
 ghost use Rattle.dcx_outcomes.specs.Outcomes.{Counts, CountsNoMore};
@@ -34,7 +34,7 @@ impl Question for Filtering {
 
     ghost gives = { λ q. FilterGives q.limit };
 
-    ghost told_end = { λ o. filter_end o.end };
+    ghost tells = { λ o e. filter_end o.end ≡ e };
 
     ghost told_place = { λ o. o.place };
 

@@ -1,15 +1,18 @@
 //! The outcomes of a problem at settings, one after the other.
-ghost use Rattle.std.specs.Prelude.{◌≡◌, ◌+◌, ◌*◌, ◌≤◌, length, IfOk, OnOk};
+ghost use Rattle.std.specs.Prelude.{◌≡◌, ◌+◌, ◌*◌, ◌≤◌, length, None, IfOk, OnOk};
 ghost use Rattle.dcx_rules.specs.Verdicts.{IsVerdictOf};
 ghost use Rattle.dcx_tree.specs.Meaning.{IsAccepted};
 ghost use Rattle.dcx_cache.specs.Programs.{HasMap};
 ghost use Rattle.dcx_outcomes.specs.Outcomes.{Counts, CountsNoMore};
-ghost use Rattle.dcx_outcomes.specs.Warm.{AreToldFrom, AreFound, counted_where};
+ghost use Rattle.dcx_outcomes.specs.Wholes.{AreWholeOutcomes};
+ghost use Rattle.dcx_outcomes.specs.Warm.{AreToldFrom, AreSolved, AreFound, counted_where};
 
 use crate::beginning::begin;
 use crate::telling::outcome;
+use crate::wholes::whole_outcomes;
 use dcx_answer::Outcomes;
 use dcx_cache::Session;
+use dcx_declared::has_whole;
 use dcx_point::Setting;
 use dcx_rules::Verdict;
 use dcx_steps::Steps;
@@ -79,10 +82,61 @@ fn counted(warm: bool, told: Told) -> Result<Found, AllocError>
     }
 }
 
-/// The outcome of an accepted problem at each setting, in order, with at most `limit` pivots each: what one session answers there, with
+/// The outcome of a solve of an accepted problem at each setting: what one session answers there.
+fn solved_outcomes<S: Ledger>(
+    alloc: Global,
+    problem: Problem,
+    verdict: Verdict,
+    settings: &[Setting],
+    limit: u64,
+    warm: bool,
+    steps: &mut Steps<S>,
+) -> Result<Found, AllocError>
+    requires accepted { IsAccepted problem }
+    requires verdict { IsVerdictOf problem verdict }
+    ensures outcomes { IfOk result (λ f. AreSolved warm problem limit settings.now f.outcomes f.warm) }
+    ensures counted { OnOk result (Counts problem (length settings.now) steps.old steps.new) }
+    ensures few { CountsNoMore problem (length settings.now) steps.old steps.new }
+{
+    let mut session = begin(alloc, problem, verdict, steps)?;
+    let told = all(alloc, &mut session, settings, limit, warm, steps);
+    drop(session);
+    match told {
+        Ok(told) => counted(warm, told),
+        Err(e) => Err(e),
+    }
+}
+
+/// How branch and bound ends for an accepted problem at each setting. None is warm.
+fn whole_found<S: Ledger>(
+    alloc: Global,
+    problem: Problem,
+    verdict: Verdict,
+    settings: &[Setting],
+    limit: u64,
+    steps: &mut Steps<S>,
+) -> Result<Found, AllocError>
+    requires accepted { IsAccepted problem }
+    requires verdict { IsVerdictOf problem verdict }
+    ensures outcomes { IfOk result (λ f. AreWholeOutcomes problem limit settings.now f.outcomes × (f.warm ≡ None)) }
+    ensures counted { OnOk result (Counts problem (length settings.now) steps.old steps.new) }
+    ensures few { CountsNoMore problem (length settings.now) steps.old steps.new }
+{
+    match whole_outcomes(alloc, problem, verdict, settings, limit, steps) {
+        Ok(outcomes) => Ok(Found {
+            outcomes,
+            warm: None,
+        }),
+        Err(e) => Err(e),
+    }
+}
+
+/// The outcome of an accepted problem at each setting, in order, with at most `limit` pivots each: what one session answers there; or,
+/// where a variable is to be whole, how branch and bound ends, with at most `limit` pivots in each node and at most 10,000 nodes; with
 /// the place in the script of the node that a stop names. Where `warm` says so, each setting is answered from the columns that the
-/// settings before it left, where that can be, and those that are answered so are counted. `AllocError` where there is no memory for the session or for the list, or where
-/// more settings are warm than a `u32` counts; want of memory at a setting is that setting's stop.
+/// settings before it left, where that can be, and those that are answered so are counted; none is whole then. `AllocError` where there
+/// is no memory for the session or for the list, or where more settings are warm than a `u32` counts; want of memory at a setting is that
+/// setting's stop.
 pub fn outcomes<S: Ledger>(
     alloc: Global,
     problem: Problem,
@@ -98,11 +152,12 @@ pub fn outcomes<S: Ledger>(
     ensures counted { OnOk result (Counts problem (length settings.now) steps.old steps.new) }
     ensures few { CountsNoMore problem (length settings.now) steps.old steps.new }
 {
-    let mut session = begin(alloc, problem, verdict, steps)?;
-    let told = all(alloc, &mut session, settings, limit, warm, steps);
-    drop(session);
-    match told {
-        Ok(told) => counted(warm, told),
-        Err(e) => Err(e),
+    if warm {
+        return solved_outcomes(alloc, problem, verdict, settings, limit, true, steps);
+    }
+    if has_whole(&problem) {
+        whole_found(alloc, problem, verdict, settings, limit, steps)
+    } else {
+        solved_outcomes(alloc, problem, verdict, settings, limit, false, steps)
     }
 }

@@ -2,8 +2,7 @@
 ghost use Rattle.dcx_outcomes.specs.Complete.{OutcomesAreComplete};
 ghost use Rattle.dcx_outcomes.specs.FilterLaws.{FiltersAreRight, FiltersAreOne};
 ghost use Rattle.dcx_outcomes.specs.RangeLaws.{RangeIsTold, RangesAreRight, RangesAreOne};
-ghost use Rattle.dcx_outcomes.specs.Laws.{OutcomesAreRight, OutcomesAreOne, WarmOutcomesAreRight, WarmOutcomesAgree, WarmOutcomesAreOne};
-ghost use Rattle.dcx_outcomes.specs.WholeLaws.{WholesAreRight, WholesAreOne};
+ghost use Rattle.dcx_outcomes.specs.Laws.{OutcomesAreRight, OutcomesAreOne, WholesAreRight, WholesAreOne, WarmOutcomesAreRight, WarmOutcomesAgree, WarmOutcomesAreOne};
 
 /// Each answer among the outcomes of an accepted problem is right at its setting, which fits.
 pub fn outcomes_are_right()

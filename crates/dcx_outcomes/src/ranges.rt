@@ -32,7 +32,7 @@ impl Question for Ranging<'_> {
 
     ghost gives = { λ q. TellsOf q.name.now q.limit };
 
-    ghost told_end = { λ o. range_end o.end };
+    ghost tells = { λ o e. range_end o.end ≡ e };
 
     ghost told_place = { λ o. o.place };
 

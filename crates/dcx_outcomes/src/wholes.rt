@@ -1,12 +1,12 @@
 //! The outcomes of a problem with marked variables at settings.
-ghost use Rattle.std.specs.Prelude.{⊤, length, IfOk, OnOk};
+ghost use Rattle.std.specs.Prelude.{◌≡◌, ⊤, length, IfOk, OnOk};
 ghost use Rattle.dcx_rules.specs.Verdicts.{IsVerdictOf};
 ghost use Rattle.dcx_tree.specs.Meaning.{IsAccepted};
 ghost use Rattle.dcx_outcomes.specs.Outcomes.{Counts, CountsNoMore};
 ghost use Rattle.dcx_outcomes.specs.Wholes.{WholeGives, whole_end, AreWholeOutcomes};
 
 use crate::asking::{Question, ask_problem};
-use dcx_answer::{BranchStop, Stop, WholeAnswer, WholeEnd, WholeOutcome, WholeOutcomes};
+use dcx_answer::{BranchStop, Outcome, OutcomeEnd, Outcomes, Stop, WholeAnswer};
 use dcx_branch::branch;
 use dcx_frac::Frac;
 use dcx_graph::Reduced;
@@ -31,13 +31,13 @@ struct Branching {
 impl Question for Branching {
     type Answer = Result<WholeAnswer, BranchStop>;
 
-    type Outcome = WholeOutcome;
+    type Outcome = Outcome;
 
     ghost can_ask = { λ _ _. ⊤ };
 
     ghost gives = { λ q. WholeGives q.limit };
 
-    ghost told_end = { λ o. whole_end o.end };
+    ghost tells = { λ o e. o.end ≡ whole_end e };
 
     ghost told_place = { λ o. o.place };
 
@@ -52,22 +52,22 @@ impl Question for Branching {
         branch(alloc, problem, program, setting, self.limit, MOST_NODES)
     }
 
-    fn answered(&self, answer: Result<WholeAnswer, BranchStop>) -> WholeOutcome {
+    fn answered(&self, answer: Result<WholeAnswer, BranchStop>) -> Outcome {
         match answer {
-            Ok(whole) => WholeOutcome {
-                end: WholeEnd::Whole(whole),
+            Ok(whole) => Outcome {
+                end: OutcomeEnd::Whole(whole),
                 place: None,
             },
-            Err(stop) => WholeOutcome {
-                end: WholeEnd::Branch(stop),
+            Err(stop) => Outcome {
+                end: OutcomeEnd::Branch(stop),
                 place: None,
             },
         }
     }
 
-    fn stopped(&self, stop: Stop, place: Option<Place>) -> WholeOutcome {
-        WholeOutcome {
-            end: WholeEnd::Stop(stop),
+    fn stopped(&self, stop: Stop, place: Option<Place>) -> Outcome {
+        Outcome {
+            end: OutcomeEnd::Stop(stop),
             place,
         }
     }
@@ -77,14 +77,14 @@ impl Question for Branching {
 /// at most 10,000 nodes: a whole optimum, that there is no whole point, or what stops the run of nodes or the program, with the place
 /// in the script of the node that a program's stop names. `AllocError` where there is no memory for the session or for the list; want
 /// of memory at a setting is that setting's stop.
-pub fn whole_outcomes<S: Ledger>(
+pub(crate) fn whole_outcomes<S: Ledger>(
     alloc: Global,
     problem: Problem,
     verdict: Verdict,
     settings: &[Setting],
     limit: u64,
     steps: &mut Steps<S>,
-) -> Result<WholeOutcomes, AllocError>
+) -> Result<Outcomes, AllocError>
     requires accepted { IsAccepted problem }
     requires verdict { IsVerdictOf problem verdict }
     ensures outcomes { IfOk result (AreWholeOutcomes problem limit settings.now) }
@@ -93,5 +93,5 @@ pub fn whole_outcomes<S: Ledger>(
 {
     let question = Branching { limit };
     let outcomes = ask_problem(alloc, &question, problem, verdict, settings, steps)?;
-    Ok(WholeOutcomes::from_vec(outcomes))
+    Ok(Outcomes::from_vec(outcomes))
 }

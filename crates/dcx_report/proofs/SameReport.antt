@@ -43,6 +43,10 @@ unfolding end_text stopped_text
 end_read layout sense p q (the.Answer a) (the.Answer b) r s h k e =
     let parts = answer_read layout sense a b r s h k e in
     (ap Some parts.0, parts.1)
+end_read layout sense p q (the.Whole a) y r s h k e = absurd h
+end_read layout sense p q (the.Branch stop) y r s h k e = absurd h
+end_read layout sense p q x (the.Whole b) r s h k e = absurd k
+end_read layout sense p q x (the.Branch other) r s h k e = absurd k
 end_read layout sense p q (the.Answer a) (the.Stop stop) r s h k e = absurd (second_of_answer sense a r _ e)
 end_read layout sense p q (the.Stop stop) (the.Answer b) r s h k e = absurd (second_of_answer sense b s _ (sym e))
 end_read layout sense p q (the.Stop stop) (the.Stop other) r s h k e =

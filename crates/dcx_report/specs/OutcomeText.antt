@@ -6,11 +6,12 @@ use Rattle.dcx_shape.specs.declared.place.Place.{Place}
 use Rattle.dcx_tree.specs.declared.constraint.Sense.{Sense}
 use Rattle.dcx_answer.specs.declared.outcome.Outcome.{Outcome}
 use Rattle.dcx_answer.specs.declared.outcome.OutcomeEnd.{OutcomeEnd}
-use Rattle.dcx_answer.specs.declared.outcome.OutcomeEnd.TheVariants.{Answer, Stop}
+use Rattle.dcx_answer.specs.declared.outcome.OutcomeEnd.TheVariants.{Answer, Whole, Branch, Stop}
 use Rattle.dcx_report.specs.declared.run.Word.{Word}
 use Rattle.dcx_report.specs.declared.run.Word.TheVariants.{Solve, Setting}
 use Rattle.dcx_report.specs.AnswerText.{answer_text}
 use Rattle.dcx_report.specs.StopText.{stopped_text}
+use Rattle.dcx_report.specs.WholeText.{whole_text, branch_stop_text}
 
 -- the word that an outcome's first line begins with
 unfoldable pub word_text : Word → List ℕ
@@ -20,6 +21,8 @@ word_text Setting = codes "setting"
 -- what stands behind the number of a setting
 unfoldable pub end_text : Sense → Option Place → OutcomeEnd → List ℕ
 end_text sense place (Answer answer) = answer_text sense answer
+end_text sense place (Whole answer) = whole_text sense answer
+end_text sense place (Branch stop) = branch_stop_text stop
 end_text sense place (Stop stop) = stopped_text place stop
 
 -- the lines of one outcome, with its number
@@ -34,6 +37,8 @@ outcome_lines word sense outcomes = flat_map (outcome_text word sense) (enumerat
 -- whether a setting is answered, and not stopped
 abbrev pub is_answer : OutcomeEnd → Bool
 is_answer (Answer answer) = true
+is_answer (Whole answer) = true
+is_answer (Branch stop) = false
 is_answer (Stop stop) = false
 
 -- how many settings are answered

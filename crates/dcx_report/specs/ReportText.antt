@@ -1,7 +1,7 @@
 -- The bytes of the report of a run. Each line ends with a line feed.
 use Rattle.std.specs.Prelude.{ℕ, List, ◌++◌, codes}
 use Rattle.dcx_report.specs.declared.run.Run.{Run}
-use Rattle.dcx_report.specs.declared.run.Run.TheVariants.{Usage, Refused, Checked, Solved, Branched, Certificates, Certified, CertRefused, Trial, Filtered, Ranged, ReadFault, Memory}
+use Rattle.dcx_report.specs.declared.run.Run.TheVariants.{Usage, Refused, Checked, Solved, Certificates, Certified, CertRefused, Trial, Filtered, Ranged, ReadFault, Memory}
 use Rattle.dcx_report.specs.CertifiedText.{certified_text, cert_refused_text}
 use Rattle.dcx_report.specs.CheckText.{checked_text}
 use Rattle.dcx_report.specs.FilterText.{filter_lines, filter_count_line}
@@ -9,7 +9,6 @@ use Rattle.dcx_report.specs.OutcomeText.{outcome_lines, count_line, warm_line}
 use Rattle.dcx_report.specs.RangeText.{range_lines, range_count_line}
 use Rattle.dcx_report.specs.RefusalText.{refusal_text}
 use Rattle.dcx_report.specs.TrialText.{trial_lines}
-use Rattle.dcx_report.specs.WholeText.{whole_lines, whole_count_line}
 
 -- the commands, with their operands
 abbrev pub usage_text : List ℕ
@@ -22,7 +21,6 @@ text_of Usage = usage_text
 text_of (Refused refusal) = refusal_text refusal
 text_of (Checked checked) = checked_text checked
 text_of (Solved word sense outcomes warm) = outcome_lines word sense outcomes ++ count_line outcomes ++ warm_line warm
-text_of (Branched word sense outcomes) = whole_lines word sense outcomes ++ whole_count_line outcomes
 text_of (Certificates text stopped) = text
 text_of (Certified sections) = certified_text sections
 text_of (CertRefused section fault) = cert_refused_text section fault

@@ -40,14 +40,18 @@ SaysOneLine (ParamShape name declared given) = IsOnOneLine name
 SaysOneLine (ParamSign name entry value) = IsOnOneLine name
 SaysOneLine _ = ⊤
 
--- the outcome is of a problem with this layout
+-- the outcome is of a problem with this layout, of which no variable is marked
 abbrev pub IsEndOf : Layout → OutcomeEnd → Type 0
 IsEndOf layout (the.Answer answer) = IsAnswerOf layout answer
+IsEndOf layout (the.Whole answer) = ⊥
+IsEndOf layout (the.Branch stop) = ⊥
 IsEndOf layout (the.Stop stop) = SaysOneLine stop
 
 -- the answer to a setting, where it has one
 abbrev pub answer_of : OutcomeEnd → Option Answer
 answer_of (the.Answer answer) = Some answer
+answer_of (the.Whole answer) = None
+answer_of (the.Branch stop) = None
 answer_of (the.Stop stop) = None
 
 -- the answers of a run, in order

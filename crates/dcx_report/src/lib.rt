@@ -33,7 +33,7 @@ mod whole_lines;
 pub use dcx_answer::{
     Answer, BranchStop, CertFault, FilterEnd, FilterOutcome, FilterOutcomes, FilterStop, Filtered,
     Outcome, OutcomeEnd, Outcomes, RangeEnd, RangeOutcome, RangeOutcomes, RangeStop, Ranged, Stop,
-    WholeAnswer, WholeEnd, WholeOutcome, WholeOutcomes,
+    WholeAnswer,
 };
 pub use dcx_host::{FetchFault, Library, Sink, SinkFault};
 pub use dcx_refusal::Refusal;

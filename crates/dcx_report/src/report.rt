@@ -13,7 +13,7 @@ use crate::range_lines::{put_range_counts, put_ranges};
 use crate::refusal_line::put_refusal;
 use crate::stop_line::put_stopped;
 use crate::trial_lines::put_trial;
-use crate::whole_lines::{put_whole_counts, put_wholes};
+use crate::whole_lines::{put_branch_stop, put_whole};
 use crate::{Outcome, OutcomeEnd, Run, Sense, Word};
 use dcx_lines::put_bytes;
 use dcx_shape::{Bytes, Place};
@@ -21,7 +21,7 @@ use std::alloc::{AllocError, Global};
 
 /// The word that each outcome's first line begins with.
 #[tactic(auto, unfolding(crate::specs::OutcomeText::word_text))]
-pub(crate) fn word_of_outcomes(word: Word) -> &'static [u8]
+fn word_of_outcomes(word: Word) -> &'static [u8]
     ensures { result.now ≡ word_text word }
 {
     match word {
@@ -42,6 +42,8 @@ fn put_end(
 {
     match end {
         OutcomeEnd::Answer(answer) => put_answer(out, sense, answer),
+        OutcomeEnd::Whole(answer) => put_whole(out, sense, answer),
+        OutcomeEnd::Branch(stop) => put_branch_stop(out, stop),
         OutcomeEnd::Stop(stop) => put_stopped(out, place, stop),
     }
 }
@@ -84,7 +86,7 @@ impl SettingEnd for Outcome {
     ghost answered = { λ o. is_answer o.end };
 
     fn is_answered(&self) -> bool {
-        matches!(&self.end, OutcomeEnd::Answer(_))
+        matches!(&self.end, OutcomeEnd::Answer(_) | OutcomeEnd::Whole(_))
     }
 }
 
@@ -149,15 +151,6 @@ fn put_run(out: &mut Vec<u8>, run: &Run) -> Result<(), AllocError>
             put_outcomes(out, *word, *sense, outcomes)?;
             put_counts(out, outcomes)?;
             put_warm(out, *warm)
-        }
-        Run::Branched {
-            word,
-            sense,
-            outcomes,
-        } => {
-            let outcomes = outcomes.as_slice();
-            put_wholes(out, *word, *sense, outcomes)?;
-            put_whole_counts(out, outcomes)
         }
         Run::Certificates { text, .. } => put_bytes(out, text.as_slice()),
         Run::Certified { sections } => put_certified(out, *sections),

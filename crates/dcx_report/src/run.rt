@@ -1,6 +1,6 @@
 //! How a run ends.
 
-use crate::{FilterOutcomes, Outcomes, RangeOutcomes, Refusal, Sense, WholeOutcomes};
+use crate::{FilterOutcomes, Outcomes, RangeOutcomes, Refusal, Sense};
 use dcx_answer::CertFault;
 use dcx_refusal::Checked;
 use dcx_shape::{Bytes, Name};
@@ -23,7 +23,7 @@ pub enum Run {
     Refused(Refusal),
     /// The rules accept the problem, of which this is found.
     Checked(Checked),
-    /// The problem was solved, or stopped, at each setting.
+    /// The problem was solved, by branch and bound where it has marked variables, or stopped, at each setting.
     Solved {
         /// What the outcomes stand under.
         word: Word,
@@ -33,15 +33,6 @@ pub enum Run {
         outcomes: Outcomes,
         /// How many of them were found from the columns of an earlier answer, where that was wanted.
         warm: Option<u32>,
-    },
-    /// The problem, which has marked variables, was solved by branch and bound, or stopped, at each setting.
-    Branched {
-        /// What the outcomes stand under.
-        word: Word,
-        /// Which way the script's objective goes.
-        sense: Sense,
-        /// The outcomes, in order.
-        outcomes: WholeOutcomes,
     },
     /// The text of a certificate: of the answers at each setting, or of sections that were read and hold.
     Certificates {

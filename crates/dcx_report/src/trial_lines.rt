@@ -5,7 +5,8 @@ ghost use Rattle.dcx_report.specs.TrialText.{answer_kind, trial_end, trial_line,
 
 use crate::pieces::put_numbered;
 use crate::stop_line::put_stopped;
-use crate::{Answer, Outcome, OutcomeEnd};
+use crate::whole_lines::{put_branch_stop, put_whole};
+use crate::{Answer, Outcome, OutcomeEnd, Sense};
 use dcx_frac::Frac;
 use dcx_lines::{put_bytes, put_frac};
 use dcx_shape::Place;
@@ -45,6 +46,8 @@ fn put_trial_end(
             put_kind(out, answer)?;
             put_bytes(out, b"\n")
         }
+        OutcomeEnd::Whole(answer) => put_whole(out, Sense::Minimize, answer),
+        OutcomeEnd::Branch(stop) => put_branch_stop(out, stop),
         OutcomeEnd::Stop(stop) => put_stopped(out, place, stop),
     }
 }

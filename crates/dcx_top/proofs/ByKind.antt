@@ -3,10 +3,9 @@ use Rattle.std.proofs.Common.{◌≡◌, ℕ, Bool, true, false, List, Option, S
 use Rattle.std.proofs.lemmas.Option.{none-some}
 use Rattle.dcx_tree.specs.declared.constraint.Sense.{Sense}
 use Rattle.dcx_answer.specs.declared.outcome.Outcome.{Outcome}
-use Rattle.dcx_answer.specs.declared.whole_outcome.WholeOutcome.{WholeOutcome}
 use Rattle.dcx_report.specs.declared.run.Run.{Run}
 use Rattle.dcx_words.specs.Commands.{Command, check, solve, resolve, certificate, certify, migrate, trial, iis, range}
-use Rattle.dcx_top.specs.Commands.{certificate_name, parameter_name, TellsOutcomes, TellsWholes}
+use Rattle.dcx_top.specs.Commands.{certificate_name, parameter_name, TellsOutcomes}
 
 pub data Kind : Type 0 where
   checks : Kind
@@ -63,18 +62,6 @@ outcomes_told (trial size limit) sense os count r h = refl
 outcomes_told (iis script name limit) sense os count r h = absurd h
 outcomes_told (range script name parameter limit) sense os count r h = absurd h
 
-pub wholes_told : (c : Command) (sense : Sense) (os : List WholeOutcome) (r : Run) → TellsWholes c sense os r → kind_of c ≡ solves
-wholes_told (check script) sense os r h = absurd h
-wholes_told (solve script limit) sense os r h = refl
-wholes_told (resolve script name limit false) sense os r h = refl
-wholes_told (resolve script name limit true) sense os r h = absurd h
-wholes_told (certificate script name limit) sense os r h = absurd h
-wholes_told (certify script name cert) sense os r h = absurd h
-wholes_told (migrate script name cert) sense os r h = absurd h
-wholes_told (trial size limit) sense os r h = absurd h
-wholes_told (iis script name limit) sense os r h = absurd h
-wholes_told (range script name parameter limit) sense os r h = absurd h
-
 -- they read no certificate, and ask for no parameter
 pub record AsksNoMore (c : Command) : Type 0 where
   pub certificate : certificate_name c ≡ None
@@ -93,9 +80,6 @@ of_solving (range script name parameter limit) e = absurd (apart ranges solves r
 
 pub of_outcomes : (c : Command) (sense : Sense) (os : List Outcome) (count : Option ℕ) (r : Run) → TellsOutcomes c sense os count r → AsksNoMore c
 of_outcomes c sense os count r h = of_solving c (outcomes_told c sense os count r h)
-
-pub of_wholes : (c : Command) (sense : Sense) (os : List WholeOutcome) (r : Run) → TellsWholes c sense os r → AsksNoMore c
-of_wholes c sense os r h = of_solving c (wholes_told c sense os r h)
 
 -- ---- commands that read a certificate
 abbrev pub is_reading : Kind → Bool

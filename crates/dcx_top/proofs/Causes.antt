@@ -13,7 +13,6 @@ use Rattle.dcx_cert_lines.specs.CertText.{cert_text}
 use Rattle.dcx_cache.specs.Programs.{HasMap}
 use Rattle.dcx_outcomes.specs.Outcomes.{Counts}
 use Rattle.dcx_outcomes.specs.Warm.{AreFound}
-use Rattle.dcx_outcomes.specs.Wholes.{AreWholeOutcomes}
 use Rattle.dcx_cert_runs.specs.Sections.{StopsSomewhere, IsCertificateAt}
 use Rattle.dcx_cert_runs.specs.Checking.{is_cert, ArePassed, IsFirstRefused}
 use Rattle.dcx_cert_runs.specs.Migrating.{IsMigrated}
@@ -28,28 +27,26 @@ use Rattle.dcx_front.specs.Checks.{IsFoundOf}
 use Rattle.dcx_front.specs.Accepts.{Gives, IsJudged}
 use Rattle.dcx_front.proofs.OneVerdict.{acceptance}
 use Rattle.dcx_answer.specs.declared.outcome.Outcome.{Outcome}
-use Rattle.dcx_answer.specs.declared.whole_outcome.WholeOutcome.{WholeOutcome}
 use Rattle.dcx_report.specs.declared.run.Run.{Run}
 use Rattle.dcx_report.specs.declared.run.Run.TheVariants as run
-use Rattle.dcx_report.specs.declared.run.Word.{Word}
 use Rattle.dcx_report.specs.declared.run.Word.TheVariants as word
 use Rattle.dcx_words.specs.Commands.{Command, check, solve, resolve, certificate, certify, migrate, trial, iis, range, command_of}
 use Rattle.dcx_words.specs.Laws.{is_warm_command}
 use Rattle.dcx_trial.specs.Trial.{trial_text}
-use Rattle.dcx_top.specs.Commands.{IsScriptOf, script_name, settings_name, certificate_name, parameter_name, AreOfFile, AreSettingsOf, limit_of, TellsOutcomes, TellsWholes}
+use Rattle.dcx_top.specs.Commands.{IsScriptOf, script_name, settings_name, certificate_name, parameter_name, AreOfFile, AreSettingsOf, limit_of, TellsOutcomes}
 use Rattle.dcx_top.specs.Files.{RefusesScript, RefusesSettings, HasTextOf}
 use Rattle.dcx_top.specs.Reading.{run_of, EndsAt, refused_at, ReadsCertificate}
 use Rattle.dcx_top.specs.Asked.{IsAcceptedWork}
-use Rattle.dcx_top.specs.Runs.{IsSolvedRun, IsBranchedRun, HasCertificate, ReadsSections, HasPassed, misread, failed, long_script, bad_script, for_whole, for_range}
+use Rattle.dcx_top.specs.Runs.{IsSolvedRun, HasCertificate, ReadsSections, HasPassed, misread, failed, long_script, bad_script, for_whole, for_range}
 use Rattle.dcx_top.specs.Runs.{bad_settings, long_certificate, no_script, no_settings, no_certificate, CountsAtMostBeginning, CountsAtMost, none, beginning, solving, Causes}
-use Rattle.dcx_top.specs.Solving.{OrWhole, SolvesAt, BranchesAt, AnswersAt, TriesAt, CertifiesAt, DoesAt, DoesFrom, task_refuses, command_for, RangesFrom, lacking, ending, ranging, wanting}
+use Rattle.dcx_top.specs.Solving.{OrWhole, SolvesAt, SolvesUnder, TriesAt, CertifiesAt, DoesAt, DoesFrom, task_refuses, command_for, RangesFrom, lacking, ending, ranging, wanting}
 use Rattle.dcx_top.specs.Certifying.{GivesSettings, GivesSections, EndsFiles, at_script, at_whole, at_settings, at_certificate, at_memory}
 use Rattle.dcx_top.proofs.Counting.{no_more_of, begun_no_more}
 use Rattle.dcx_top.proofs.Reading.{told_fault}
 use Rattle.dcx_top.specs.NoRange.{AllowsRange}
-use Rattle.dcx_top.proofs.ByKind.{of_outcomes, of_wholes}
+use Rattle.dcx_top.proofs.ByKind.{of_outcomes}
 use Rattle.dcx_top.proofs.Named.{unasked, allowed, allowed_reading}
-use Rattle.dcx_declared.specs.Whole.{HasNoWhole, HasWhole}
+use Rattle.dcx_declared.specs.Whole.{HasNoWhole}
 use Rattle.dcx_top.specs.Whole.{IsRefusedForWhole, RefusesWhole, Takes}
 use Rattle.dcx_top.specs.Ended.{IsToldOf}
 use Rattle.dcx_top.specs.declared.solving.Task.{Task}
@@ -82,7 +79,6 @@ module _ (words : List (List ℕ)) (told : Option Files) (risen : Type 0) (comma
   script_ends name n run.Usage is of h = absurd h
   script_ends name n (run.Checked c) is of h = absurd h
   script_ends name n (run.Solved word sense outcomes warm) is of h = absurd h
-  script_ends name n (run.Branched word sense outcomes) is of h = absurd h
   script_ends name n (run.Certificates text stopped) is of h = absurd h
   script_ends name n (run.Certified sections) is of h = absurd h
   script_ends name n (run.CertRefused section fault) is of h = absurd h
@@ -112,7 +108,6 @@ module _ (words : List (List ℕ)) (told : Option Files) (risen : Type 0) (comma
     settings_end taken allows name old new run.Usage steps is h = absurd h
     settings_end taken allows name old new (run.Checked c) steps is h = absurd h
     settings_end taken allows name old new (run.Solved word sense outcomes warm) steps is h = absurd h
-    settings_end taken allows name old new (run.Branched word sense outcomes) steps is h = absurd h
     settings_end taken allows name old new (run.Certificates text stopped) steps is h = absurd h
     settings_end taken allows name old new (run.Certified sections) steps is h = absurd h
     settings_end taken allows name old new (run.CertRefused section fault) steps is h = absurd h
@@ -122,13 +117,13 @@ module _ (words : List (List ℕ)) (told : Option Files) (risen : Type 0) (comma
 
     -- ---- the problem is solved
     module _ (settings : List Pairs) (asked : AreSettingsOf told command a settings) (tells : List Outcome → Option ℕ → Run)
-        (continuous : HasNoWhole a.problem) (told_so : (outcomes : List Outcome) (count : Option ℕ) → TellsOutcomes command a.problem.sense outcomes count (tells outcomes count)) where
+        (takes : Takes command a.problem) (told_so : (outcomes : List Outcome) (count : Option ℕ) → TellsOutcomes command a.problem.sense outcomes count (tells outcomes count)) where
       abbrev solved_run : (old new : ℕ) (outcomes : List Outcome) (count : Option ℕ) → AreFound (is_warm_command command) a.problem (limit_of command) settings outcomes count
           → Counts a.problem (length settings) old new
           → IsSolvedRun words told old new (tells outcomes count)
       solved_run old new outcomes count are steps = record {
         command = command;
-        asked = record { form = form; work = a; problem = gives; marks = continuous; settings = settings; are_of = asked };
+        asked = record { form = form; work = a; problem = gives; marks = takes; settings = settings; are_of = asked };
         outcomes = outcomes;
         warm = count;
         are = are;
@@ -142,26 +137,6 @@ module _ (words : List (List ℕ)) (told : Option Files) (risen : Type 0) (comma
       solved_so old new r caused (inl (e, few)) =
           subst (Causes words told risen old new) (sym e) (solving command a settings form gives (of_outcomes command a.problem.sense [] None (tells [] None) (told_so [] None)).certificate asked few)
       solved_so old new r caused (inr (outcomes, count, are, steps, e)) = subst (Causes words told risen old new) (sym e) (caused outcomes count (solved_run old new outcomes count are steps))
-
-    -- ---- it is solved by branch and bound
-    module _ (settings : List Pairs) (asked : AreSettingsOf told command a settings) (tells : List WholeOutcome → Run) (marked : HasWhole a.problem)
-        (told_so : (outcomes : List WholeOutcome) → TellsWholes command a.problem.sense outcomes (tells outcomes)) where
-      abbrev branched_run : (old new : ℕ) (outcomes : List WholeOutcome) → AreWholeOutcomes a.problem (limit_of command) settings outcomes → Counts a.problem (length settings) old new
-          → IsBranchedRun words told old new (tells outcomes)
-      branched_run old new outcomes are steps = record {
-        command = command;
-        asked = record { form = form; work = a; problem = gives; marks = marked; settings = settings; are_of = asked };
-        outcomes = outcomes;
-        are = are;
-        tells = told_so outcomes;
-        steps = steps;
-      }
-
-      pub branched_so : (old new : ℕ) (r : Run) → ((outcomes : List WholeOutcome) → IsBranchedRun words told old new (tells outcomes) → Causes words told risen old new (tells outcomes)) →
-          BranchesAt a.problem (limit_of command) settings tells old new r → Causes words told risen old new r
-      branched_so old new r caused (inl (e, few)) =
-          subst (Causes words told risen old new) (sym e) (solving command a settings form gives (of_wholes command a.problem.sense [] (tells []) (told_so [])).certificate asked few)
-      branched_so old new r caused (inr (outcomes, are, steps, e)) = subst (Causes words told risen old new) (sym e) (caused outcomes (branched_run old new outcomes are steps))
 
 -- ---- a certificate that is read
 module _ (words : List (List ℕ)) (told : Option Files) (risen : Type 0) (command : Command) (form : command_of words ≡ Some command) (script name file : List ℕ)
@@ -192,7 +167,6 @@ module _ (words : List (List ℕ)) (told : Option Files) (risen : Type 0) (comma
   certificate_ends a settings n run.Usage g h = absurd h
   certificate_ends a settings n (run.Checked c) g h = absurd h
   certificate_ends a settings n (run.Solved word sense outcomes warm) g h = absurd h
-  certificate_ends a settings n (run.Branched word sense outcomes) g h = absurd h
   certificate_ends a settings n (run.Certificates text stopped) g h = absurd h
   certificate_ends a settings n (run.Certified sections) g h = absurd h
   certificate_ends a settings n (run.Trial size outcomes) g h = absurd h
@@ -306,32 +280,19 @@ module _ (words : List (List ℕ)) (told : Option Files) (risen : Type 0) where
   checked script bytes a c n form there gives found =
       (record { script = script; form = form; work = a.work; problem = accepted_work told (check script) bytes a there gives; found = found }, refl)
 
-  -- a problem is solved, by branch and bound where a variable is to be whole
-  answered : (command : Command) (said : Word) (a : Work) (gives : IsAcceptedWork told command a) (settings : List Pairs) (old new : ℕ) (r : Run) → command_of words ≡ Some command
-      → is_warm_command command ≡ false
-      → AreSettingsOf told command a settings → ((os : List Outcome) (count : Option ℕ) → TellsOutcomes command a.problem.sense os count (run.Solved said a.problem.sense os count)) →
-      ((os : List WholeOutcome) → TellsWholes command a.problem.sense os (run.Branched said a.problem.sense os)) → AnswersAt said a.problem (limit_of command) settings old new r
-      → Causes words told risen old new r
-  answered command said a gives settings old new r form cold asked solves branches (inl (continuous, h)) =
-      solved_so words told risen command form a gives settings asked (λ os count. run.Solved said a.problem.sense os count) continuous solves old new r (λ os count k. k)
-      (subst (λ warm. SolvesAt warm a.problem (limit_of command) settings (λ os count. run.Solved said a.problem.sense os count) old new r) (sym cold) h)
-  answered command said a gives settings old new r form cold asked solves branches (inr (marked, h)) =
-      branched_so words told risen command form a gives settings asked (λ os. run.Branched said a.problem.sense os) marked branches old new r (λ os k. k) h
-
   pub solved : (script bytes : List ℕ) (limit : ℕ) (a : Accepted) (old new : ℕ) (r : Run) → command_of words ≡ Some (solve script limit) → IsTold told script bytes → Gives bytes (Ok a) →
-      AnswersAt word.Solve a.work.problem limit a.work.events old new r → Causes words told risen old new r
+      SolvesUnder word.Solve false a.work.problem limit a.work.events old new r → Causes words told risen old new r
   solved script bytes limit a old new r form there gives h =
-      answered (solve script limit) word.Solve a.work (accepted_work told (solve script limit) bytes a there gives) a.work.events old new r form refl refl (λ os count. refl) (λ os. refl) h
+      solved_so words told risen (solve script limit) form a.work (accepted_work told (solve script limit) bytes a there gives) a.work.events refl
+      (λ os count. run.Solved word.Solve a.work.problem.sense os count) (λ refusing. absurd refusing) (λ os count. refl) old new r (λ os count k. k) h
 
   -- ---- what is asked at the settings of a file
   does_at : (task : Task) (script name bytes : List ℕ) (limit : ℕ) (a : Accepted) (settings : List Pairs) (old new : ℕ) (r : Run) → command_of words ≡ Some (command_for task script name limit)
       → IsTold told script bytes → Gives bytes (Ok a)
       → (IsTrue (task_refuses task) → HasNoWhole a.work.problem) → AreOfFile told name a.work.last settings → DoesAt task a.work limit settings old new r → Causes words told risen old new r
-  does_at (tasks.Resolve false) script name bytes limit a settings old new r form there gives free are h =
-      answered (resolve script name limit false) word.Setting a.work (accepted_work told (resolve script name limit false) bytes a there gives) settings old new r form refl are (λ os count. refl) (λ os. refl) h
-  does_at (tasks.Resolve true) script name bytes limit a settings old new r form there gives free are h =
-      solved_so words told risen (resolve script name limit true) form a.work (accepted_work told (resolve script name limit true) bytes a there gives) settings are
-      (λ os count. run.Solved word.Setting a.work.problem.sense os count) (free refl)
+  does_at (tasks.Resolve warm) script name bytes limit a settings old new r form there gives free are h =
+      solved_so words told risen (resolve script name limit warm) form a.work (accepted_work told (resolve script name limit warm) bytes a there gives) settings are
+      (λ os count. run.Solved word.Setting a.work.problem.sense os count) (task_takes (tasks.Resolve warm) script name limit a.work.problem free)
       (λ os count. refl) old new r (λ os count k. k) h
   does_at tasks.Certificate script name bytes limit a settings old new r form there gives free are (inl (e, few)) =
       subst (Causes words told risen old new) (sym e) (solving (certificate script name limit) a.work settings form (accepted_work told (certificate script name limit) bytes a there gives) refl are few)
@@ -480,7 +441,7 @@ module _ (words : List (List ℕ)) (told : Option Files) (risen : Type 0) where
       OrWhole ⊤ a.work.problem (TriesAt a.work size limit old new) old new r → Causes words told risen old new r
   tried size limit a old new r form gives (inl (free, inl (e, same))) = subst (Causes words told risen old new) (sym e) (none same)
   tried size limit a old new r form gives (inl (free, inr (settings, are, h))) =
-      solved_so words told risen (trial size limit) form a.work (accepted_work told (trial size limit) (trial_text size) a refl gives) settings are (λ os count. run.Trial size os) (free tt) (λ os count. refl)
+      solved_so words told risen (trial size limit) form a.work (accepted_work told (trial size limit) (trial_text size) a refl gives) settings are (λ os count. run.Trial size os) free (λ os count. refl)
       old new r (λ os count k. k) h
   tried size limit a old new r form gives (inr (refuses, h)) = whole_ends words told risen (trial size limit) form a.work (accepted_work told (trial size limit) (trial_text size) a refl gives) old new r tt h
 
@@ -502,9 +463,6 @@ wanting_caused words told risen old new run.Usage h = none h.1
 wanting_caused words told risen old new (run.Refused r) h = at_most_beginning words told old new h.1
 wanting_caused words told risen old new (run.Checked c) h = none h.1
 wanting_caused words told risen old new (run.Solved word sense outcomes warm) h = solved_within words told old new (run.Solved word sense outcomes warm) h
-wanting_caused words told risen old new (run.Branched word sense outcomes) h =
-    solving h.command h.asked.work h.asked.settings h.asked.form h.asked.problem (of_wholes h.command h.asked.work.problem.sense h.outcomes (run.Branched word sense outcomes) h.tells).certificate h.asked.are_of
-    (no_more_of h.asked.work.problem (length h.asked.settings) old new h.steps)
 wanting_caused words told risen old new (run.Certificates text stopped) (inl h) =
     solving (certificate h.script h.name h.limit) h.asked.work h.asked.settings h.asked.form h.asked.problem refl h.asked.are_of (no_more_of h.asked.work.problem (length h.asked.settings) old new h.steps)
 wanting_caused words told risen old new (run.Certificates text stopped) (inr (h, whole, same)) = none same

@@ -18,7 +18,7 @@ use Rattle.dcx_top.specs.NoRange.{AllowsRange}
 use Rattle.dcx_top.specs.Asked.{IsAcceptedWork}
 use Rattle.dcx_top.specs.Runs.{HasCertificate, ReadsSections, IsCertRefusedRun, misread, failed, IsRefusedRun}
 use Rattle.dcx_top.specs.Runs.{long_script, bad_script, for_whole, for_range, bad_settings, long_certificate, Causes}
-use Rattle.dcx_top.specs.OneRun.{IsAnswered, AreOneRun, told_same, told_solved, told_branched, told_tried, told_filtered, told_ranged}
+use Rattle.dcx_top.specs.OneRun.{IsAnswered, AreOneRun, told_same, told_solved, told_tried, told_filtered, told_ranged}
 use Rattle.dcx_top.specs.Migrated.{Refuses, MigrateRefusesAsCertify}
 use Rattle.dcx_top.proofs.Refusals.{of_other}
 use Rattle.dcx_top.proofs.OneRun.{only_run}
@@ -103,7 +103,6 @@ module _ (words other : List (List ℕ)) (told : Option Files) (a b : Command) (
 one_refusal : (r s : Run) → Refuses r → AreOneRun r s → r ≡ s
 one_refusal r s h (told_same e) = e
 one_refusal r s h (told_solved word sense os qs m n e k alike) = absurd (subst Refuses e h)
-one_refusal r s h (told_branched word sense os qs e k alike) = absurd (subst Refuses e h)
 one_refusal r s h (told_tried size os qs e k alike) = absurd (subst Refuses e h)
 one_refusal r s h (told_filtered os qs e k alike) = absurd (subst Refuses e h)
 one_refusal r s h (told_ranged name sense os qs e k alike) = absurd (subst Refuses e h)
@@ -121,7 +120,6 @@ refused_alike words other files a b before now old new past later from to (run.C
 refused_alike words other files a b before now old new past later from to run.Usage s form meant twins h k i j is = absurd is
 refused_alike words other files a b before now old new past later from to (run.Checked c) s form meant twins h k i j is = absurd is
 refused_alike words other files a b before now old new past later from to (run.Solved word sense outcomes warm) s form meant twins h k i j is = absurd is
-refused_alike words other files a b before now old new past later from to (run.Branched word sense outcomes) s form meant twins h k i j is = absurd is
 refused_alike words other files a b before now old new past later from to (run.Certificates text stopped) s form meant twins h k i j is = absurd is
 refused_alike words other files a b before now old new past later from to (run.Certified n) s form meant twins h k i j is = absurd is
 refused_alike words other files a b before now old new past later from to (run.Trial size outcomes) s form meant twins h k i j is = absurd is

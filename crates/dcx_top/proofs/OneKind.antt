@@ -10,8 +10,8 @@ use Rattle.dcx_report.specs.declared.run.Run.{Run}
 use Rattle.dcx_report.specs.declared.run.Run.TheVariants as run
 use Rattle.dcx_words.specs.Commands.{Command, check, certificate, certify, migrate, iis, range, command_of}
 use Rattle.dcx_top.specs.Commands.{certificate_name}
-use Rattle.dcx_top.specs.Runs.{IsChecked, IsSolvedRun, IsBranchedRun, IsFilteredRun, IsRangedRun, IsCertificateRun, IsMigrateRun, IsCertifiedRun, misread, failed, Causes}
-use Rattle.dcx_top.proofs.ByKind.{Kind, checks, solves, writes, certifies, migrates, filters, ranges, kind_of, is_same, same_itself, outcomes_told, wholes_told, is_reading, certificate_read}
+use Rattle.dcx_top.specs.Runs.{IsChecked, IsSolvedRun, IsFilteredRun, IsRangedRun, IsCertificateRun, IsMigrateRun, IsCertifiedRun, misread, failed, Causes}
+use Rattle.dcx_top.proofs.ByKind.{Kind, checks, solves, writes, certifies, migrates, filters, ranges, kind_of, is_same, same_itself, outcomes_told, is_reading, certificate_read}
 
 -- the words ask for a command of this kind
 pub record Asks (words : List (List ℕ)) (k : Kind) : Type 0 where
@@ -25,7 +25,6 @@ may_be k run.Usage = false
 may_be k (run.Refused r) = true
 may_be k (run.Checked c) = is_same checks k
 may_be k (run.Solved word sense outcomes warm) = is_same solves k
-may_be k (run.Branched word sense outcomes) = is_same solves k
 may_be k (run.Certificates text stopped) = is_same writes k || is_same migrates k
 may_be k (run.Certified n) = is_same certifies k
 may_be k (run.CertRefused section fault) = is_reading k
@@ -46,9 +45,6 @@ module _ (words : List (List ℕ)) (files : Files) where
 
   pub ask_solves : (old new : ℕ) (r : Run) → IsSolvedRun words (Some files) old new r → Asks words solves
   ask_solves old new r h = record { command = h.command; form = h.asked.form; kind = outcomes_told h.command h.asked.work.problem.sense h.outcomes h.warm r h.tells }
-
-  pub ask_branches : (old new : ℕ) (r : Run) → IsBranchedRun words (Some files) old new r → Asks words solves
-  ask_branches old new r h = record { command = h.command; form = h.asked.form; kind = wholes_told h.command h.asked.work.problem.sense h.outcomes r h.tells }
 
   pub ask_filters : (old new : ℕ) (os : List FilterOutcome) → IsFilteredRun words (Some files) old new os → Asks words filters
   ask_filters old new os h = record { command = iis h.script h.name h.limit; form = h.asked.form; kind = refl }
@@ -82,7 +78,6 @@ module _ (words : List (List ℕ)) (files : Files) where
       one_may_be (run.Refused r) h = refl
       one_may_be (run.Checked c) h = same_kind checks (ask_checks c h.0)
       one_may_be (run.Solved word sense outcomes warm) h = same_kind solves (ask_solves old new (run.Solved word sense outcomes warm) h)
-      one_may_be (run.Branched word sense outcomes) h = same_kind solves (ask_branches old new (run.Branched word sense outcomes) h)
       one_may_be (run.Certificates text stopped) (inl h) = ap (λ b. b || is_same migrates k) (same_kind writes (ask_writes old new text stopped h))
       one_may_be (run.Certificates text stopped) (inr (h, off, still)) = ap (λ b. is_same writes k || b) (same_kind migrates (ask_migrates text h)) ∙ or_true (is_same writes k)
       one_may_be (run.Certified n) h = same_kind certifies (ask_certifies n h.0)

@@ -1,5 +1,5 @@
 -- A run that refuses a file is one, and no run that goes on.
-use Rattle.std.proofs.Common.{◌≡◌, ℕ, ◌≤◌, Bool, true, false, List, length, Some, None, refl, sym, ap, subst, ◌∙◌}
+use Rattle.std.proofs.Common.{◌≡◌, ℕ, ◌≤◌, Bool, List, length, Some, None, refl, sym, ap, subst, ◌∙◌}
 use Rattle.std.proofs.lemmas.Option.{none-some, same_Some}
 use Rattle.dcx_tree.specs.declared.constraint.Sense.{Sense}
 use Rattle.dcx_host.specs.Files.{Files}
@@ -9,31 +9,16 @@ use Rattle.dcx_refusal.specs.declared.refusal.RefusalSource.TheVariants.{Certifi
 use Rattle.dcx_answer.specs.declared.cert_fault.CertFault.{CertFault}
 use Rattle.dcx_cert_sections.specs.declared.section.Sections.{Sections}
 use Rattle.dcx_answer.specs.declared.filter_outcome.FilterOutcome.{FilterOutcome}
-use Rattle.dcx_answer.specs.declared.whole_outcome.WholeOutcome.{WholeOutcome}
 use Rattle.dcx_answer.specs.declared.range_outcome.RangeOutcome.{RangeOutcome}
 use Rattle.dcx_report.specs.declared.run.Run.{Run}
-use Rattle.dcx_words.specs.Commands.{Command, check, solve, resolve, certificate, certify, migrate, trial, iis, range, command_of}
-use Rattle.dcx_top.specs.Commands.{certificate_name, TellsWholes}
+use Rattle.dcx_words.specs.Commands.{Command, check, certificate, certify, migrate, iis, range, command_of}
+use Rattle.dcx_top.specs.Commands.{certificate_name}
 use Rattle.dcx_top.specs.Files.{most_bytes}
-use Rattle.dcx_top.specs.Runs.{IsChecked, IsSolvedRun, IsBranchedRun, IsFilteredRun, IsRangedRun, IsCertificateRun, HasCertificate, ReadsSections, IsMigrateRun, IsCertifiedRun}
+use Rattle.dcx_top.specs.Runs.{IsChecked, IsSolvedRun, IsFilteredRun, IsRangedRun, IsCertificateRun, HasCertificate, ReadsSections, IsMigrateRun, IsCertifiedRun}
 use Rattle.dcx_top.specs.Runs.{IsCertRefusedRun, misread, failed, IsRefusedRun, long_script, bad_script, for_whole, for_range, bad_settings, long_certificate}
-use Rattle.dcx_top.specs.Whole.{RefusesWhole}
-use Rattle.dcx_top.proofs.ByKind.{of_outcomes, of_wholes}
+use Rattle.dcx_top.proofs.ByKind.{of_outcomes}
 use Rattle.dcx_top.proofs.Named.{unasked, allowed, allowed_reading}
 use Rattle.dcx_top.proofs.Refusals.{refuses, one_refused, IsShort, never_refused, never_refused_check}
-
--- a command that solves by branch and bound takes any problem
-pub wholes_taken : (command : Command) (sense : Sense) (os : List WholeOutcome) (r : Run) → TellsWholes command sense os r → ¬ RefusesWhole command
-wholes_taken (check script) sense os r h t = h
-wholes_taken (solve script limit) sense os r h t = t
-wholes_taken (resolve script name limit false) sense os r h t = t
-wholes_taken (resolve script name limit true) sense os r h t = h
-wholes_taken (certificate script name limit) sense os r h t = h
-wholes_taken (certify script name cert) sense os r h t = h
-wholes_taken (migrate script name cert) sense os r h t = h
-wholes_taken (trial size limit) sense os r h t = h
-wholes_taken (iis script name limit) sense os r h t = h
-wholes_taken (range script name parameter limit) sense os r h t = h
 
 module _ (words : List (List ℕ)) (files : Files) where
   short_of_none : (command : Command) → certificate_name command ≡ None → IsShort files command
@@ -62,16 +47,9 @@ module _ (words : List (List ℕ)) (files : Files) where
 
   pub refused_or_solved : (r : Refusal) (old new : ℕ) (s : Run) → IsRefusedRun words (Some files) r → IsSolvedRun words (Some files) old new s → ⊥
   refused_or_solved r old new s h k =
-      never_refused files k.command k.asked.work k.asked.settings r k.asked.problem (λ refusing. k.asked.marks)
+      never_refused files k.command k.asked.work k.asked.settings r k.asked.problem k.asked.marks
       (unasked k.command k.asked.work.problem (of_outcomes k.command k.asked.work.problem.sense k.outcomes k.warm s k.tells).parameter) k.asked.are_of
       (short_of_none k.command (of_outcomes k.command k.asked.work.problem.sense k.outcomes k.warm s k.tells).certificate) (refuses words files k.command k.asked.form r h)
-
-  pub refused_or_branched : (r : Refusal) (old new : ℕ) (s : Run) → IsRefusedRun words (Some files) r → IsBranchedRun words (Some files) old new s → ⊥
-  refused_or_branched r old new s h k =
-      let sense = k.asked.work.problem.sense in
-      never_refused files k.command k.asked.work k.asked.settings r k.asked.problem (λ refusing. absurd (wholes_taken k.command sense k.outcomes s k.tells refusing))
-      (unasked k.command k.asked.work.problem (of_wholes k.command sense k.outcomes s k.tells).parameter) k.asked.are_of
-      (short_of_none k.command (of_wholes k.command sense k.outcomes s k.tells).certificate) (refuses words files k.command k.asked.form r h)
 
   pub refused_or_written : (r : Refusal) (old new : ℕ) (bytes : List ℕ) (stopped : Bool) → IsRefusedRun words (Some files) r → IsCertificateRun words (Some files) old new bytes stopped → ⊥
   refused_or_written r old new bytes stopped h k =

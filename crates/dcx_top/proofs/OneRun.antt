@@ -16,17 +16,16 @@ use Rattle.dcx_report.specs.declared.run.Run.{Run}
 use Rattle.dcx_report.specs.declared.run.Run.TheVariants as run
 use Rattle.dcx_words.specs.Commands.{Command, check, certificate, certify, migrate, iis, range, command_of}
 use Rattle.dcx_top.specs.Asked.{IsAcceptedWork}
-use Rattle.dcx_top.specs.Runs.{IsChecked, IsSolvedRun, IsBranchedRun, IsFilteredRun, IsRangedRun, AreBytesOf, IsCertifiedRun, IsCertRefusedRun, misread, failed, IsRefusedRun, Causes}
+use Rattle.dcx_top.specs.Runs.{IsChecked, IsSolvedRun, IsFilteredRun, IsRangedRun, AreBytesOf, IsCertifiedRun, IsCertRefusedRun, misread, failed, IsRefusedRun, Causes}
 use Rattle.dcx_top.specs.OneRun.{IsAnswered, AreOneRun, told_same, told_filtered, told_ranged, no_files, IsOnlyRun}
 use Rattle.dcx_top.proofs.Trials.{trial_caused}
 use Rattle.dcx_top.proofs.Refusals.{one_problem, same_command}
 use Rattle.dcx_top.proofs.ByKind.{Kind, checks, solves, writes, certifies, migrates, filters, ranges, is_reading}
-use Rattle.dcx_top.proofs.OneKind.{Asks, may_be, same_kind, ask_checks, ask_solves, ask_branches, ask_filters, ask_ranges, ask_writes, ask_migrates, ask_certifies, no_other}
+use Rattle.dcx_top.proofs.OneKind.{Asks, may_be, same_kind, ask_checks, ask_solves, ask_filters, ask_ranges, ask_writes, ask_migrates, ask_certifies, no_other}
 use Rattle.dcx_top.proofs.OneSolved.{solved_once}
-use Rattle.dcx_top.proofs.OneBranched.{solved_or_branched, branched_once}
 use Rattle.dcx_top.proofs.OneFiltered.{filtered_once}
 use Rattle.dcx_top.proofs.OneRanged.{ranged_once}
-use Rattle.dcx_top.proofs.OneRefusal.{command_of_refused, refused_once, refused_or_checked, refused_or_solved, refused_or_branched, refused_or_filtered, refused_or_ranged, refused_or_written, refused_or_migrated, refused_or_certified, refused_or_cert_refused}
+use Rattle.dcx_top.proofs.OneRefusal.{command_of_refused, refused_once, refused_or_checked, refused_or_solved, refused_or_filtered, refused_or_ranged, refused_or_written, refused_or_migrated, refused_or_certified, refused_or_cert_refused}
 use Rattle.dcx_top.proofs.OneCertificate.{written_once, migrated_once, certified_once, cert_refused_once, certified_or_refused, migrated_or_refused}
 
 module _ (words : List (List ℕ)) (files : Files) where
@@ -66,7 +65,6 @@ module _ (words : List (List ℕ)) (files : Files) where
     of_usage (run.Refused t) h k j = let (c, is) = command_of_refused words files t k.0 in uncommanded c h is
     of_usage (run.Checked d) h k j = uncommanded (check k.0.script) h k.0.form
     of_usage (run.Solved w z qs u) h k j = uncommanded k.command h k.asked.form
-    of_usage (run.Branched w z qs) h k j = uncommanded k.command h k.asked.form
     of_usage (run.Certificates b q) h (inl k) j = uncommanded (certificate k.script k.name k.limit) h k.asked.form
     of_usage (run.Certificates b q) h (inr (k, off, still)) j = uncommanded (migrate k.script k.settings k.name) h k.passed.reads.files.asked.form
     of_usage (run.Certified m) h k j = uncommanded (certify k.0.script k.0.settings k.0.name) h k.0.passed.reads.files.asked.form
@@ -83,7 +81,6 @@ module _ (words : List (List ℕ)) (files : Files) where
     of_refused r (run.Refused t) h k j = told_same (ap run.Refused (refused_once words files r t h k.0))
     of_refused r (run.Checked d) h k j = absurd (refused_or_checked words files r d h k.0)
     of_refused r (run.Solved w z qs u) h k j = absurd (refused_or_solved words files r was now (run.Solved w z qs u) h k)
-    of_refused r (run.Branched w z qs) h k j = absurd (refused_or_branched words files r was now (run.Branched w z qs) h k)
     of_refused r (run.Certificates b q) h (inl k) j = absurd (refused_or_written words files r was now b q h k)
     of_refused r (run.Certificates b q) h (inr (k, off, still)) j = absurd (refused_or_migrated words files r b h k)
     of_refused r (run.Certified m) h k j = absurd (refused_or_certified words files r m h k.0)
@@ -99,7 +96,6 @@ module _ (words : List (List ℕ)) (files : Files) where
     of_checked c (run.Refused t) h k j = absurd (refused_or_checked words files t c k.0 h)
     of_checked c (run.Checked d) h k j = told_same (ap run.Checked (checked_once c d h k.0))
     of_checked c (run.Solved w z qs u) h k j = apart checks (ask_checks words files c h) (run.Solved w z qs u) refl k
-    of_checked c (run.Branched w z qs) h k j = apart checks (ask_checks words files c h) (run.Branched w z qs) refl k
     of_checked c (run.Certificates b q) h k j = apart checks (ask_checks words files c h) (run.Certificates b q) refl k
     of_checked c (run.Certified m) h k j = apart checks (ask_checks words files c h) (run.Certified m) refl k
     of_checked c (run.CertRefused l g) h k j = apart checks (ask_checks words files c h) (run.CertRefused l g) refl k
@@ -114,7 +110,6 @@ module _ (words : List (List ℕ)) (files : Files) where
     of_solved old new r (run.Refused t) h k j = absurd (refused_or_solved words files t old new r k.0 h)
     of_solved old new r (run.Checked d) h k j = apart solves (ask_solves words files old new r h) (run.Checked d) refl k
     of_solved old new r (run.Solved w z qs u) h k j = solved_once words files old new was now r (run.Solved w z qs u) h k
-    of_solved old new r (run.Branched w z qs) h k j = absurd (solved_or_branched words files old new was now r (run.Branched w z qs) h k)
     of_solved old new r (run.Certificates b q) h k j = apart solves (ask_solves words files old new r h) (run.Certificates b q) refl k
     of_solved old new r (run.Certified m) h k j = apart solves (ask_solves words files old new r h) (run.Certified m) refl k
     of_solved old new r (run.CertRefused l g) h k j = apart solves (ask_solves words files old new r h) (run.CertRefused l g) refl k
@@ -124,27 +119,11 @@ module _ (words : List (List ℕ)) (files : Files) where
     of_solved old new r run.ReadFault h k j = absurd j
     of_solved old new r run.Memory h k j = absurd j
 
-    of_branched : (old new : ℕ) (r s : Run) → IsBranchedRun words (Some files) old new r → Causes words (Some files) rose was now s → IsAnswered s → AreOneRun r s
-    of_branched old new r run.Usage h k j = apart solves (ask_branches words files old new r h) run.Usage refl k
-    of_branched old new r (run.Refused t) h k j = absurd (refused_or_branched words files t old new r k.0 h)
-    of_branched old new r (run.Checked d) h k j = apart solves (ask_branches words files old new r h) (run.Checked d) refl k
-    of_branched old new r (run.Solved w z qs u) h k j = absurd (solved_or_branched words files was now old new (run.Solved w z qs u) r k h)
-    of_branched old new r (run.Branched w z qs) h k j = branched_once words files old new was now r (run.Branched w z qs) h k
-    of_branched old new r (run.Certificates b q) h k j = apart solves (ask_branches words files old new r h) (run.Certificates b q) refl k
-    of_branched old new r (run.Certified m) h k j = apart solves (ask_branches words files old new r h) (run.Certified m) refl k
-    of_branched old new r (run.CertRefused l g) h k j = apart solves (ask_branches words files old new r h) (run.CertRefused l g) refl k
-    of_branched old new r (run.Trial m qs) h k j = absurd (solved_or_branched words files was now old new (run.Trial m qs) r k h)
-    of_branched old new r (run.Filtered qs) h k j = apart solves (ask_branches words files old new r h) (run.Filtered qs) refl k
-    of_branched old new r (run.Ranged other way qs) h k j = apart solves (ask_branches words files old new r h) (run.Ranged other way qs) refl k
-    of_branched old new r run.ReadFault h k j = absurd j
-    of_branched old new r run.Memory h k j = absurd j
-
     of_certified : (n : ℕ) (s : Run) → IsCertifiedRun words (Some files) n → Causes words (Some files) rose was now s → IsAnswered s → AreOneRun (run.Certified n) s
     of_certified n run.Usage h k j = apart certifies (ask_certifies words files n h) run.Usage refl k
     of_certified n (run.Refused t) h k j = absurd (refused_or_certified words files t n k.0 h)
     of_certified n (run.Checked d) h k j = apart certifies (ask_certifies words files n h) (run.Checked d) refl k
     of_certified n (run.Solved w z qs u) h k j = apart certifies (ask_certifies words files n h) (run.Solved w z qs u) refl k
-    of_certified n (run.Branched w z qs) h k j = apart certifies (ask_certifies words files n h) (run.Branched w z qs) refl k
     of_certified n (run.Certificates b q) h k j = apart certifies (ask_certifies words files n h) (run.Certificates b q) refl k
     of_certified n (run.Certified m) h k j = told_same (ap run.Certified (certified_once words files n m h k.0))
     of_certified n (run.CertRefused l g) h k j = absurd (certified_or_refused words files n l g h k.0)
@@ -159,7 +138,6 @@ module _ (words : List (List ℕ)) (files : Files) where
     of_filtered old new os (run.Refused t) h k j = absurd (refused_or_filtered words files t old new os k.0 h)
     of_filtered old new os (run.Checked d) h k j = apart filters (ask_filters words files old new os h) (run.Checked d) refl k
     of_filtered old new os (run.Solved w z qs u) h k j = apart filters (ask_filters words files old new os h) (run.Solved w z qs u) refl k
-    of_filtered old new os (run.Branched w z qs) h k j = apart filters (ask_filters words files old new os h) (run.Branched w z qs) refl k
     of_filtered old new os (run.Certificates b q) h k j = apart filters (ask_filters words files old new os h) (run.Certificates b q) refl k
     of_filtered old new os (run.Certified m) h k j = apart filters (ask_filters words files old new os h) (run.Certified m) refl k
     of_filtered old new os (run.CertRefused l g) h k j = apart filters (ask_filters words files old new os h) (run.CertRefused l g) refl k
@@ -174,7 +152,6 @@ module _ (words : List (List ℕ)) (files : Files) where
     of_ranged old new name sense os (run.Refused t) h k j = absurd (refused_or_ranged words files t old new name sense os k.0 h)
     of_ranged old new name sense os (run.Checked d) h k j = apart ranges (ask_ranges words files old new name sense os h) (run.Checked d) refl k
     of_ranged old new name sense os (run.Solved w z qs u) h k j = apart ranges (ask_ranges words files old new name sense os h) (run.Solved w z qs u) refl k
-    of_ranged old new name sense os (run.Branched w z qs) h k j = apart ranges (ask_ranges words files old new name sense os h) (run.Branched w z qs) refl k
     of_ranged old new name sense os (run.Certificates b q) h k j = apart ranges (ask_ranges words files old new name sense os h) (run.Certificates b q) refl k
     of_ranged old new name sense os (run.Certified m) h k j = apart ranges (ask_ranges words files old new name sense os h) (run.Certified m) refl k
     of_ranged old new name sense os (run.CertRefused l g) h k j = apart ranges (ask_ranges words files old new name sense os h) (run.CertRefused l g) refl k
@@ -200,7 +177,6 @@ module _ (words : List (List ℕ)) (files : Files) where
     of_bytes old new b z (run.Refused t) (inr (h, off, still)) k j = absurd (refused_or_migrated words files t b k.0 h)
     of_bytes old new b z (run.Checked d) h k j = not_bytes checks (ask_checks words files d k.0) refl old new b z h
     of_bytes old new b z (run.Solved w y qs u) h k j = not_bytes solves (ask_solves words files was now (run.Solved w y qs u) k) refl old new b z h
-    of_bytes old new b z (run.Branched w y qs) h k j = not_bytes solves (ask_branches words files was now (run.Branched w y qs) k) refl old new b z h
     of_bytes old new b z (run.Certificates c q) h k j = bytes_once old new was now b c z q h k
     of_bytes old new b z (run.Certified m) h k j = not_bytes certifies (ask_certifies words files m k.0) refl old new b z h
     of_bytes old new b z (run.CertRefused l g) (inl h) k j = not_refused writes (ask_writes words files old new b z h) refl l g k.0
@@ -217,7 +193,6 @@ module _ (words : List (List ℕ)) (files : Files) where
     of_cert_refused n f (run.Refused t) h k j = absurd (refused_or_cert_refused words files t n f k.0 h)
     of_cert_refused n f (run.Checked d) h k j = not_refused checks (ask_checks words files d k.0) refl n f h
     of_cert_refused n f (run.Solved w z qs u) h k j = not_refused solves (ask_solves words files was now (run.Solved w z qs u) k) refl n f h
-    of_cert_refused n f (run.Branched w z qs) h k j = not_refused solves (ask_branches words files was now (run.Branched w z qs) k) refl n f h
     of_cert_refused n f (run.Certificates b q) h (inl k) j = not_refused writes (ask_writes words files was now b q k) refl n f h
     of_cert_refused n f (run.Certificates b q) h (inr (k, off, still)) j = absurd (migrated_or_refused words files b n f k h)
     of_cert_refused n f (run.Certified m) h k j = absurd (certified_or_refused words files m n f k.0 h)
@@ -233,7 +208,6 @@ module _ (words : List (List ℕ)) (files : Files) where
     one risen old new (run.Refused r) s h k i j = of_refused r s h.0 k j
     one risen old new (run.Checked c) s h k i j = of_checked c s h.0 k j
     one risen old new (run.Solved w z os u) s h k i j = of_solved old new (run.Solved w z os u) s h k j
-    one risen old new (run.Branched w z os) s h k i j = of_branched old new (run.Branched w z os) s h k j
     one risen old new (run.Certificates b z) s h k i j = of_bytes old new b z s h k j
     one risen old new (run.Certified n) s h k i j = of_certified n s h.0 k j
     one risen old new (run.CertRefused m f) s h k i j = of_cert_refused m f s h.0 k j

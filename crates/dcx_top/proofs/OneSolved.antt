@@ -1,5 +1,5 @@
 -- Two runs that tell outcomes are one.
-use Rattle.std.proofs.Common.{◌≡◌, ℕ, false, List, Option, Some, None, refl, subst}
+use Rattle.std.proofs.Common.{◌≡◌, inl, inr, ℕ, false, List, Option, Some, None, refl, subst}
 use Rattle.dcx_point.specs.Pairs.{Pairs}
 use Rattle.dcx_tree.specs.declared.constraint.Sense.{Sense}
 use Rattle.dcx_tree.specs.declared.problem.Problem.{Problem}
@@ -11,8 +11,8 @@ use Rattle.dcx_words.specs.Commands.{Command, check, solve, resolve, certificate
 use Rattle.dcx_words.specs.Laws.{is_warm_command}
 use Rattle.dcx_outcomes.specs.Warm.{AreFound}
 use Rattle.dcx_outcomes.specs.Laws.{AreAlike, AreOneFound}
-use Rattle.dcx_outcomes.proofs.Warm.{found_are_one}
-use Rattle.dcx_declared.specs.Whole.{HasNoWhole}
+use Rattle.dcx_outcomes.proofs.Finds.{found_are_one}
+use Rattle.dcx_top.specs.Whole.{Takes}
 use Rattle.dcx_top.specs.Commands.{limit_of, TellsOutcomes}
 use Rattle.dcx_top.specs.Runs.{IsSolvedRun}
 use Rattle.dcx_top.specs.OneRun.{AreOneRun, told_solved, told_tried}
@@ -20,8 +20,13 @@ use Rattle.dcx_top.proofs.OneAsked.{asked_once}
 
 module _ (words : List (List ℕ)) (files : Files) where
   -- without a count, where none is wanted
+  no_count : (p : Problem) (limit : ℕ) (ss : List Pairs) (os : List Outcome) (m : Option ℕ) → AreFound false p limit ss os m → m ≡ None
+  no_count p limit ss os m (inl (none, h)) = h.1
+  no_count p limit ss os m (inr (has, are, is)) = is
+
   uncounted : (p : Problem) (limit : ℕ) (ss : List Pairs) (os qs : List Outcome) (m n : Option ℕ) → AreFound false p limit ss os m → AreFound false p limit ss qs n → AreOneFound os m qs n → AreAlike os qs
-  uncounted p limit ss os qs m n h k alike = subst (λ (x : Option ℕ). AreOneFound os x qs None) h.1 (subst (λ (y : Option ℕ). AreOneFound os m qs y) k.1 alike)
+  uncounted p limit ss os qs m n h k alike =
+      subst (λ (x : Option ℕ). AreOneFound os x qs None) (no_count p limit ss os m h) (subst (λ (y : Option ℕ). AreOneFound os m qs y) (no_count p limit ss qs n k) alike)
 
   tell_one : (command : Command) (sense : Sense) (os qs : List Outcome) (m n : Option ℕ) (r s : Run) → (is_warm_command command ≡ false → AreAlike os qs) → TellsOutcomes command sense os m r → TellsOutcomes command sense qs n s → AreOneFound os m qs n →
       AreOneRun r s
@@ -42,10 +47,10 @@ module _ (words : List (List ℕ)) (files : Files) where
       p = h.asked.work.problem
 
       found : AreFound (is_warm_command h.command) p (limit_of h.command) h.asked.settings k.outcomes k.warm
-      found = asked_once words files HasNoWhole HasNoWhole (λ c w ss. AreFound (is_warm_command c) w.problem (limit_of c) ss k.outcomes k.warm) h.command k.command h.asked k.asked k.are
+      found = asked_once words files (Takes h.command) (Takes k.command) (λ c w ss. AreFound (is_warm_command c) w.problem (limit_of c) ss k.outcomes k.warm) h.command k.command h.asked k.asked k.are
 
       tells : TellsOutcomes h.command p.sense k.outcomes k.warm s
-      tells = asked_once words files HasNoWhole HasNoWhole (λ c w ss. TellsOutcomes c w.problem.sense k.outcomes k.warm s) h.command k.command h.asked k.asked k.tells
+      tells = asked_once words files (Takes h.command) (Takes k.command) (λ c w ss. TellsOutcomes c w.problem.sense k.outcomes k.warm s) h.command k.command h.asked k.asked k.tells
 
       alike : AreOneFound h.outcomes h.warm k.outcomes k.warm
       alike = found_are_one (is_warm_command h.command) p (limit_of h.command) h.asked.settings h.outcomes k.outcomes h.warm k.warm h.asked.problem.accepted h.are found

@@ -12,7 +12,7 @@ use Rattle.dcx_top.specs.Runs.{IsCertificateRun, HasCertificate, ReadsSections, 
 use Rattle.dcx_top.specs.OneRun.{IsAnswered}
 use Rattle.dcx_top.specs.Verdicts.{IsRefusal, Has, long_certificate}
 use Rattle.dcx_top.specs.ReadBack.{IsTried, IsReadBack, CertificatesAreReadBack}
-use Rattle.dcx_top.proofs.ByKind.{of_outcomes, of_wholes}
+use Rattle.dcx_top.proofs.ByKind.{of_outcomes}
 use Rattle.dcx_top.proofs.OneRefusal.{refused_or_read}
 use Rattle.dcx_top.proofs.OneCertificate.{read_or_misread}
 use Rattle.dcx_top.proofs.Refusals.{without_fault, of_other}
@@ -32,7 +32,6 @@ module _ (words : List (List ℕ)) (files : Files) (script settings name : List 
   tried sections reads risen old new (run.Refused t) h i = absurd (refused_or_read words files t (certify script settings name) sections h.0 reads)
   tried sections reads risen old new (run.Checked c) h i = with_none (check h.0.script) h.0.form refl
   tried sections reads risen old new (run.Solved w z os u) h i = with_none h.command h.asked.form (of_outcomes h.command h.asked.work.problem.sense h.outcomes h.warm (run.Solved w z os u) h.tells).certificate
-  tried sections reads risen old new (run.Branched w z os) h i = with_none h.command h.asked.form (of_wholes h.command h.asked.work.problem.sense h.outcomes (run.Branched w z os) h.tells).certificate
   tried sections reads risen old new (run.Certificates text stopped) (inl h) i = with_none (certificate h.script h.name h.limit) h.asked.form refl
   tried sections reads risen old new (run.Certificates text stopped) (inr (h, off, still)) i =
       absurd (not_migrate h.script h.settings h.name script settings name (same_Some (migrate h.script h.settings h.name) (certify script settings name) (sym h.passed.reads.files.asked.form ∙ form)))

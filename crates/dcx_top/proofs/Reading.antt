@@ -85,7 +85,6 @@ certificate_rising told risen rose name p count run.Memory more h = tt
 certificate_rising told risen rose name p count run.Usage more h = absurd h
 certificate_rising told risen rose name p count (run.Checked c) more h = absurd h
 certificate_rising told risen rose name p count (run.Solved word sense outcomes warm) more h = absurd h
-certificate_rising told risen rose name p count (run.Branched word sense outcomes) more h = absurd h
 certificate_rising told risen rose name p count (run.Certificates text stopped) more h = absurd h
 certificate_rising told risen rose name p count (run.Certified n) more h = absurd h
 certificate_rising told risen rose name p count (run.CertRefused section fault) more h = h

@@ -5,7 +5,7 @@ use Rattle.dcx_host.specs.Files.{Files}
 use Rattle.dcx_point.specs.Pairs.{Pairs}
 use Rattle.dcx_elab.specs.declared.work.Work.{Work}
 use Rattle.dcx_tree.specs.declared.problem.Problem.{Problem}
-use Rattle.dcx_declared.specs.Whole.{HasNoWhole, HasWhole}
+use Rattle.dcx_top.specs.Whole.{Takes}
 use Rattle.dcx_refusal.specs.declared.refusal.Refusal.{Refusal}
 use Rattle.dcx_report.specs.declared.run.Run.{Run}
 use Rattle.dcx_report.specs.declared.run.Run.TheVariants as run
@@ -13,7 +13,7 @@ use Rattle.dcx_words.specs.Commands.{Command, check, certificate, certify, migra
 use Rattle.dcx_trial.specs.Trial.{trial_text}
 use Rattle.dcx_top.specs.Commands.{IsScriptOf, script_name, settings_name, certificate_name, parameter_name, AreSettingsOf}
 use Rattle.dcx_top.specs.Asked.{IsAcceptedWork, Asked}
-use Rattle.dcx_top.specs.Runs.{IsSolvedRun, IsBranchedRun, IsRefusedRun, long_script, bad_script, for_whole, for_range, bad_settings, long_certificate, misread, failed}
+use Rattle.dcx_top.specs.Runs.{IsSolvedRun, IsRefusedRun, long_script, bad_script, for_whole, for_range, bad_settings, long_certificate, misread, failed}
 use Rattle.dcx_top.specs.Runs.{no_script, no_settings, no_certificate, CountsAtMostBeginning, CountsAtMost, none, beginning, solving, Causes}
 use Rattle.dcx_top.specs.OneRun.{no_files}
 use Rattle.dcx_top.specs.Verdicts.{Has}
@@ -89,10 +89,7 @@ module _ (words : List (List ℕ)) (size limit : ℕ) (form : command_of words �
 
   solved_told : (old new : ℕ) (r : Run) → IsSolvedRun words None old new r → IsSolvedRun words (Some no_files) old new r
   solved_told old new r h =
-      record { command = h.command; asked = asked_told HasNoWhole h.command h.asked; outcomes = h.outcomes; warm = h.warm; are = h.are; tells = h.tells; steps = h.steps }
-
-  branched_told : (old new : ℕ) (r : Run) → IsBranchedRun words None old new r → IsBranchedRun words (Some no_files) old new r
-  branched_told old new r h = record { command = h.command; asked = asked_told HasWhole h.command h.asked; outcomes = h.outcomes; are = h.are; tells = h.tells; steps = h.steps }
+      record { command = h.command; asked = asked_told (Takes h.command) h.command h.asked; outcomes = h.outcomes; warm = h.warm; are = h.are; tells = h.tells; steps = h.steps }
 
   -- a run of a trial has its cause where no files are told too
   pub trial_caused : (risen : Type 0) (old new : ℕ) (r : Run) → Causes words None risen old new r → Causes words (Some no_files) risen old new r
@@ -100,7 +97,6 @@ module _ (words : List (List ℕ)) (size limit : ℕ) (form : command_of words �
   trial_caused risen old new (run.Refused r) h = (refused_told r h.0, beginning_told old new h.1)
   trial_caused risen old new (run.Checked c) h = no_script_read (check h.0.script) h.0.script h.0.form refl
   trial_caused risen old new (run.Solved word sense outcomes warm) h = solved_told old new (run.Solved word sense outcomes warm) h
-  trial_caused risen old new (run.Branched word sense outcomes) h = branched_told old new (run.Branched word sense outcomes) h
   trial_caused risen old new (run.Certificates text stopped) (inl h) = no_script_read (certificate h.script h.name h.limit) h.script h.asked.form refl
   trial_caused risen old new (run.Certificates text stopped) (inr (h, whole, same)) = no_script_read (migrate h.script h.settings h.name) h.script h.passed.reads.files.asked.form refl
   trial_caused risen old new (run.Certified n) h = no_script_read (certify h.0.script h.0.settings h.0.name) h.0.script h.0.passed.reads.files.asked.form refl

@@ -23,14 +23,14 @@ use Rattle.dcx_words.specs.Commands.{Command, check, certificate as certificate_
 use Rattle.dcx_top.specs.Commands.{settings_name, certificate_name, AreSettingsOf}
 use Rattle.dcx_top.specs.Files.{most_bytes, RefusesScript}
 use Rattle.dcx_top.specs.Asked.{IsAcceptedWork}
-use Rattle.dcx_top.specs.Runs.{IsChecked, IsSolvedRun, IsBranchedRun, IsFilteredRun, IsRangedRun, IsCertificateRun, HasCertificate, ReadsSections, misread, failed, Causes}
+use Rattle.dcx_top.specs.Runs.{IsChecked, IsSolvedRun, IsFilteredRun, IsRangedRun, IsCertificateRun, HasCertificate, ReadsSections, misread, failed, Causes}
 use Rattle.dcx_refusal.specs.declared.refusal.RefusalSource.TheVariants.{Certificate}
 use Rattle.dcx_declared.specs.Whole.{IsWholeAt}
 use Rattle.dcx_top.specs.Whole.{RefusesWhole, Takes}
 use Rattle.dcx_outcomes.specs.Ranges.{LacksRange}
 use Rattle.dcx_outcomes.proofs.RangeEnds.{range_is_told}
 use Rattle.dcx_top.specs.NoRange.{AllowsRange}
-use Rattle.dcx_top.proofs.ByKind.{of_outcomes, of_wholes}
+use Rattle.dcx_top.proofs.ByKind.{of_outcomes}
 use Rattle.dcx_top.proofs.Named.{unasked, allowed, allowed_reading}
 use Rattle.dcx_top.specs.OneRun.{IsAnswered, no_files}
 use Rattle.dcx_trial.specs.Trial.{trial_text}
@@ -38,7 +38,6 @@ use Rattle.dcx_top.proofs.Trials.{trial_caused, trial_has}
 use Rattle.dcx_top.specs.Verdicts.{IsRefusal, IsAcceptance, Has, AreFaultless, AreAtFault, bad_script, has_whole, lacks_range}
 use Rattle.dcx_top.specs.Verdicts.{bad_settings, long_certificate, AreWithoutFault, IsVerdictOn, IsRightVerdict}
 use Rattle.dcx_top.proofs.Refusals.{one_script, spelled_by, same_command, Refuses, in_script, in_problem, in_range, in_settings, in_length, IsShort, refuses}
-use Rattle.dcx_top.proofs.OneRefusal.{wholes_taken}
 
 module _ (files : Files) (command : Command) (script settings certificate : List ℕ) (has : Has files command script settings certificate) where
   no_faults : AreWithoutFault command script settings certificate → AreAtFault command script settings certificate → ⊥
@@ -109,16 +108,9 @@ module _ (files : Files) (command : Command) (script settings certificate : List
     solved : (r : Run) → IsAcceptance r → (IsRefusal r → ⊥) → IsSolvedRun words (Some files) old new r → IsVerdictOn command script settings certificate r
     solved r i n h =
         let same = same_command words files command form h.command h.asked.form in
-        goes_on r i n h.command same h.asked.work h.asked.settings h.asked.problem (λ refusing. h.asked.marks)
+        goes_on r i n h.command same h.asked.work h.asked.settings h.asked.problem h.asked.marks
         (unasked h.command h.asked.work.problem (of_outcomes h.command h.asked.work.problem.sense h.outcomes h.warm r h.tells).parameter) h.asked.are_of
         (short_without h.command same (of_outcomes h.command h.asked.work.problem.sense h.outcomes h.warm r h.tells).certificate)
-
-    branched : (r : Run) → IsAcceptance r → (IsRefusal r → ⊥) → IsBranchedRun words (Some files) old new r → IsVerdictOn command script settings certificate r
-    branched r i n h =
-        let same = same_command words files command form h.command h.asked.form in
-        let sense = h.asked.work.problem.sense in
-        goes_on r i n h.command same h.asked.work h.asked.settings h.asked.problem (λ refusing. absurd (wholes_taken h.command sense h.outcomes r h.tells refusing))
-        (unasked h.command h.asked.work.problem (of_wholes h.command sense h.outcomes r h.tells).parameter) h.asked.are_of (short_without h.command same (of_wholes h.command sense h.outcomes r h.tells).certificate)
 
     checked : (c : Checked) → IsChecked words (Some files) c → IsVerdictOn command script settings certificate (run.Checked c)
     checked c h =
@@ -172,7 +164,6 @@ module _ (files : Files) (command : Command) (script settings certificate : List
     verdict_on (run.Refused r) h i = refuses_so r (at_fault r (refuses words files command form r h.0))
     verdict_on (run.Checked c) h i = checked c h.0
     verdict_on (run.Solved w s os u) h i = solved (run.Solved w s os u) tt (λ t. t) h
-    verdict_on (run.Branched w s os) h i = branched (run.Branched w s os) tt (λ t. t) h
     verdict_on (run.Certificates text stopped) (inl h) i = certificate_written text stopped h
     verdict_on (run.Certificates text stopped) (inr (h, off, same)) i = sections_read (run.Certificates text stopped) tt (λ t. t) (migrate h.script h.settings h.name) h.sections h.passed.reads
     verdict_on (run.Certified n) (h, same) i = sections_read (run.Certified n) tt (λ t. t) (certify h.script h.settings h.name) h.sections h.passed.reads

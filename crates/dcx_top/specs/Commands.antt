@@ -1,5 +1,5 @@
 -- What a command asks for: its script, its settings, and how its outcomes are told.
-use Rattle.std.specs.Prelude.{◌≡◌, ℕ, true, false, List, Option, Some, None}
+use Rattle.std.specs.Prelude.{◌≡◌, ℕ, List, Option, Some, None}
 use Rattle.dcx_point.specs.Pairs.{Pairs}
 use Rattle.dcx_tree.specs.declared.constraint.Sense.{Sense}
 use Rattle.dcx_host.specs.Files.{Files, IsTold}
@@ -7,7 +7,6 @@ use Rattle.dcx_settings.specs.declared.settings.SettingItem.{SettingItem}
 use Rattle.dcx_settings.specs.File.{SpellSettings}
 use Rattle.dcx_elab.specs.declared.work.Work.{Work}
 use Rattle.dcx_answer.specs.declared.outcome.Outcome.{Outcome}
-use Rattle.dcx_answer.specs.declared.whole_outcome.WholeOutcome.{WholeOutcome}
 use Rattle.dcx_report.specs.declared.run.Run.{Run}
 use Rattle.dcx_report.specs.declared.run.Run.TheVariants as run
 use Rattle.dcx_report.specs.declared.run.Word.TheVariants as word
@@ -121,16 +120,3 @@ TellsOutcomes (migrate script settings cert) sense outcomes count r = ⊥
 TellsOutcomes (trial size limit) sense outcomes count r = r ≡ run.Trial size outcomes
 TellsOutcomes (iis script settings limit) sense outcomes count r = ⊥
 TellsOutcomes (range script settings parameter limit) sense outcomes count r = ⊥
-
--- the run tells these outcomes of a problem with variables that are to be whole
-abbrev pub TellsWholes : Command → Sense → List WholeOutcome → Run → Type 0
-TellsWholes (check script) sense outcomes r = ⊥
-TellsWholes (solve script limit) sense outcomes r = r ≡ run.Branched word.Solve sense outcomes
-TellsWholes (resolve script settings limit false) sense outcomes r = r ≡ run.Branched word.Setting sense outcomes
-TellsWholes (resolve script settings limit true) sense outcomes r = ⊥
-TellsWholes (certificate script settings limit) sense outcomes r = ⊥
-TellsWholes (certify script settings cert) sense outcomes r = ⊥
-TellsWholes (migrate script settings cert) sense outcomes r = ⊥
-TellsWholes (trial size limit) sense outcomes r = ⊥
-TellsWholes (iis script settings limit) sense outcomes r = ⊥
-TellsWholes (range script settings parameter limit) sense outcomes r = ⊥

@@ -7,15 +7,13 @@ use Rattle.dcx_host.specs.Pieces.{HandsRests}
 use Rattle.dcx_report.specs.ReportText.{text_of}
 use Rattle.dcx_answer.specs.declared.stop.Stop.TheVariants.{Memory as StopMemory}
 use Rattle.dcx_report.specs.declared.run.Run.{Run}
-use Rattle.dcx_report.specs.declared.run.Run.TheVariants.{Usage, Refused, Checked, Solved, Branched, Certificates, Certified, CertRefused, Trial, Filtered, Ranged, ReadFault, Memory}
+use Rattle.dcx_report.specs.declared.run.Run.TheVariants.{Usage, Refused, Checked, Solved, Certificates, Certified, CertRefused, Trial, Filtered, Ranged, ReadFault, Memory}
 use Rattle.dcx_answer.specs.declared.outcome.OutcomeEnd.{OutcomeEnd}
-use Rattle.dcx_answer.specs.declared.outcome.OutcomeEnd.TheVariants.{Answer, Stop}
+use Rattle.dcx_answer.specs.declared.outcome.OutcomeEnd.TheVariants.{Answer, Whole, Branch, Stop}
 use Rattle.dcx_answer.specs.declared.filter_stop.FilterStop.TheVariants.{Memory as FilterMemory}
 use Rattle.dcx_answer.specs.declared.filter_outcome.FilterEnd.{FilterEnd}
 use Rattle.dcx_answer.specs.declared.filter_outcome.FilterEnd.TheVariants as filter
 use Rattle.dcx_answer.specs.declared.whole_answer.BranchStop.TheVariants.{Memory as BranchMemory}
-use Rattle.dcx_answer.specs.declared.whole_outcome.WholeEnd.{WholeEnd}
-use Rattle.dcx_answer.specs.declared.whole_outcome.WholeEnd.TheVariants as whole
 use Rattle.dcx_answer.specs.declared.range_stop.RangeStop.TheVariants.{Memory as RangeMemory}
 use Rattle.dcx_answer.specs.declared.range_outcome.RangeEnd.{RangeEnd}
 use Rattle.dcx_answer.specs.declared.range_outcome.RangeEnd.TheVariants as range
@@ -24,10 +22,13 @@ use Rattle.dcx_top.specs.declared.ended.Ended.{Ended}
 -- the setting stopped
 abbrev pub is_stop : OutcomeEnd → Bool
 is_stop (Answer answer) = false
+is_stop (Whole answer) = false
+is_stop (Branch stop) = true
 is_stop (Stop stop) = true
 
 -- the setting stopped for want of memory
 abbrev pub wants_memory : OutcomeEnd → Bool
+wants_memory (Branch BranchMemory) = true
 wants_memory (Stop StopMemory) = true
 wants_memory _ = false
 
@@ -46,17 +47,6 @@ filter_wants_memory (filter.Filter FilterMemory) = true
 filter_wants_memory (filter.Stop StopMemory) = true
 filter_wants_memory _ = false
 
--- the same of a problem with variables that are to be whole
-abbrev pub is_whole_stop : WholeEnd → Bool
-is_whole_stop (whole.Whole answer) = false
-is_whole_stop (whole.Branch stop) = true
-is_whole_stop (whole.Stop stop) = true
-
-abbrev pub whole_wants_memory : WholeEnd → Bool
-whole_wants_memory (whole.Branch BranchMemory) = true
-whole_wants_memory (whole.Stop StopMemory) = true
-whole_wants_memory _ = false
-
 -- the same where the range of a parameter is told
 abbrev pub is_range_stop : RangeEnd → Bool
 is_range_stop (range.Ranged ranged) = false
@@ -74,7 +64,6 @@ status_of Usage = 2
 status_of (Refused refusal) = 1
 status_of (Checked checked) = 0
 status_of (Solved word sense outcomes warm) = status_of_all (λ o. is_stop o.end) (λ o. wants_memory o.end) outcomes
-status_of (Branched word sense outcomes) = status_of_all (λ o. is_whole_stop o.end) (λ o. whole_wants_memory o.end) outcomes
 status_of (Certificates text stopped) = if stopped then 6 else 0
 status_of (Certified sections) = 0
 status_of (CertRefused section fault) = 7

@@ -15,7 +15,6 @@ Refuses (run.CertRefused section fault) = ⊤
 Refuses run.Usage = ⊥
 Refuses (run.Checked c) = ⊥
 Refuses (run.Solved word sense outcomes warm) = ⊥
-Refuses (run.Branched word sense outcomes) = ⊥
 Refuses (run.Certificates text stopped) = ⊥
 Refuses (run.Certified n) = ⊥
 Refuses (run.Trial size outcomes) = ⊥

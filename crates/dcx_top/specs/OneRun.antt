@@ -6,14 +6,12 @@ use Rattle.dcx_tree.specs.declared.constraint.Sense.{Sense}
 use Rattle.dcx_answer.specs.declared.outcome.Outcome.{Outcome}
 use Rattle.dcx_answer.specs.declared.filter_outcome.FilterOutcome.{FilterOutcome}
 use Rattle.dcx_answer.specs.declared.range_outcome.RangeOutcome.{RangeOutcome}
-use Rattle.dcx_answer.specs.declared.whole_outcome.WholeOutcome.{WholeOutcome}
 use Rattle.dcx_report.specs.declared.run.Run.{Run}
 use Rattle.dcx_report.specs.declared.run.Run.TheVariants as run
 use Rattle.dcx_report.specs.declared.run.Word.{Word}
 use Rattle.dcx_words.specs.Commands.{trial, command_of}
 use Rattle.dcx_outcomes.specs.Laws.{AreAlike, AreOneFound}
 use Rattle.dcx_outcomes.specs.FilterLaws.{AreAlikeFilters}
-use Rattle.dcx_outcomes.specs.WholeLaws.{AreAlikeWholes}
 use Rattle.dcx_outcomes.specs.RangeLaws.{AreAlikeRanges}
 use Rattle.dcx_top.specs.Runs.{Causes}
 
@@ -25,7 +23,6 @@ IsAnswered run.Usage = ⊤
 IsAnswered (run.Refused r) = ⊤
 IsAnswered (run.Checked c) = ⊤
 IsAnswered (run.Solved word sense outcomes warm) = ⊤
-IsAnswered (run.Branched word sense outcomes) = ⊤
 IsAnswered (run.Certificates text stopped) = ⊤
 IsAnswered (run.Certified n) = ⊤
 IsAnswered (run.CertRefused section fault) = ⊤
@@ -39,7 +36,6 @@ IsAnswered (run.Ranged parameter sense outcomes) = ⊤
 pub data AreOneRun (r s : Run) : Type 0 where
   told_same : r ≡ s → AreOneRun r s
   told_solved : (word : Word) (sense : Sense) (os qs : List Outcome) (m n : Option ℕ) → r ≡ run.Solved word sense os m → s ≡ run.Solved word sense qs n → AreOneFound os m qs n → AreOneRun r s
-  told_branched : (word : Word) (sense : Sense) (os qs : List WholeOutcome) → r ≡ run.Branched word sense os → s ≡ run.Branched word sense qs → AreAlikeWholes os qs → AreOneRun r s
   told_tried : (size : ℕ) (os qs : List Outcome) → r ≡ run.Trial size os → s ≡ run.Trial size qs → AreAlike os qs → AreOneRun r s
   told_filtered : (os qs : List FilterOutcome) → r ≡ run.Filtered os → s ≡ run.Filtered qs → AreAlikeFilters os qs → AreOneRun r s
   told_ranged : (name : List ℕ) (sense : Sense) (os qs : List RangeOutcome) → r ≡ run.Ranged name sense os → s ≡ run.Ranged name sense qs → AreAlikeRanges os qs → AreOneRun r s

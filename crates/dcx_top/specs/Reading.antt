@@ -38,7 +38,6 @@ EndsAt told risen source name Refuses run.Memory = ⊤
 EndsAt told risen source name Refuses run.Usage = ⊥
 EndsAt told risen source name Refuses (run.Checked c) = ⊥
 EndsAt told risen source name Refuses (run.Solved word sense outcomes warm) = ⊥
-EndsAt told risen source name Refuses (run.Branched word sense outcomes) = ⊥
 EndsAt told risen source name Refuses (run.Certificates text stopped) = ⊥
 EndsAt told risen source name Refuses (run.Certified n) = ⊥
 EndsAt told risen source name Refuses (run.CertRefused section fault) = ⊥

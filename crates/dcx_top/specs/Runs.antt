@@ -9,7 +9,6 @@ use Rattle.dcx_refusal.specs.declared.refusal.RefusalSource.TheVariants.{Script,
 use Rattle.dcx_front.specs.Checks.{IsFoundOf}
 use Rattle.dcx_answer.specs.declared.outcome.Outcome.{Outcome}
 use Rattle.dcx_answer.specs.declared.filter_outcome.FilterOutcome.{FilterOutcome}
-use Rattle.dcx_answer.specs.declared.whole_outcome.WholeOutcome.{WholeOutcome}
 use Rattle.dcx_answer.specs.declared.range_outcome.RangeOutcome.{RangeOutcome}
 use Rattle.dcx_tree.specs.declared.constraint.Sense.{Sense}
 use Rattle.dcx_report.specs.declared.run.Run.{Run}
@@ -19,7 +18,6 @@ use Rattle.dcx_words.specs.Laws.{is_warm_command}
 use Rattle.dcx_outcomes.specs.Outcomes.{Counts, CountsNoMore}
 use Rattle.dcx_outcomes.specs.Warm.{AreFound}
 use Rattle.dcx_outcomes.specs.Filters.{AreFilterOutcomes}
-use Rattle.dcx_outcomes.specs.Wholes.{AreWholeOutcomes}
 use Rattle.dcx_outcomes.specs.Ranges.{HasRange, AreRangeOutcomes}
 use Rattle.dcx_answer.specs.declared.cert_fault.CertFault.{CertFault}
 use Rattle.dcx_cert_sections.specs.declared.section.Sections.{Sections}
@@ -27,9 +25,9 @@ use Rattle.dcx_cert_lines.specs.CertText.{cert_text}
 use Rattle.dcx_cert_runs.specs.Sections.{StopsSomewhere, IsCertificateAt}
 use Rattle.dcx_cert_runs.specs.Checking.{is_cert, ArePassed, IsFirstRefused}
 use Rattle.dcx_cert_runs.specs.Migrating.{IsMigrated}
-use Rattle.dcx_top.specs.Commands.{IsScriptOf, script_name, settings_name, certificate_name, parameter_name, AreSettingsOf, limit_of, TellsOutcomes, TellsWholes}
+use Rattle.dcx_top.specs.Commands.{IsScriptOf, script_name, settings_name, certificate_name, parameter_name, AreSettingsOf, limit_of, TellsOutcomes}
 use Rattle.dcx_top.specs.Asked.{IsAcceptedWork, Asked}
-use Rattle.dcx_declared.specs.Whole.{HasNoWhole, HasWhole}
+use Rattle.dcx_declared.specs.Whole.{HasNoWhole}
 use Rattle.dcx_top.specs.Whole.{IsRefusedForWhole, RefusesWhole, Takes}
 use Rattle.dcx_top.specs.NoRange.{IsRefusedForRange, AllowsRange}
 use Rattle.dcx_top.specs.Files.{IsLong, IsRefusedIn, RefusesScript, RefusesSettings, IsNotHad, IsMisread, HasTextOf}
@@ -43,27 +41,18 @@ pub record IsChecked (words : List (List ℕ)) (told : Option Files) (c : Checke
   pub problem : IsAcceptedWork told (check script) work
   pub found : IsFoundOf work.problem c
 
--- a problem without variables that are to be whole is solved at the settings of a command, where that says so warm: its outcomes are
--- told, and so many steps were counted
+-- a problem that the command takes is solved at its settings, where that says so warm, and by branch and bound where a variable is to be
+-- whole: its outcomes are told, and so many steps were counted
 pub record IsSolvedRun (words : List (List ℕ)) (told : Option Files) (old new : ℕ) (r : Run) : Type 0 where
   pub command : Command
-  pub asked : Asked words told command HasNoWhole
+  pub asked : Asked words told command (Takes command)
   pub outcomes : List Outcome
   pub warm : Option ℕ
   pub are : AreFound (is_warm_command command) asked.work.problem (limit_of command) asked.settings outcomes warm
   pub tells : TellsOutcomes command asked.work.problem.sense outcomes warm r
   pub steps : Counts asked.work.problem (length asked.settings) old new
 
--- a problem with a variable that is to be whole is solved by branch and bound
-pub record IsBranchedRun (words : List (List ℕ)) (told : Option Files) (old new : ℕ) (r : Run) : Type 0 where
-  pub command : Command
-  pub asked : Asked words told command HasWhole
-  pub outcomes : List WholeOutcome
-  pub are : AreWholeOutcomes asked.work.problem (limit_of command) asked.settings outcomes
-  pub tells : TellsWholes command asked.work.problem.sense outcomes r
-  pub steps : Counts asked.work.problem (length asked.settings) old new
-
--- the constraints of one without such variables are filtered
+-- the constraints of one without variables that are to be whole are filtered
 pub record IsFilteredRun (words : List (List ℕ)) (told : Option Files) (old new : ℕ) (outcomes : List FilterOutcome) : Type 0 where
   pub script : List ℕ
   pub name : List ℕ
@@ -204,7 +193,6 @@ Causes words told risen old new run.Usage = (command_of words ≡ None) × (new 
 Causes words told risen old new (run.Refused r) = IsRefusedRun words told r × CountsAtMostBeginning words told old new
 Causes words told risen old new (run.Checked c) = IsChecked words told c × (new ≡ old)
 Causes words told risen old new (run.Solved word sense outcomes warm) = IsSolvedRun words told old new (run.Solved word sense outcomes warm)
-Causes words told risen old new (run.Branched word sense outcomes) = IsBranchedRun words told old new (run.Branched word sense outcomes)
 Causes words told risen old new (run.Certificates text stopped) = AreBytesOf words told old new text stopped
 Causes words told risen old new (run.Certified n) = IsCertifiedRun words told n × (new ≡ old)
 Causes words told risen old new (run.CertRefused section fault) = IsCertRefusedRun words told section fault × (new ≡ old)

@@ -8,7 +8,6 @@ use Rattle.dcx_refusal.specs.declared.refusal.Refusal.{Refusal}
 use Rattle.dcx_refusal.specs.declared.refusal.RefusalSource.TheVariants.{Settings}
 use Rattle.dcx_answer.specs.declared.outcome.Outcome.{Outcome}
 use Rattle.dcx_answer.specs.declared.filter_outcome.FilterOutcome.{FilterOutcome}
-use Rattle.dcx_answer.specs.declared.whole_outcome.WholeOutcome.{WholeOutcome}
 use Rattle.dcx_answer.specs.declared.range_outcome.RangeOutcome.{RangeOutcome}
 use Rattle.dcx_report.specs.declared.run.Run.{Run}
 use Rattle.dcx_report.specs.declared.run.Run.TheVariants as run
@@ -19,7 +18,6 @@ use Rattle.dcx_overlay.specs.Settings.{AreTrialSettings}
 use Rattle.dcx_outcomes.specs.Outcomes.{Counts, CountsNoMore}
 use Rattle.dcx_outcomes.specs.Warm.{AreFound}
 use Rattle.dcx_outcomes.specs.Filters.{AreFilterOutcomes}
-use Rattle.dcx_outcomes.specs.Wholes.{AreWholeOutcomes}
 use Rattle.dcx_outcomes.specs.Ranges.{HasRange, AreRangeOutcomes}
 use Rattle.dcx_cert_sections.specs.declared.section.Sections.{Sections}
 use Rattle.dcx_cert_lines.specs.CertText.{cert_text}
@@ -27,7 +25,7 @@ use Rattle.dcx_cert_runs.specs.Sections.{StopsSomewhere, IsCertificateAt}
 use Rattle.dcx_top.specs.Commands.{AreOfFile}
 use Rattle.dcx_top.specs.declared.solving.Task.{Task}
 use Rattle.dcx_top.specs.declared.solving.Task.TheVariants as tasks
-use Rattle.dcx_declared.specs.Whole.{HasNoWhole, HasWhole}
+use Rattle.dcx_declared.specs.Whole.{HasNoWhole}
 use Rattle.dcx_top.specs.Whole.{IsRefusedForWhole}
 use Rattle.dcx_top.specs.NoRange.{IsRefusedForRange}
 use Rattle.dcx_top.specs.Files.{RefusesSettings}
@@ -42,28 +40,16 @@ RefusedForWhole p old new r = (t : Refusal) × IsRefusedForWhole p t × (r ≡ r
 abbrev pub OrWhole : Type 0 → Problem → (Run → Type 0) → ℕ → ℕ → Run → Type 0
 OrWhole Refuses p Next old new r = ((Refuses → HasNoWhole p) × Next r) ⊎ (Refuses × RefusedForWhole p old new r)
 
--- a problem is solved at settings, warm or not, and its outcomes are told so; want of memory is free
+-- a problem is solved at settings, warm or not, by branch and bound where a variable is to be whole, and its outcomes are told so; want of
+-- memory is free
 abbrev pub SolvesAt : Bool → Problem → ℕ → List Pairs → (List Outcome → Option ℕ → Run) → ℕ → ℕ → Run → Type 0
 SolvesAt warm p limit settings tells old new r =
     ((r ≡ run.Memory) × CountsNoMore p (length settings) old new) ⊎ ((outcomes : List Outcome) × (count : Option ℕ) × AreFound warm p limit settings outcomes count
     × Counts p (length settings) old new × (r ≡ tells outcomes count))
 
--- a problem is solved by branch and bound at settings, and its outcomes are told so; want of memory is free
-abbrev pub BranchesAt : Problem → ℕ → List Pairs → (List WholeOutcome → Run) → ℕ → ℕ → Run → Type 0
-BranchesAt p limit settings tells old new r =
-    ((r ≡ run.Memory) × CountsNoMore p (length settings) old new) ⊎ ((outcomes : List WholeOutcome) × AreWholeOutcomes p limit settings outcomes × Counts p (length settings) old new
-    × (r ≡ tells outcomes))
-
--- it is solved so where a variable is to be whole, and else as ever
-abbrev pub AnswersAt : Word → Problem → ℕ → List Pairs → ℕ → ℕ → Run → Type 0
-AnswersAt word p limit settings old new r =
-    (HasNoWhole p × SolvesAt false p limit settings (λ os count. run.Solved word p.sense os count) old new r)
-    ⊎ (HasWhole p × BranchesAt p limit settings (λ os. run.Branched word p.sense os) old new r)
-
--- it is solved at the settings of a file, warm or not
-abbrev pub ResolvesAt : Bool → Problem → ℕ → List Pairs → ℕ → ℕ → Run → Type 0
-ResolvesAt false p limit settings old new r = AnswersAt word.Setting p limit settings old new r
-ResolvesAt true p limit settings old new r = SolvesAt true p limit settings (λ os count. run.Solved word.Setting p.sense os count) old new r
+-- its outcomes stand under this word
+abbrev pub SolvesUnder : Word → Bool → Problem → ℕ → List Pairs → ℕ → ℕ → Run → Type 0
+SolvesUnder word warm p limit settings old new r = SolvesAt warm p limit settings (λ os count. run.Solved word p.sense os count) old new r
 
 -- the trial problem is solved at its two settings; want of memory is free
 abbrev pub TriesAt : Work → ℕ → ℕ → ℕ → ℕ → Run → Type 0
@@ -100,7 +86,7 @@ FromFile told risen work name At old new r =
 
 -- an accepted problem is solved at the settings of a file, its certificate is told there, or its constraints are filtered there
 abbrev pub DoesAt : Task → Work → ℕ → List Pairs → ℕ → ℕ → Run → Type 0
-DoesAt (tasks.Resolve warm) work limit settings old new r = ResolvesAt warm work.problem limit settings old new r
+DoesAt (tasks.Resolve warm) work limit settings old new r = SolvesUnder word.Setting warm work.problem limit settings old new r
 DoesAt tasks.Certificate work limit settings old new r = CertifiesAt work.problem limit settings old new r
 DoesAt tasks.Filter work limit settings old new r = FiltersAt work.problem limit settings old new r
 

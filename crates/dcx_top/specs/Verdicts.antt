@@ -25,7 +25,6 @@ IsRefusal (run.Refused r) = ⊤
 IsRefusal run.Usage = ⊥
 IsRefusal (run.Checked c) = ⊥
 IsRefusal (run.Solved word sense outcomes warm) = ⊥
-IsRefusal (run.Branched word sense outcomes) = ⊥
 IsRefusal (run.Certificates text stopped) = ⊥
 IsRefusal (run.Certified n) = ⊥
 IsRefusal (run.CertRefused section fault) = ⊥
@@ -38,7 +37,6 @@ IsRefusal run.Memory = ⊥
 abbrev pub IsAcceptance : Run → Type 0
 IsAcceptance (run.Checked c) = ⊤
 IsAcceptance (run.Solved word sense outcomes warm) = ⊤
-IsAcceptance (run.Branched word sense outcomes) = ⊤
 IsAcceptance (run.Certificates text stopped) = ⊤
 IsAcceptance (run.Certified n) = ⊤
 IsAcceptance (run.CertRefused section fault) = ⊤

@@ -1,5 +1,4 @@
-//! A problem is solved: at the settings of its script's solves, at those of a file, or at the two of the trial, by branch and bound
-//! where it has a variable that is to be whole; or its certificate is written at those of a file, or its constraints are filtered there.
+//! A problem is solved: at the settings of its script's solves, at those of a file, or at the two of the trial; or its certificate is written at those of a file, or its constraints are filtered there.
 ghost use Rattle.std.specs.Prelude.{◌≡◌, ◌⊎◌, ◌≤◌, ⊤, ℕ, List, Some, IsTrue, MatchOption};
 ghost use Rattle.std.specs.declared.option.Option.{Option};
 ghost use Rattle.dcx_settings.specs.Grammar.{Every};
@@ -15,17 +14,16 @@ ghost use Rattle.dcx_host.specs.Files.{Files};
 ghost use Rattle.dcx_declared.specs.Whole.{HasNoWhole};
 ghost use Rattle.dcx_top.specs.Whole.{IsRefusedForWhole};
 ghost use Rattle.dcx_top.specs.Runs.{Causes};
-ghost use Rattle.dcx_top.specs.Solving.{OrWhole, SolvesAt, BranchesAt, AnswersAt, ResolvesAt, CertifiesAt, FiltersAt, TriesAt, DoesAt, DoesFrom, task_refuses, command_for};
+ghost use Rattle.dcx_top.specs.Solving.{OrWhole, SolvesUnder, CertifiesAt, FiltersAt, TriesAt, DoesAt, DoesFrom, task_refuses, command_for};
 
 use crate::certifying::written;
 use crate::files::{ended, read_script, read_settings};
 use crate::whole::refuse_whole;
 use dcx_cert_runs::certificate;
-use dcx_declared::has_whole;
 use dcx_elab::Work;
 use dcx_front::{Accepted, accept};
 use dcx_host::Library;
-use dcx_outcomes::{filter_outcomes, outcomes, whole_outcomes};
+use dcx_outcomes::{filter_outcomes, outcomes};
 use dcx_overlay::{all_laid_over, trial_settings};
 use dcx_point::Setting;
 use dcx_refusal::Refusal;
@@ -52,7 +50,7 @@ pub enum Task {
     Filter,
 }
 
-/// An accepted problem is solved at settings.
+/// An accepted problem is solved at settings, where `warm` says so from the columns that the settings before left.
 fn solved_at<S: Ledger>(
     alloc: Global,
     problem: Problem,
@@ -65,7 +63,7 @@ fn solved_at<S: Ledger>(
 ) -> Run
     requires accepted { IsAccepted problem }
     requires verdict { IsVerdictOf problem verdict }
-    ensures { SolvesAt warm problem limit settings.now (λ os count. Run.Solved word problem.sense os count) steps.old steps.new result }
+    ensures { SolvesUnder word warm problem limit settings.now steps.old steps.new result }
 {
     let sense = problem.sense;
     match outcomes(alloc, problem, verdict, settings, limit, warm, steps) {
@@ -76,90 +74,6 @@ fn solved_at<S: Ledger>(
             warm: found.warm,
         },
         Err(_) => Run::Memory,
-    }
-}
-
-/// An accepted problem with a variable that is to be whole is solved at settings.
-fn branched_at<S: Ledger>(
-    alloc: Global,
-    problem: Problem,
-    verdict: Verdict,
-    settings: &[Setting],
-    word: Word,
-    limit: u64,
-    steps: &mut Steps<S>,
-) -> Run
-    requires accepted { IsAccepted problem }
-    requires verdict { IsVerdictOf problem verdict }
-    ensures { BranchesAt problem limit settings.now (λ os. Run.Branched word problem.sense os) steps.old steps.new result }
-{
-    let sense = problem.sense;
-    match whole_outcomes(alloc, problem, verdict, settings, limit, steps) {
-        Ok(outcomes) => Run::Branched {
-            word,
-            sense,
-            outcomes,
-        },
-        Err(_) => Run::Memory,
-    }
-}
-
-/// An accepted problem is solved at settings, by branch and bound where a variable is to be whole.
-fn answered_at<S: Ledger>(
-    alloc: Global,
-    problem: Problem,
-    verdict: Verdict,
-    settings: &[Setting],
-    word: Word,
-    limit: u64,
-    steps: &mut Steps<S>,
-) -> Run
-    requires accepted { IsAccepted problem }
-    requires verdict { IsVerdictOf problem verdict }
-    ensures { AnswersAt word problem limit settings.now steps.old steps.new result }
-{
-    if has_whole(&problem) {
-        branched_at(alloc, problem, verdict, settings, word, limit, steps)
-    } else {
-        solved_at(alloc, problem, verdict, settings, word, limit, false, steps)
-    }
-}
-
-/// An accepted problem is solved at the settings of a file, where `warm` says so from the columns that the settings before left.
-fn resolved_at<S: Ledger>(
-    alloc: Global,
-    problem: Problem,
-    verdict: Verdict,
-    settings: &[Setting],
-    limit: u64,
-    warm: bool,
-    steps: &mut Steps<S>,
-) -> Run
-    requires accepted { IsAccepted problem }
-    requires verdict { IsVerdictOf problem verdict }
-    ensures { ResolvesAt warm problem limit settings.now steps.old steps.new result }
-{
-    if warm {
-        solved_at(
-            alloc,
-            problem,
-            verdict,
-            settings,
-            Word::Setting,
-            limit,
-            true,
-            steps,
-        )
-    } else {
-        answered_at(
-            alloc,
-            problem,
-            verdict,
-            settings,
-            Word::Setting,
-            limit,
-            steps,
-        )
     }
 }
 
@@ -209,7 +123,7 @@ fn solve_events<S: Ledger>(
     steps: &mut Steps<S>,
 ) -> Run
     requires { IsJudged accepted.work.problem accepted.verdict }
-    ensures { AnswersAt Word.Solve accepted.work.problem limit accepted.work.events steps.old steps.new result }
+    ensures { SolvesUnder Word.Solve false accepted.work.problem limit accepted.work.events steps.old steps.new result }
 {
     let Accepted { work, verdict } = accepted;
     let Work {
@@ -218,15 +132,9 @@ fn solve_events<S: Ledger>(
         last,
     } = work;
     drop(last);
-    answered_at(
-        alloc,
-        problem,
-        verdict,
-        events.as_slice(),
-        Word::Solve,
-        limit,
-        steps,
-    )
+    let settings = events.as_slice();
+    let word = Word::Solve;
+    solved_at(alloc, problem, verdict, settings, word, limit, false, steps)
 }
 
 /// What is asked of an accepted problem at settings.
@@ -250,7 +158,8 @@ fn do_at<S: Ledger>(
     drop((events, last));
     match task {
         Task::Resolve { warm } => {
-            resolved_at(alloc, problem, verdict, settings, limit, warm, steps)
+            let word = Word::Setting;
+            solved_at(alloc, problem, verdict, settings, word, limit, warm, steps)
         }
         Task::Certificate => certified_at(alloc, problem, verdict, settings, limit, steps),
         Task::Filter => filtered_at(alloc, problem, verdict, settings, limit, steps),

@@ -2,12 +2,12 @@
 ghost use Rattle.std.specs.Prelude.{◌≡◌, ◌≢◌, ◌⊎◌, Bool};
 ghost use Rattle.std.specs.List.{list_any};
 ghost use Rattle.dcx_top.specs.Ended.{status_of_all as status_of_outcomes, status_of, is_stop, wants_memory, is_filter_stop};
-ghost use Rattle.dcx_top.specs.Ended.{filter_wants_memory, is_range_stop, range_wants_memory, is_whole_stop, whole_wants_memory};
+ghost use Rattle.dcx_top.specs.Ended.{filter_wants_memory, is_range_stop, range_wants_memory};
 
 use dcx_answer::Stop;
 use dcx_report::{
     BranchStop, FilterEnd, FilterOutcome, FilterStop, Outcome, OutcomeEnd, RangeEnd, RangeOutcome,
-    RangeStop, Run, WholeEnd, WholeOutcome,
+    RangeStop, Run,
 };
 
 /// The outcome of a setting, as far as the status of a run goes.
@@ -31,11 +31,14 @@ impl SettingEnd for Outcome {
     ghost wanted = { λ o. wants_memory o.end };
 
     fn has_stopped(&self) -> bool {
-        matches!(&self.end, OutcomeEnd::Stop(_))
+        matches!(&self.end, OutcomeEnd::Branch(_) | OutcomeEnd::Stop(_))
     }
 
     fn wants_memory(&self) -> bool {
-        matches!(&self.end, OutcomeEnd::Stop(Stop::Memory))
+        matches!(
+            &self.end,
+            OutcomeEnd::Branch(BranchStop::Memory) | OutcomeEnd::Stop(Stop::Memory)
+        )
     }
 }
 
@@ -52,23 +55,6 @@ impl SettingEnd for FilterOutcome {
         matches!(
             &self.end,
             FilterEnd::Filter(FilterStop::Memory) | FilterEnd::Stop(Stop::Memory)
-        )
-    }
-}
-
-impl SettingEnd for WholeOutcome {
-    ghost stopped = { λ o. is_whole_stop o.end };
-
-    ghost wanted = { λ o. whole_wants_memory o.end };
-
-    fn has_stopped(&self) -> bool {
-        matches!(&self.end, WholeEnd::Branch(_) | WholeEnd::Stop(_))
-    }
-
-    fn wants_memory(&self) -> bool {
-        matches!(
-            &self.end,
-            WholeEnd::Branch(BranchStop::Memory) | WholeEnd::Stop(Stop::Memory)
         )
     }
 }
@@ -126,7 +112,6 @@ pub(crate) fn status(run: &Run) -> u8
         Run::Refused(_) => 1,
         Run::Checked(_) => 0,
         Run::Solved { outcomes, .. } => status_of_all(outcomes.as_slice()),
-        Run::Branched { outcomes, .. } => status_of_all(outcomes.as_slice()),
         Run::Certificates { stopped: true, .. } => 6,
         Run::Certificates { stopped: false, .. } => 0,
         Run::Certified { .. } => 0,

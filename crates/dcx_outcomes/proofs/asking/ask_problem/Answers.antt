@@ -12,7 +12,7 @@ ask_session-outcomes-requires g c = subst (g.Q.Question.can_ask c.args.question.
 pub returns-clause-outcomes : goal.returns-clause-outcomes
 returns-clause-outcomes g c =
     subst (λ (z : Problem). IfOk c.ask_session-outcomes.result (λ v. AreAskedOutcomes
-    (g.Q.Question.gives c.args.question.now) g.Q.Question.told_end g.Q.Question.told_place z c.args.settings.now v.items))
+    (g.Q.Question.gives c.args.question.now) g.Q.Question.tells g.Q.Question.told_place z c.args.settings.now v.items))
     c.in_ok-session.ensures.problem c.ask_session-outcomes.ensures.outcomes
 
 pub returns-clause-counted : goal.returns-clause-counted

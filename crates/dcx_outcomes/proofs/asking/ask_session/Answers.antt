@@ -7,7 +7,7 @@ use Rattle.dcx_tree.specs.declared.problem.Problem.{Problem}
 use Rattle.dcx_cache.specs.Programs.{HasMap}
 use Rattle.dcx_outcomes.specs.Asking.{IsAskedOutcome, AreAskedOutcomes}
 use Rattle.dcx_outcomes.proofs.More.{steps_more}
-use Rattle.dcx_outcomes.proofs.Asked.{zip_more}
+use Rattle.dcx_outcomes.proofs.Zips.{zip_more}
 use Rattle.dcx_outcomes.proofs.Counting.{at_least, few_within}
 use Rattle.dcx_outcomes.proofs.asking.ask_session.Goals as goal
 
@@ -20,11 +20,11 @@ loop-setting-preserved g c =
     let p = c.args.session.now.problem in
     let asked = g.Q.Question in
     record {
-      outcomes = zip_more (IsAskedOutcome (asked.gives c.args.question.now) asked.told_end asked.told_place p) c.args.settings.now c.loop-setting.outcomes.items c.push.new.self.items
+      outcomes = zip_more (IsAskedOutcome (asked.gives c.args.question.now) asked.tells asked.told_place p) c.args.settings.now c.loop-setting.outcomes.items c.push.new.self.items
           c.loop-setting.setting-index c.setting-item.result c.outcome-next.result (omega arith)
           c.setting-item.is c.in_ok-push.ensures.items before.outcomes
           (subst (λ (z : Problem). IsAskedOutcome
-          (asked.gives c.args.question.now) asked.told_end asked.told_place z c.setting-item.result c.outcome-next.result) before.same c.outcome-next.ensures.outcome);
+          (asked.gives c.args.question.now) asked.tells asked.told_place z c.setting-item.result c.outcome-next.result) before.same c.outcome-next.ensures.outcome);
       same = c.outcome-next.ensures.same ∙ before.same;
       counted = λ h. c.outcome-next.ensures.counted (subst (λ (z : Problem). HasMap z) (sym before.same) h) ∙ before.counted h;
       few = steps_more c.loop-setting.setting-index (length p.tree) c.args.steps.now c.loop-setting.steps c.outcome-next.new.steps before.few
@@ -35,7 +35,7 @@ pub loop-setting-init : goal.loop-setting-init
 loop-setting-init g c =
     let asked = g.Q.Question in
     record {
-      outcomes = subst (λ os. AreAskedOutcomes (asked.gives c.args.question.now) asked.told_end asked.told_place c.args.session.now.problem [] os) (sym c.in_ok-outcomes.ensures.items) tt;
+      outcomes = subst (λ os. AreAskedOutcomes (asked.gives c.args.question.now) asked.tells asked.told_place c.args.session.now.problem [] os) (sym c.in_ok-outcomes.ensures.items) tt;
       same = refl;
       counted = λ h. refl;
       few = omega arith;
@@ -72,7 +72,7 @@ returns-in_err-push-clause-few g c =
 pub returns-clause-outcomes : goal.returns-clause-outcomes
 returns-clause-outcomes g c =
     let asked = g.Q.Question in
-    subst (λ (z : List Pairs). AreAskedOutcomes (asked.gives c.args.question.now) asked.told_end asked.told_place c.args.session.now.problem z c.loop-setting.outcomes.items)
+    subst (λ (z : List Pairs). AreAskedOutcomes (asked.gives c.args.question.now) asked.tells asked.told_place c.args.session.now.problem z c.loop-setting.outcomes.items)
     (take_all c.loop-setting.setting-index c.args.settings.now (omega arith)) c.loop-setting.invariant.outcomes
 
 pub returns-clause-counted : goal.returns-clause-counted

@@ -38,7 +38,7 @@ answer-found-requires-clause-program g c =
 pub returns-in-Ok-clause-outcome : goal.returns-in-Ok-clause-outcome
 returns-in-Ok-clause-outcome g c =
     let asked = g.Q.Question in
-    outcome_of (asked.gives c.args.question.now) asked.told_end asked.told_place c.args.session.now.problem c.args.setting.now (Ok c.answer-found.result) c.answered.result
+    outcome_of (asked.gives c.args.question.now) asked.tells asked.told_place c.args.session.now.problem c.args.setting.now (Ok c.answer-found.result) c.answered.result
     (subst (λ (z : Problem). IsAnswered (asked.gives c.args.question.now) z c.args.setting.now c.answer-found.result) c.program.ensures.same.0 c.answer-found.ensures) c.answered.ensures.end
     c.answered.ensures.place
 
@@ -67,4 +67,4 @@ returns-in-Err-clause-outcome g c =
     let stops = subst (λ (r : Result (Reduction Frac) Stop). IfErr r (ProgramStops p s)) c.in-Err.is c.program.ensures.stops in
     let place : c.stop_place-place.result ≡ stop_place p c.in-Err.stop = c.stop_place-place.ensures
     ∙ ap (λ (z : Problem). stop_place z c.in-Err.stop) (c.problem.ensures.problem ∙ c.program.ensures.same.0) in
-    outcome_of (asked.gives c.args.question.now) asked.told_end asked.told_place p s (Err c.in-Err.stop) c.stopped.result stops c.stopped.ensures.end (c.stopped.ensures.place ∙ place)
+    outcome_of (asked.gives c.args.question.now) asked.tells asked.told_place p s (Err c.in-Err.stop) c.stopped.result stops c.stopped.ensures.end (c.stopped.ensures.place ∙ place)

@@ -1,34 +1,21 @@
--- The outcomes of a session without columns; the steps of the beginning and those of the settings.
-use Rattle.std.proofs.Common.{◌≡◌, Ok, length}
-use Rattle.dcx_outcomes.proofs.More.{found_all}
-use Rattle.dcx_outcomes.proofs.Counting.{ok_weaker, on_ok, held, counts, begun_no_more, no_more}
+-- Where a variable is to be whole, and warm outcomes aren't wanted, the outcomes are those of branch and bound.
+use Rattle.dcx_declared.proofs.Marked.{none_where_not}
+use Rattle.dcx_outcomes.proofs.Counting.{ok_weaker}
+use Rattle.dcx_outcomes.proofs.Finds.{found_warm, found_cold, found_whole}
 use Rattle.dcx_outcomes.proofs.finding.outcomes.Goals as goal
 
-pub returns-in-Ok-clause-outcomes : goal.returns-in-Ok-clause-outcomes
-returns-in-Ok-clause-outcomes g c =
-    let known : c.all-told.result ≡ Ok c.in-Ok.told = c.in-Ok.is in
-    ok_weaker c.counted.result _ _
-    (λ f h. found_all c.args.problem c.in_ok-session.session.problem c.args.limit c.args.warm c.args.settings.now c.in_ok-session.session.columns c.in-Ok.told.outcomes f.outcomes c.in-Ok.told.kept
-    c.all-told.new.session.columns f.warm
-    c.in_ok-session.ensures.problem c.in_ok-session.ensures.columns (held c.all-told.result c.in-Ok.told _ known c.all-told.ensures.outcomes) h.0 h.1)
-    c.counted.ensures
+pub returns-then-warm-clause-outcomes : goal.returns-then-warm-clause-outcomes
+returns-then-warm-clause-outcomes g c =
+    ok_weaker c.solved_outcomes.result _ _ (λ f h. found_warm c.args.warm c.args.problem c.args.limit c.args.settings.now f.outcomes f.warm c.if-warm.true h) c.solved_outcomes.ensures.outcomes
 
-pub returns-in-Ok-clause-counted : goal.returns-in-Ok-clause-counted
-returns-in-Ok-clause-counted g c =
-    on_ok c.counted.result _
-    (counts c.args.problem c.in_ok-session.session.problem c.in_ok-session.session.cached
-    (length c.args.settings.now) c.args.steps.now c.begin.new.steps c.all-told.new.steps c.in_ok-session.ensures.problem c.in_ok-session.ensures.counted c.in_ok-session.ensures.cached
-    c.in_ok-session.ensures.few c.all-told.ensures.counted c.all-told.ensures.few)
+pub returns-then-has_whole-clause-outcomes : goal.returns-then-has_whole-clause-outcomes
+returns-then-has_whole-clause-outcomes g c =
+    ok_weaker c.whole_found.result _ _
+    (λ f h. found_whole c.args.warm c.args.problem c.args.limit c.args.settings.now f.outcomes f.warm c.if-warm.false (c.has_whole.ensures.0 c.if-has_whole.true) h)
+    c.whole_found.ensures.outcomes
 
-pub returns-in_err-session-clause-few : goal.returns-in_err-session-clause-few
-returns-in_err-session-clause-few g c = begun_no_more c.args.problem (length c.args.settings.now) c.args.steps.now c.begin.new.steps c.begin.ensures.few
-
-pub returns-in-Ok-clause-few : goal.returns-in-Ok-clause-few
-returns-in-Ok-clause-few g c =
-    no_more c.args.problem c.in_ok-session.session.problem (length c.args.settings.now) c.args.steps.now c.begin.new.steps c.all-told.new.steps c.in_ok-session.ensures.problem c.begin.ensures.few
-    c.all-told.ensures.counted c.all-told.ensures.few
-
-pub returns-in-Err-clause-few : goal.returns-in-Err-clause-few
-returns-in-Err-clause-few g c =
-    no_more c.args.problem c.in_ok-session.session.problem (length c.args.settings.now) c.args.steps.now c.begin.new.steps c.all-told.new.steps c.in_ok-session.ensures.problem c.begin.ensures.few
-    c.all-told.ensures.counted c.all-told.ensures.few
+pub returns-else-has_whole-clause-outcomes : goal.returns-else-has_whole-clause-outcomes
+returns-else-has_whole-clause-outcomes g c =
+    let none = none_where_not c.args.problem c.has_whole.result c.has_whole.ensures c.if-has_whole.false in
+    ok_weaker c.solved_outcomes-else-has_whole.result _ _ (λ f h. found_cold c.args.warm c.args.problem c.args.limit c.args.settings.now f.outcomes f.warm c.if-warm.false none h)
+    c.solved_outcomes-else-has_whole.ensures.outcomes

@@ -6,7 +6,7 @@ use Rattle.dcx_top.proofs.solving.do_at.Goals as goal
 pub returns-in-Resolve : goal.returns-in-Resolve
 returns-in-Resolve g c =
     task_done c.args.accepted.work c.args.limit c.args.settings.now c.args.task
-    (tasks.Resolve c.in-Resolve.warm) c.args.steps.now c.resolved_at.new.steps c.resolved_at.result c.in-Resolve.is c.resolved_at.ensures
+    (tasks.Resolve c.in-Resolve.warm) c.args.steps.now c.solved_at.new.steps c.solved_at.result c.in-Resolve.is c.solved_at.ensures
 
 pub returns-in-Certificate : goal.returns-in-Certificate
 returns-in-Certificate g c =
