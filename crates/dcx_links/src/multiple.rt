@@ -3,6 +3,8 @@ ghost use Rattle.std.specs.Prelude.{◌≡◌, ◌≢◌, ℕ, ◌<◌, ◌≤�
 ghost use Rattle.dcx_links.specs.Cells.{number_in, IsSound};
 ghost use Rattle.dcx_links.specs.Entries.{column_at, value_at};
 
+use crate::reserve::make_free;
+use crate::search::{Spot, row_spot_on};
 use crate::store::Store;
 use crate::walk::Entry;
 use crate::write::lessen;
@@ -31,12 +33,17 @@ pub(crate) fn lessen_by(
     ensures there { (k : ℕ) → k < count → number_in store.new row (column_at entries.now k) ≡ number_in store.old row (column_at entries.now k) -ℤ by *ℤ value_at entries.now k }
     ensures same { (r c : ℕ) → (r ≡ row → (k : ℕ) → k < count → c ≢ column_at entries.now k) → number_in store.new r c ≡ number_in store.old r c }
 {
-    let mut from = None;
+    make_free(store);
+    let mut spot = Spot {
+        from: None,
+        link: store.row_heads[row as usize],
+    };
     'entries: for k in 0..count {
         let entry = entries[k];
         let at = entry.at as usize;
-        let reached = lessen(store, row, entry.at, by * entry.value, from, near[at]);
-        near[at] = reached.near;
-        from = reached.from;
+        let in_row = row_spot_on(&store.cells, &store.row_heads, row, entry.at, spot);
+        let passed = lessen(store, row, entry.at, by * entry.value, in_row, near[at]);
+        near[at] = passed.near;
+        spot = passed.spot;
     }
 }

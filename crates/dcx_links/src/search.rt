@@ -44,7 +44,44 @@ pub(crate) fn column_start(cells: &[Cell], row: u32, column: u32, hint: u32) -> 
     }
 }
 
-/// The first link of a row that leads to a column or beyond, searched from a link that doesn't.
+/// The link of a row that comes from a cell, or else from the head.
+#[inline(always)]
+pub(crate) fn row_link(cells: &[Cell], heads: &[u32], row: u32, from: Option<u32>) -> u32
+    requires within { row < length heads.now }
+    requires from { IsFrom (InRow cells.now) row from (bound_in_row cells.now from) }
+    ensures { result ≡ link_of (head_at heads.now) (next_in_row_at cells.now) row from }
+{
+    match from {
+        None => heads[row as usize],
+        Some(i) => cells[i as usize].next_in_row,
+    }
+}
+
+/// The first link of a row that leads to a column or beyond, on from one that doesn't.
+#[inline(always)]
+pub(crate) fn row_spot_on(cells: &[Cell], heads: &[u32], row: u32, column: u32, start: Spot) -> Spot
+    requires lines { AreLines (InRow cells.now) (head_at heads.now) (next_in_row_at cells.now) }
+    requires few { length cells.now ≤ none }
+    requires from { IsFrom (InRow cells.now) row start.from (bound_in_row cells.now start.from) }
+    requires before { bound_in_row cells.now start.from ≤ column }
+    requires link { start.link ≡ link_of (head_at heads.now) (next_in_row_at cells.now) row start.from }
+    ensures spot { IsSpot (InRow cells.now) row column result.from (bound_in_row cells.now result.from) result.link }
+    ensures link { result.link ≡ link_of (head_at heads.now) (next_in_row_at cells.now) row result.from }
+{
+    let mut from = start.from;
+    let mut link = start.link;
+    while link != NONE {
+        let cell = cells[link as usize];
+        if column <= cell.column {
+            return Spot { from, link };
+        }
+        from = Some(link);
+        link = cell.next_in_row;
+    }
+    Spot { from, link }
+}
+
+/// The first link of a row that leads to a column or beyond, searched from a cell that stands before it, or else from the head.
 pub(crate) fn row_spot_from(
     cells: &[Cell],
     heads: &[u32],
@@ -60,20 +97,8 @@ pub(crate) fn row_spot_from(
     ensures spot { IsSpot (InRow cells.now) row column result.from (bound_in_row cells.now result.from) result.link }
     ensures link { result.link ≡ link_of (head_at heads.now) (next_in_row_at cells.now) row result.from }
 {
-    let mut from = start;
-    let mut link = match start {
-        None => heads[row as usize],
-        Some(i) => cells[i as usize].next_in_row,
-    };
-    while link != NONE {
-        let cell = cells[link as usize];
-        if column <= cell.column {
-            return Spot { from, link };
-        }
-        from = Some(link);
-        link = cell.next_in_row;
-    }
-    Spot { from, link }
+    let link = row_link(cells, heads, row, start);
+    row_spot_on(cells, heads, row, column, Spot { from: start, link })
 }
 
 /// The first link of a column that leads to a row or beyond, searched from a link that doesn't.

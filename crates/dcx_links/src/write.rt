@@ -5,7 +5,7 @@ ghost use Rattle.dcx_links.specs.Cells.{head_at, InRow, InColumn, IsAt, next_in_
 
 use crate::number::number_at_spot;
 use crate::reserve::make_free;
-use crate::search::{Spot, column_spot, is_there, row_spot, row_spot_from};
+use crate::search::{Spot, column_spot, is_there, row_link, row_spot};
 use crate::store::{Cell, NONE, Store};
 
 /// Makes the link of a row that comes from a cell, or else from the head, lead to another cell.
@@ -37,6 +37,7 @@ fn link_column(cells: &mut Vec<Cell>, heads: &mut Vec<u32>, column: u32, from: O
 }
 
 /// Puts a number other than 0 at a place that has none, behind links that were found before. Answers its cell.
+#[inline(always)]
 fn insert_at(
     store: &mut Store,
     row: u32,
@@ -89,6 +90,7 @@ fn insert_at(
 }
 
 /// Takes the number from a place that has one, behind links that were found before.
+#[inline(always)]
 fn remove_at(store: &mut Store, row: u32, column: u32, in_row: Spot, in_column: Spot)
     requires sound { IsSound store.old }
     requires row { row < length store.old.row_heads.items }
@@ -161,6 +163,7 @@ pub(crate) struct Reached {
 }
 
 /// Puts a number other than 0 at a place that has none.
+#[inline(always)]
 fn put_in(store: &mut Store, row: u32, column: u32, value: i128, in_row: Spot, near: u32) -> Reached
     requires sound { IsSound store.old }
     requires ready { store.old.free ≡ none → vec_capacity store.old.cells ≤ length store.old.cells.items }
@@ -187,6 +190,7 @@ fn put_in(store: &mut Store, row: u32, column: u32, value: i128, in_row: Spot, n
 }
 
 /// Takes the number from a place that has one.
+#[inline(always)]
 fn take_out(store: &mut Store, row: u32, column: u32, in_row: Spot, near: u32) -> Reached
     requires sound { IsSound store.old }
     requires row { row < length store.old.row_heads.items }
@@ -211,6 +215,7 @@ fn take_out(store: &mut Store, row: u32, column: u32, in_row: Spot, near: u32) -
 }
 
 /// Puts a number at a place whose spot was found before. The column is searched only where a cell comes to it or leaves it.
+#[inline(always)]
 fn put_at(store: &mut Store, row: u32, column: u32, value: i128, in_row: Spot, near: u32) -> Reached
     requires sound { IsSound store.old }
     requires ready { store.old.free ≡ none → vec_capacity store.old.cells ≤ length store.old.cells.items }
@@ -265,31 +270,47 @@ pub(crate) fn put(store: &mut Store, row: u32, column: u32, value: i128, near: N
     }
 }
 
-/// Takes a number from that at a place, which is looked for along its row from a cell before it.
+/// Where a walk along a row goes on behind a place, and a cell from which the column of the place is looked through next.
+#[derive(Clone, Copy)]
+pub(crate) struct Passed {
+    pub(crate) spot: Spot,
+    pub(crate) near: u32,
+}
+
+/// Takes a number from that at a place whose spot was found before, and makes a cell free for the next one.
+#[inline(always)]
 pub(crate) fn lessen(
     store: &mut Store,
     row: u32,
     column: u32,
     by: i128,
-    start: Option<u32>,
+    in_row: Spot,
     near: u32,
-) -> Reached
+) -> Passed
     requires sound { IsSound store.old }
+    requires ready { store.old.free ≡ none → vec_capacity store.old.cells ≤ length store.old.cells.items }
     requires row { row < length store.old.row_heads.items }
     requires column { column < length store.old.column_heads.items }
-    requires start { IsFrom (InRow store.old.cells.items) row start (bound_in_row store.old.cells.items start) }
-    requires before { bound_in_row store.old.cells.items start ≤ column }
+    requires in_row { IsSpot (InRow store.old.cells.items) row column in_row.from (bound_in_row store.old.cells.items in_row.from) in_row.link }
+    requires row_link { in_row.link ≡ link_of (head_at store.old.row_heads.items) (next_in_row_at store.old.cells.items) row in_row.from }
     requires fits { unsigned_abs (number_in store.old row column -ℤ by) < 2 ^ 127 }
-    ensures from { IsFrom (InRow store.new.cells.items) row result.from (bound_in_row store.new.cells.items result.from) }
-    ensures within { bound_in_row store.new.cells.items result.from ≤ column + 1 }
+    ensures from { IsFrom (InRow store.new.cells.items) row result.spot.from (bound_in_row store.new.cells.items result.spot.from) }
+    ensures within { bound_in_row store.new.cells.items result.spot.from ≤ column + 1 }
+    ensures link { result.spot.link ≡ link_of (head_at store.new.row_heads.items) (next_in_row_at store.new.cells.items) row result.spot.from }
+    ensures ready { store.new.free ≡ none → vec_capacity store.new.cells ≤ length store.new.cells.items }
     ensures sound { IsSound store.new }
     ensures rows { length store.new.row_heads.items ≡ length store.old.row_heads.items }
     ensures columns { length store.new.column_heads.items ≡ length store.old.column_heads.items }
     ensures there { number_in store.new row column ≡ number_in store.old row column -ℤ by }
     ensures same { (r c : ℕ) → ¬ ((r ≡ row) × (c ≡ column)) → number_in store.new r c ≡ number_in store.old r c }
 {
-    make_free(store);
-    let in_row = row_spot_from(&store.cells, &store.row_heads, row, column, start);
     let number = number_at_spot(store, row, column, in_row);
-    put_at(store, row, column, number - by, in_row, near)
+    let reached = put_at(store, row, column, number - by, in_row, near);
+    make_free(store);
+    let from = reached.from;
+    let link = row_link(&store.cells, &store.row_heads, row, from);
+    Passed {
+        spot: Spot { from, link },
+        near: reached.near,
+    }
 }

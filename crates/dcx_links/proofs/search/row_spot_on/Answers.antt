@@ -4,7 +4,7 @@ use Rattle.dcx_links.specs.Lines.{none, IsNext}
 use Rattle.dcx_links.specs.Cells.{InRow, bound_in_row}
 use Rattle.dcx_links.proofs.Lines.{nothing_from}
 use Rattle.dcx_links.proofs.Numbers.{at_within}
-use Rattle.dcx_links.proofs.search.row_spot_from.Goals as goal
+use Rattle.dcx_links.proofs.search.row_spot_on.Goals as goal
 
 pub returns-clause-spot : goal.returns-clause-spot
 returns-clause-spot c =

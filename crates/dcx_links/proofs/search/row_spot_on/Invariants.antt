@@ -2,7 +2,7 @@
 use Rattle.std.proofs.Common.{◌≡◌, ◌≤◌, ◌-◌}
 use Rattle.dcx_links.specs.Lines.{IsFrom, link_of}
 use Rattle.dcx_links.specs.Cells.{head_at, InRow, next_in_row_at, bound_in_row}
-use Rattle.dcx_links.proofs.search.row_spot_from.Given as goal
+use Rattle.dcx_links.proofs.search.row_spot_on.Given as goal
 
 abbrev pub invariant-loop-link : goal.invariant-loop-link
 invariant-loop-link l = record {
