@@ -3,7 +3,7 @@ use Rattle.std.proofs.Common.{◌≡◌, inl, inr, ℕ, suc, ◌<◌, arith, Boo
 use Rattle.std.proofs.Common.{map, All, Option, Some, None, Result, Ok, slice_index_or, refl, sym, ap, ap₂, ◌∙◌, subst, pos}
 use Rattle.std.specs.Prelude.{◌||◌}
 use Rattle.std.specs.List.{list_all}
-use Rattle.std.proofs.lemmas.Bool.{lt-ltb, and_from}
+use Rattle.std.proofs.lemmas.Bool.{and_from}
 use Rattle.std.proofs.lemmas.List.Elements.{All-head, All-tail, recursion_from_All}
 use Rattle.std.proofs.lemmas.Option.{slice_get_within}
 use Rattle.dcx_math.specs.Rational.{ℚ, whole, ◌+ℚ◌}
@@ -57,6 +57,7 @@ use Rattle.dcx_unknowns.specs.Layout.{is_reduced, first_aux}
 use Rattle.dcx_unknowns.specs.Equations.{Forms, call_entry, filling_of, entry_by, Stands}
 use Rattle.dcx_unknowns.proofs.Constants.{call_constant}
 use Rattle.dcx_unknowns.proofs.CallGraphs.{IsReducible}
+use Rattle.dcx_unknowns.proofs.Points.{below as first_below}
 use Rattle.dcx_unknowns.proofs.NodeForms.{nodes_of, nodes_ordered, node_at, not_constant, reducible}
 use Rattle.dcx_entries.specs.declared.entries.EntryForms.{EntryForms}
 use Rattle.dcx_entries.specs.declared.scaling.Scaling.{Scaling}
@@ -84,9 +85,6 @@ use Rattle.dcx_formed.proofs.Pairs.{IsRead, MayScale, products_are, quotients_ar
 use Rattle.dcx_tree.proofs.NodeValues.{first_alike}
 
 -- ---- lists and numbers
-first_below : (n : ℕ) (f : Numbers) (j : ℕ) → j < n → first_of n f j ≡ f j
-first_below n f j b = ap (λ (t : Bool). if t then f j else whole (pos 0)) (lt-ltb j n b)
-
 twice : (b : Bool) → not (not b) ≡ b
 twice true = refl
 twice false = refl

@@ -20,13 +20,14 @@ use Rattle.dcx_simplex.proofs.Starts.{entry_z, entry_w, entry_right}
 use Rattle.dcx_simplex.proofs.OwnColumns.{own_column, own_column_low, sign_square, other_zero, own_cost_zero}
 
 -- ---- the first tableau's rows at a full assignment
-plain_row : (d a z b w c v : ℚ) → a ≡ whole (pos 0) → b ≡ whole (pos 0) → ((d +ℚ a *ℚ z) +ℚ b *ℚ w) +ℚ c *ℚ v ≡ d +ℚ c *ℚ v
+-- a row other than those of the cost and of the artificials
+pub plain_row : (d a z b w c v : ℚ) → a ≡ whole (pos 0) → b ≡ whole (pos 0) → ((d +ℚ a *ℚ z) +ℚ b *ℚ w) +ℚ c *ℚ v ≡ d +ℚ c *ℚ v
 plain_row d a z b w c v e f = rw (e, f) (ring (d ∷ z ∷ w ∷ c ∷ v ∷ []) (search reads depth 30) tt)
 
-z_row : (d a z b w c v : ℚ) → b ≡ whole (pos 0) → ((d +ℚ a *ℚ z) +ℚ b *ℚ w) +ℚ c *ℚ v ≡ (d +ℚ a *ℚ z) +ℚ c *ℚ v
+pub z_row : (d a z b w c v : ℚ) → b ≡ whole (pos 0) → ((d +ℚ a *ℚ z) +ℚ b *ℚ w) +ℚ c *ℚ v ≡ (d +ℚ a *ℚ z) +ℚ c *ℚ v
 z_row d a z b w c v f = rw f (ring (d ∷ a ∷ z ∷ w ∷ c ∷ v ∷ []) (search reads depth 30) tt)
 
-w_row : (d a z b w c v : ℚ) → a ≡ whole (pos 0) → ((d +ℚ a *ℚ z) +ℚ b *ℚ w) +ℚ c *ℚ v ≡ (d +ℚ b *ℚ w) +ℚ c *ℚ v
+pub w_row : (d a z b w c v : ℚ) → a ≡ whole (pos 0) → ((d +ℚ a *ℚ z) +ℚ b *ℚ w) +ℚ c *ℚ v ≡ (d +ℚ b *ℚ w) +ℚ c *ℚ v
 w_row d a z b w c v e = rw e (ring (d ∷ z ∷ b ∷ w ∷ c ∷ v ∷ []) (search reads depth 30) tt)
 
 module _ (p : Program) (xs : List ℚ) (z w v : ℚ) (count : length xs ≡ length p.columns) where
@@ -87,6 +88,27 @@ module _ (p : Program) (xs : List ℚ) (z w v : ℚ) (count : length xs ≡ leng
 pub lead_some_of : (l : ℤ) → pos 0 <ℤ l → whole l ≢ whole (pos 0)
 lead_some_of l h e = <ℚ-≢ (whole-<ℤ (pos 0) l h) (sym e)
 
+-- ---- sums that are 0
+pub zero_right : (x y : ℚ) → y ≡ whole (pos 0) → x *ℚ y ≡ whole (pos 0)
+zero_right x y e = rw e (*ℚ-zero x)
+
+pub cancelled : (b : ℚ) → b +ℚ b *ℚ whole (negsuc 0) ≡ whole (pos 0)
+cancelled b = ring (b ∷ []) (search reads depth 30) tt
+
+-- the row of the cost, solved for the cost
+pub cost_holds : (d l r : ℚ) → l ≢ whole (pos 0) → (d +ℚ l *ℚ ((r -ℚ d) /ℚ l)) +ℚ r *ℚ whole (negsuc 0) ≡ whole (pos 0)
+cost_holds d l r n =
+    let e : l *ℚ ((r -ℚ d) /ℚ l) ≡ r -ℚ d = *ℚ_comm l ((r -ℚ d) /ℚ l) ∙ /ℚ-*ℚ (r -ℚ d) l n in
+    ap (λ u. (d +ℚ u) +ℚ r *ℚ whole (negsuc 0)) e ∙ ring (d ∷ r ∷ []) (search reads depth 30) tt
+
+-- and that of the artificials for their sum
+pub phase_holds : (d r : ℚ) (l : ℤ) → l ≡ pos 1 → (d +ℚ whole l *ℚ (r -ℚ d)) +ℚ r *ℚ whole (negsuc 0) ≡ whole (pos 0)
+phase_holds d r l e = ap (λ u. (d +ℚ whole u *ℚ (r -ℚ d)) +ℚ r *ℚ whole (negsuc 0)) e ∙ ring (d ∷ r ∷ []) (search reads depth 30) tt
+
+-- a number of either sign, times a factor, twice
+pub twice : (s : ℤ) (t : ℚ) → s *ℤ s ≡ pos 1 → (whole s *ℚ t) *ℚ whole s ≡ t
+twice s t e = ring (whole s ∷ t ∷ []) (search reads depth 30) tt ∙ ap (λ u. u *ℚ t) (sym (whole-*ℤ s s) ∙ ap whole e) ∙ *ℚ_idl t
+
 -- ---- the slacks and artificials
 module _ (p : Program) (ys : List ℚ) (assigned : IsAssignment p ys) where
   -- what row i is short of its right side, with the sign of its own column
@@ -105,12 +127,6 @@ module _ (p : Program) (ys : List ℚ) (assigned : IsAssignment p ys) where
   pub dot_put_out : (row : Row) → rat_dot (wholes row) put_out ≡ rat_dot (wholes row) ys +ℚ rat_sum_below (length p.rows) (λ k. short k *ℚ whole (entry row (own_column p k)))
   unfolding put_out
   dot_put_out row = rat_dot-added_right (wholes row) ys (placed short (own_column p) (length p.rows)) ∙ ap (λ u. rat_dot (wholes row) ys +ℚ u) (dot_placed row short (own_column p) (length p.rows))
-
-  zero_right : (x y : ℚ) → y ≡ whole (pos 0) → x *ℚ y ≡ whole (pos 0)
-  zero_right x y e = rw e (*ℚ-zero x)
-
-  twice : (s : ℤ) (t : ℚ) → s *ℤ s ≡ pos 1 → (whole s *ℚ t) *ℚ whole s ≡ t
-  twice s t e = ring (whole s ∷ t ∷ []) (search reads depth 30) tt ∙ ap (λ u. u *ℚ t) (sym (whole-*ℤ s s) ∙ ap whole e) ∙ *ℚ_idl t
 
   regain : (a b : ℚ) → a +ℚ (b -ℚ a) ≡ b
   regain a b = ring (a ∷ b ∷ []) (search reads depth 30) tt
@@ -136,17 +152,6 @@ module _ (p : Program) (ys : List ℚ) (assigned : IsAssignment p ys) where
 
   pub rest : ℚ
   rest = whole p.phase.right -ℚ rat_dot (wholes p.phase.entries) put_out
-
-  cancelled : (b : ℚ) → b +ℚ b *ℚ whole (negsuc 0) ≡ whole (pos 0)
-  cancelled b = ring (b ∷ []) (search reads depth 30) tt
-
-  cost_holds : (d l r : ℚ) → l ≢ whole (pos 0) → (d +ℚ l *ℚ ((r -ℚ d) /ℚ l)) +ℚ r *ℚ whole (negsuc 0) ≡ whole (pos 0)
-  cost_holds d l r n =
-      let e : l *ℚ ((r -ℚ d) /ℚ l) ≡ r -ℚ d = *ℚ_comm l ((r -ℚ d) /ℚ l) ∙ /ℚ-*ℚ (r -ℚ d) l n in
-      ap (λ u. (d +ℚ u) +ℚ r *ℚ whole (negsuc 0)) e ∙ ring (d ∷ r ∷ []) (search reads depth 30) tt
-
-  phase_holds : (d r : ℚ) (l : ℤ) → l ≡ pos 1 → (d +ℚ whole l *ℚ (r -ℚ d)) +ℚ r *ℚ whole (negsuc 0) ≡ whole (pos 0)
-  phase_holds d r l e = ap (λ u. (d +ℚ whole u *ℚ (r -ℚ d)) +ℚ r *ℚ whole (negsuc 0)) e ∙ ring (d ∷ r ∷ []) (search reads depth 30) tt
 
   -- what was put out solves the rows, at the cost of the unknowns
   pub put_out_solves : SolvesRational (first_tableau p).rows (full put_out (cost_at_columns p.objective ys) rest (whole (negsuc 0)))

@@ -1,6 +1,5 @@
 -- Fractions of a tableau's numbers, and lists of fractions that are written to.
-use Rattle.std.proofs.Common.{◌≡◌, ◌≢◌, ℕ, ◌<◌, List, length, set, get_or, ℤ, pos, ◌<ℤ◌, arith, sym, ap, ◌∙◌}
-use Rattle.std.proofs.lemmas.Int.{ints}
+use Rattle.std.proofs.Common.{◌≡◌, ◌≢◌, ℕ, ◌<◌, List, length, set, get_or, pos, arith, sym, ap, ◌∙◌}
 use Rattle.std.proofs.lemmas.List.{length-map, map-set, get_or-set_same, get_or-set_other}
 use Rattle.dcx_math.specs.Rational.{whole}
 use Rattle.dcx_math.specs.Sums.{rat_at}
@@ -8,9 +7,6 @@ use Rattle.dcx_math.proofs.Sums.{rat_at-get_or}
 use Rattle.dcx_frac.specs.declared.fraction.Frac.{Frac}
 use Rattle.dcx_frac.specs.Frac.{value}
 use Rattle.dcx_lp_answer.specs.Notes.{numbers}
-
-pub positive_some : (d : ℤ) → pos 0 <ℤ d → d ≢ pos 0
-positive_some d h e = absurd (omega (arith, ints, e))
 
 -- ---- a number is written
 written : (xs : List Frac) (j : ℕ) (f : Frac) (k : ℕ) → rat_at (numbers (set xs j f)) k ≡ get_or (set (numbers xs) j (value f)) k (whole (pos 0))

@@ -6,7 +6,7 @@ use Rattle.dcx_math.specs.Rational.{ℚ, whole, ◌+ℚ◌, ◌*ℚ◌, ◌/ℚ�
 use Rattle.dcx_math.specs.Sums.{rat_dot, rat_at, rat_sum_below}
 use Rattle.dcx_math.proofs.Points.{wholes}
 use Rattle.dcx_math.proofs.Ring.{ring, reads, /ℚ-is}
-use Rattle.dcx_math.proofs.Orders.{*ℚ-zero, zero-*ℚ, *ℚ_comm, *ℚ_idr, ≤ℚ-from_≡, whole-≤ℤ, neg_ℚ-≤ℚ, neg_ℚ-zero}
+use Rattle.dcx_math.proofs.Orders.{zero-*ℚ, *ℚ_comm, *ℚ_idr, ≤ℚ-from_≡, whole-≤ℤ, neg_ℚ-≤ℚ, neg_ℚ-zero}
 use Rattle.dcx_math.proofs.Products.{/ℚ-*ℚ, /ℚ-≤ℚ, ≤ℚ-/ℚ, whole-<ℤ}
 use Rattle.dcx_math.proofs.Sums.{rat_sum_below-one, rat_sum_below-same, rat_sum_below-zero, rat_sum_below-monotone, rat_at-get_or}
 use Rattle.dcx_tab.specs.Rows.{Row, entry, row_at, basic_at}
@@ -19,7 +19,7 @@ use Rattle.dcx_simplex.specs.Basis.{IsBasic, lead_at}
 use Rattle.dcx_simplex.specs.Readable.{IsReadable}
 use Rattle.dcx_simplex.specs.Reading.{IsColumnNumber, IsColumnChange, cost_at}
 use Rattle.dcx_simplex.specs.Start.{IsStart}
-use Rattle.dcx_simplex.proofs.Bounds.{lead_some_of}
+use Rattle.dcx_simplex.proofs.Bounds.{plain_row, z_row, w_row, lead_some_of, zero_right, cancelled}
 use Rattle.dcx_simplex.proofs.Cycle.{is_basic}
 use Rattle.dcx_simplex.proofs.EndFacts.{IsEnded, readable}
 use Rattle.dcx_simplex.proofs.Sides.{sum_two}
@@ -30,9 +30,6 @@ rat_at-past xs j h = sym (rat_at-get_or xs j) ∙ get_or_past xs j (whole (pos 0
 
 zero_left : (a x : ℚ) → a ≡ whole (pos 0) → a *ℚ x ≡ whole (pos 0)
 zero_left a x e = rw e (zero-*ℚ x)
-
-zero_right : (a x : ℚ) → x ≡ whole (pos 0) → a *ℚ x ≡ whole (pos 0)
-zero_right a x e = rw e (*ℚ-zero a)
 
 -- only one column counts
 pub dot_one : (row : Row) (xs : List ℚ) (b : ℕ) → b < length row → ((j : ℕ) → j < length row → j ≢ b → (entry row j ≡ pos 0) ⊎ (rat_at xs j ≡ whole (pos 0)))
@@ -67,9 +64,6 @@ dot_low row xs h =
     (subst (λ u. rat_sum_below (length row) (λ j. whole (entry row j) *ℚ rat_at xs j) ≤ℚ u) (rat_sum_below-zero (length row)) (rat_sum_below-monotone (length row) _ (λ _. whole (pos 0)) h))
 
 -- ---- quotients by a lead
-pub lead_some_at : (l : ℤ) → pos 0 <ℤ l → whole l ≢ whole (pos 0)
-lead_some_at l h = lead_some_of l h
-
 pub quotient_low : (a l : ℤ) → a ≤ℤ pos 0 → pos 0 <ℤ l → (whole a /ℚ whole l) ≤ℚ whole (pos 0)
 quotient_low a l h q = /ℚ-≤ℚ (whole-<ℤ (pos 0) l q) (subst (λ u. whole a ≤ℚ u) (sym (zero-*ℚ (whole l))) (whole-≤ℤ a (pos 0) h))
 
@@ -83,13 +77,10 @@ quotient_zero a l e = ap (λ z. whole z /ℚ whole l) e ∙ zero_over (whole l)
     zero_over x = /ℚ-is (whole (pos 0)) x ∙ zero-*ℚ (inverse x)
 
 pub back : (a l : ℤ) → pos 0 <ℤ l → whole l *ℚ (whole a /ℚ whole l) ≡ whole a
-back a l h = *ℚ_comm (whole l) (whole a /ℚ whole l) ∙ /ℚ-*ℚ (whole a) (whole l) (lead_some_at l h)
+back a l h = *ℚ_comm (whole l) (whole a /ℚ whole l) ∙ /ℚ-*ℚ (whole a) (whole l) (lead_some_of l h)
 
 pub negative_high : (x : ℚ) → x ≤ℚ whole (pos 0) → whole (pos 0) ≤ℚ neg_ℚ x
 negative_high x h = subst (λ u. u ≤ℚ neg_ℚ x) neg_ℚ-zero (neg_ℚ-≤ℚ h)
-
-cancelled : (r : ℚ) → r +ℚ r *ℚ whole (negsuc 0) ≡ whole (pos 0)
-cancelled r = ring (r ∷ []) (search reads depth 30) tt
 
 cost_cancelled : (d l r : ℚ) → d ≡ whole (pos 0) → l *ℚ (r /ℚ l) ≡ r → (d +ℚ l *ℚ (r /ℚ l)) +ℚ r *ℚ whole (negsuc 0) ≡ whole (pos 0)
 cost_cancelled d l r e f = ap₂ (λ a b. (a +ℚ b) +ℚ r *ℚ whole (negsuc 0)) e f ∙ ring (r ∷ []) (search reads depth 30) tt
@@ -105,15 +96,6 @@ cost_turned d a l r e f = ap (λ x. (x +ℚ l *ℚ neg_ℚ (a /ℚ l)) +ℚ r *�
     ∙ ring (a ∷ []) (search reads depth 30) tt
 
 -- ---- the rows of the last tableau at full assignments
-last_row : (d a z b w c v : ℚ) → a ≡ whole (pos 0) → b ≡ whole (pos 0) → ((d +ℚ a *ℚ z) +ℚ b *ℚ w) +ℚ c *ℚ v ≡ d +ℚ c *ℚ v
-last_row d a z b w c v e f = rw (e, f) (ring (d ∷ z ∷ w ∷ c ∷ v ∷ []) (search reads depth 30) tt)
-
-last_cost : (d a z b w c v : ℚ) → b ≡ whole (pos 0) → ((d +ℚ a *ℚ z) +ℚ b *ℚ w) +ℚ c *ℚ v ≡ (d +ℚ a *ℚ z) +ℚ c *ℚ v
-last_cost d a z b w c v f = rw f (ring (d ∷ a ∷ z ∷ w ∷ c ∷ v ∷ []) (search reads depth 30) tt)
-
-last_phase : (d a z b w c v : ℚ) → a ≡ whole (pos 0) → ((d +ℚ a *ℚ z) +ℚ b *ℚ w) +ℚ c *ℚ v ≡ (d +ℚ b *ℚ w) +ℚ c *ℚ v
-last_phase d a z b w c v e = rw e (ring (d ∷ z ∷ b ∷ w ∷ c ∷ v ∷ []) (search reads depth 30) tt)
-
 module _ (equations : List Row) (t : Table) (start : IsStart equations t) (u : Table) (end : IsEnded equations t u) where
   size : length u.rows ≡ length u.basis
   size = end.tableau.form.size
@@ -137,14 +119,14 @@ module _ (equations : List Row) (t : Table) (start : IsStart equations t) (u : T
     pub at_row_of : (i : ℕ) → i + 2 < length u.rows → rat_dot (wholes (row_at u.rows i)) (full xs z w v) ≡ rat_dot (wholes (row_at u.rows i)) xs +ℚ whole (right_at u i) *ℚ v
     at_row_of i h =
         dot_full (row_at u.rows i) xs z w v u.columns count
-        ∙ last_row _ _ z _ w _ v (ap whole (z_zero i (omega (arith, h)) (λ e. absurd (omega (arith, e, h))))) (ap whole (w_zero i (omega (arith, h)) (λ e. absurd (omega (arith, e, h)))))
+        ∙ plain_row _ _ z _ w _ v (ap whole (z_zero i (omega (arith, h)) (λ e. absurd (omega (arith, e, h))))) (ap whole (w_zero i (omega (arith, h)) (λ e. absurd (omega (arith, e, h)))))
 
     pub at_cost_of : rat_dot (wholes (row_at u.rows (objective_row u))) (full xs z w v)
         ≡ (rat_dot (wholes (row_at u.rows (objective_row u))) xs +ℚ whole (lead_at u (objective_row u)) *ℚ z) +ℚ whole (right_at u (objective_row u)) *ℚ v
     at_cost_of =
         let e = enough in
         dot_full (row_at u.rows (objective_row u)) xs z w v u.columns count
-        ∙ last_cost _ _ z _ w _ v (ap whole (w_zero (objective_row u) (omega (arith, e)) (λ q. absurd (omega (arith, e, q)))))
+        ∙ z_row _ _ z _ w _ v (ap whole (w_zero (objective_row u) (omega (arith, e)) (λ q. absurd (omega (arith, e, q)))))
         ∙ ap (λ j. (rat_dot (wholes (row_at u.rows (objective_row u))) xs +ℚ whole (entry_at u (objective_row u) j) *ℚ z) +ℚ whole (right_at u (objective_row u)) *ℚ v) (sym is_readable.objective)
 
     pub at_phase_of : rat_dot (wholes (row_at u.rows (phase_row u))) (full xs z w v)
@@ -152,7 +134,7 @@ module _ (equations : List Row) (t : Table) (start : IsStart equations t) (u : T
     at_phase_of =
         let e = enough in
         dot_full (row_at u.rows (phase_row u)) xs z w v u.columns count
-        ∙ last_phase _ _ z _ w _ v (ap whole (z_zero (phase_row u) (omega (arith, e)) (λ q. absurd (omega (arith, e, q)))))
+        ∙ w_row _ _ z _ w _ v (ap whole (z_zero (phase_row u) (omega (arith, e)) (λ q. absurd (omega (arith, e, q)))))
         ∙ ap (λ j. (rat_dot (wholes (row_at u.rows (phase_row u))) xs +ℚ whole (entry_at u (phase_row u) j) *ℚ w) +ℚ whole (right_at u (phase_row u)) *ℚ v) (sym is_readable.phase)
 
     last_by : ((i : ℕ) → i + 2 < length u.rows → rat_dot (wholes (row_at u.rows i)) xs +ℚ whole (right_at u i) *ℚ v ≡ whole (pos 0))

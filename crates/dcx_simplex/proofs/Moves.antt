@@ -9,7 +9,7 @@ use Rattle.dcx_tab.specs.Pivot.{turned, eliminated}
 use Rattle.dcx_tab.specs.Table.{Table, entry_at, after_pivot, IsOf}
 use Rattle.dcx_tab.proofs.Elimination.{pos_factor, zero_factor}
 use Rattle.dcx_tab.proofs.Pivots.{at_r, at_other, step, IsTableauOf-pivoted, times_zero}
-use Rattle.dcx_tab.proofs.Feasible.{positive_some}
+use Rattle.dcx_tab.proofs.Feasible.{positive_some, cross_of}
 use Rattle.dcx_simplex.specs.Run.{IsNext, right_at}
 use Rattle.dcx_simplex.proofs.Keeps.{feasible_next}
 use Rattle.dcx_simplex.proofs.Lengths.{length-after}
@@ -26,9 +26,6 @@ pub record Moves (t : Table) (r c i : ℕ) : Type 0 where
   pub u_pos : pos 0 <ℤ u
   pub entries : (j : ℕ) → k *ℤ entry_at (after_pivot r c t) i j ≡ u *ℤ entry_at t i j -ℤ v *ℤ entry_at t r j
   pub cross : u *ℤ entry_at t i c ≡ v *ℤ entry_at t r c
-
-cross_of : (k n u a v p : ℤ) → k *ℤ n ≡ u *ℤ a -ℤ v *ℤ p → n ≡ pos 0 → u *ℤ a ≡ v *ℤ p
-cross_of k n u a v p h z = let e : k *ℤ n ≡ pos 0 = rw z (omega (arith, ints)) in omega (arith, ints, h, e)
 
 module _ (equations : List Row) (t : Table) (is : IsOf equations t) (r c : ℕ) (in_r : r < length t.rows) (positive : pos 0 <ℤ entry_at t r c) where
   by_is : turned c (row_at t.rows r) ≡ row_at t.rows r

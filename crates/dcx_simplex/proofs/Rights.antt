@@ -11,7 +11,7 @@ use Rattle.dcx_math.specs.Sums.{rat_dot, rat_at, rat_sum_below, rat_scaled, alon
 use Rattle.dcx_math.specs.IntegerSums.{int_dot}
 use Rattle.dcx_math.proofs.Points.{wholes}
 use Rattle.dcx_math.proofs.Ring.{ring, reads, /ℚ-is}
-use Rattle.dcx_math.proofs.Orders.{+ℚ_idr, +ℚ_idl, *ℚ-zero, *ℚ_comm, ≤ℚ-from_≡, +ℚ-nonnegative, linear_eq, whole-≤ℤ}
+use Rattle.dcx_math.proofs.Orders.{+ℚ_comm, +ℚ_idr, +ℚ_idl, *ℚ-zero, *ℚ_comm, ≤ℚ-from_≡, +ℚ-nonnegative, linear_eq, whole-≤ℤ}
 use Rattle.dcx_math.proofs.Products.{/ℚ-unique, whole-<ℤ, *ℚ-nonnegative, *ℚ-nonpositive, *ℚ-positive, inverse-positive}
 use Rattle.dcx_math.proofs.Orders.{<ℚ-≤ℚ}
 use Rattle.dcx_math.proofs.Sums.{rat_sum_below-same, rat_sum_below-zero}
@@ -44,7 +44,7 @@ use Rattle.dcx_simplex.proofs.Slacks.{Own, find_slack, HasSlack, HasNone}
 use Rattle.dcx_simplex.proofs.OwnColumns.{own_column, own_column_is}
 use Rattle.dcx_simplex.proofs.Bounds.{short, put_out, length_put_out, dot_put_out, rest, put_out_solves, rates, cost_bound, first_solved, first_cost, lead_some_of}
 use Rattle.dcx_simplex.proofs.Multipliers.{HasNotes, combined_is, factor_positive}
-use Rattle.dcx_simplex.proofs.Sides.{columns_opposite, not_both}
+use Rattle.dcx_simplex.proofs.Sides.{below_plain, columns_opposite, not_both}
 use Rattle.dcx_simplex.proofs.Last.{rat_at-past, dot_none, dot_low, quotient_low, negative_high, at_cost_of, at_phase_of}
 use Rattle.dcx_simplex.proofs.Last.{numbers_solve, numbers_high, numbers_none, changes_solve, changes_high, changes_none}
 
@@ -79,14 +79,8 @@ both_none k {x} {y} e f = ap₂ (λ a b. a +ℚ k *ℚ b) e f ∙ ring (k ∷ []
 none_added : (k x : ℚ) → x +ℚ k *ℚ whole (pos 0) ≡ x
 none_added k x = ring (k ∷ x ∷ []) (search reads depth 30) tt
 
-swap : (a b : ℚ) → a +ℚ b ≡ b +ℚ a
-swap a b = ring (a ∷ b ∷ []) (search reads depth 30) tt
-
 high_plain : (a b : ℕ) → nat_lt a b ≡ false → b ≤ a
 high_plain a b h = grind (arith, nat_tests)
-
-low_plain : (a b : ℕ) → nat_lt a b ≡ true → a < b
-low_plain a b h = grind (arith, nat_tests)
 
 product_low : (a : ℤ) (x : ℚ) → a ≤ℤ pos 0 → whole (pos 0) ≤ℚ x → (whole a *ℚ x) ≤ℚ whole (pos 0)
 product_low a x h q = subst (λ y. y ≤ℚ whole (pos 0)) (*ℚ_comm x (whole a)) (*ℚ-nonpositive q (whole-≤ℤ a (pos 0) h))
@@ -106,6 +100,11 @@ no_offset : (s : LpStatus) → offset s true ≡ whole (pos 0)
 no_offset status.Optimal = refl
 no_offset status.Infeasible = refl
 no_offset status.Unbounded = refl
+
+pub optimal_offset : (s : LpStatus) → s ≡ status.Optimal → (b : Bool) → offset s b ≡ whole (pos 0)
+optimal_offset status.Optimal e b = refl
+optimal_offset status.Infeasible e b = cc
+optimal_offset status.Unbounded e b = cc
 
 module _ (p : Program) (u : Table) (end : IsEnded (first_tableau p).rows (first_tableau p) u) where
   columns_are : u.columns ≡ length p.columns
@@ -177,7 +176,7 @@ module _ (p : Program) (u : Table) (end : IsEnded (first_tableau p).rows (first_
       reduced i j h own = reading.reduced_costs i j h own ∙ ap (λ q. reduced_cost_at u q j) read
 
       slack_plain : (i j : ℕ) → kind_at p.columns j ≡ Slack i → j < length p.columns → j < u.plain
-      slack_plain i j e h = let f = plain_is in let t = low_plain j (plain_count p.columns) (sym (p.form.ordered j h) ∙ ap is_plain e) in omega (arith, f, t)
+      slack_plain i j e h = let f = plain_is in let t = below_plain j (plain_count p.columns) (sym (p.form.ordered j h) ∙ ap is_plain e) in omega (arith, f, t)
 
       notes : (ys : List ℚ) (assigned : IsAssignment p ys) → HasNotes p a (row_at u.rows k) (lead_at u k) (own_column p)
       notes ys assigned = record {
@@ -279,7 +278,7 @@ module _ (p : Program) (u : Table) (end : IsEnded (first_tableau p).rows (first_
           ⊎ ((kind_at p.columns o.column ≡ Artificial i) × (is_inequality p.columns i ≡ false)) → whole (entry row o.column) ≡ offset status.Infeasible (is_inequality p.columns i)
       offset_is i h o (inl q) =
           let l = own_low p.columns i o.column o.own in
-          ap whole (sum.zeros o.column (low_plain o.column (plain_count p.columns) (sym (p.form.ordered o.column l) ∙ ap is_plain q.0))) ∙ ap (offset status.Infeasible) (sym q.1)
+          ap whole (sum.zeros o.column (below_plain o.column (plain_count p.columns) (sym (p.form.ordered o.column l) ∙ ap is_plain q.0))) ∙ ap (offset status.Infeasible) (sym q.1)
       offset_is i h o (inr q) =
           let l = own_low p.columns i o.column o.own in
           ap whole (sum.ones o.column (high_plain o.column (plain_count p.columns) (sym (p.form.ordered o.column l) ∙ ap is_plain q.0)) l) ∙ ap (offset status.Infeasible) (sym q.1)
@@ -291,11 +290,6 @@ module _ (p : Program) (u : Table) (end : IsEnded (first_tableau p).rows (first_
           ∙ rat_sum_below-same (length p.rows) _ _ (λ l q. ap (λ x. short p ys assigned l *ℚ x) (let o = own_column_is p l q in ap (λ j. whole (entry row j)) o.1 ∙ offset_is l q o.0 o.0.kind))
 
   -- ---- an optimal answer
-  optimal_offset : (s : LpStatus) → s ≡ status.Optimal → (b : Bool) → offset s b ≡ whole (pos 0)
-  optimal_offset status.Optimal e b = refl
-  optimal_offset status.Infeasible e b = cc
-  optimal_offset status.Unbounded e b = cc
-
   pub optimal_right : (a : LpAnswer) → IsReading p.rows p.columns u status.Optimal a → NoneEnters (objective_row u) u
       → ((k : ℕ) → k + 2 < length u.rows → u.plain ≤ basic_at u.basis k → right_at u k ≡ pos 0) → IsOptimalAnswer p a
   optimal_right a reading none zeros = record {
@@ -324,7 +318,7 @@ module _ (p : Program) (u : Table) (end : IsEnded (first_tableau p).rows (first_
         let c = combined status.Infeasible a reading (phase_row u) refl none positive_phase ys assigned
         ∙ ap (λ s. rates p ys assigned (row_at u.rows (phase_row u)) (lead_at u (phase_row u)) +ℚ rat_sum_below (length p.rows) (λ l. short p ys assigned l *ℚ offset s (is_inequality p.columns l)))
         reading.status
-        ∙ ap (λ x. rates p ys assigned (row_at u.rows (phase_row u)) (lead_at u (phase_row u)) +ℚ x) (sym o) ∙ swap _ _ in
+        ∙ ap (λ x. rates p ys assigned (row_at u.rows (phase_row u)) (lead_at u (phase_row u)) +ℚ x) (sym o) ∙ +ℚ_comm _ _ in
         subst (λ x. x ≤ℚ combined_rows p a ys) (sym reading.number) (subst (λ x. cost_at u (phase_row u) ≤ℚ x) (sym c) b);
     one_sided = one_sided status.Infeasible a reading;
   }

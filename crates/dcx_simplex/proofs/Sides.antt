@@ -8,8 +8,8 @@ use Rattle.dcx_math.specs.Rational.{ℚ, whole, ◌+ℚ◌}
 use Rattle.dcx_math.specs.Sums.{rat_sum_below}
 use Rattle.dcx_math.specs.IntegerSums.{int_dot, int_scaled, int_added, int_sum_by}
 use Rattle.dcx_math.proofs.IntegerVectors.{int_dot-added_right}
-use Rattle.dcx_math.proofs.Ring.{ring, reads}
-use Rattle.dcx_math.proofs.Orders.{+ℚ_idr}
+use Rattle.dcx_math.specs.Integers.{*ℤ_idl}
+use Rattle.dcx_math.proofs.Orders.{+ℚ_comm, +ℚ_idr}
 use Rattle.dcx_math.proofs.Sums.{rat_sum_below-one}
 use Rattle.dcx_tab.specs.declared.rows.ColumnKind.{ColumnKind}
 use Rattle.dcx_tab.specs.declared.rows.ColumnKind.TheVariants.{Unknown}
@@ -30,14 +30,11 @@ pub sum_two : (n k l : ℕ) (f : ℕ → ℚ) → k < n → l < n → k ≢ l �
 sum_two zero k l f hk hl n h = absurd (omega arith)
 sum_two (suc m) k l f hk hl n h = two_by m k l f hk hl n h (λ a b. sum_two m k l f (omega (arith, a, hk)) (omega (arith, b, hl)) n (λ i q r s. h i (omega arith) r s)) (cases_eq m k) (cases_eq m l)
   where
-    swap : (a b : ℚ) → a +ℚ b ≡ b +ℚ a
-    swap a b = ring (a ∷ b ∷ []) (search reads depth 30) tt
-
     two_by : (m k l : ℕ) (f : ℕ → ℚ) → k < suc m → l < suc m → k ≢ l → ((i : ℕ) → i < suc m → i ≢ k → i ≢ l → f i ≡ whole (pos 0)) → (m ≢ k → m ≢ l → rat_sum_below m f ≡ f k +ℚ f l)
         → (m ≡ k) ⊎ (m ≢ k) → (m ≡ l) ⊎ (m ≢ l) → rat_sum_below m f +ℚ f m ≡ f k +ℚ f l
     two_by m k l f hk hl n h ih (inl e) d =
         ap₂ ◌+ℚ◌ (rat_sum_below-one m l f (let q : m ≢ l = λ s. n (sym e ∙ s) in omega (arith, q, hl)) (λ i q r. h i (omega arith) (λ s. absurd (omega (arith, s, e, q))) r)) (ap f e)
-        ∙ swap (f l) (f k)
+        ∙ +ℚ_comm (f l) (f k)
     two_by m k l f hk hl n h ih (inr a) (inl e) = ap₂ ◌+ℚ◌ (rat_sum_below-one m k f (omega (arith, a, hk)) (λ i q r. h i (omega arith) r (λ s. absurd (omega (arith, s, e, q))))) (ap f e)
     two_by m k l f hk hl n h ih (inr a) (inr b) = ap₂ ◌+ℚ◌ (ih a b) (h m (omega arith) a b) ∙ +ℚ_idr (f k +ℚ f l)
 
@@ -50,7 +47,7 @@ if_negative : (b : Bool) (x y : ℤ) → y ≡ neg_ℤ x → (if b then y else p
 if_negative true x y e = e
 if_negative false x y e = refl
 
-below_plain : (a b : ℕ) → nat_lt a b ≡ true → a < b
+pub below_plain : (a b : ℕ) → nat_lt a b ≡ true → a < b
 below_plain a b h = grind (arith, nat_tests)
 
 opposite : (a b : ℤ) → b ≡ neg_ℤ a → a +ℤ b ≡ pos 0
@@ -60,13 +57,10 @@ module _ (p : Program) (j k v : ℕ) (in_j : j < length p.columns) (in_k : k < l
   pub direction : List ℤ
   direction = int_added (int_scaled (pos 1) (unit j)) (int_scaled (pos 1) (unit k))
 
-  one : (z : ℤ) → pos 1 *ℤ z ≡ z
-  one z = omega (arith, ints)
-
   pub dot_direction : (row : Row) → int_dot row direction ≡ entry row j +ℤ entry row k
   unfolding direction
   dot_direction row = int_dot-added_right row (int_scaled (pos 1) (unit j)) (int_scaled (pos 1) (unit k))
-      ∙ ap₂ ◌+ℤ◌ (int_dot-unit row (pos 1) j ∙ one (entry row j)) (int_dot-unit row (pos 1) k ∙ one (entry row k))
+      ∙ ap₂ ◌+ℤ◌ (int_dot-unit row (pos 1) j ∙ *ℤ_idl (entry row j)) (int_dot-unit row (pos 1) k ∙ *ℤ_idl (entry row k))
 
   low_by : (c : ℕ) → c < length p.columns → (x : ColumnKind) → kind_at p.columns c ≡ x → is_plain x ≡ true → c < plain_count p.columns
   low_by c h x e t = below_plain c (plain_count p.columns) (sym (p.form.ordered c h) ∙ ap is_plain e ∙ t)

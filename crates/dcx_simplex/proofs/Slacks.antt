@@ -11,7 +11,7 @@ use Rattle.dcx_simplex.specs.Reading.{IsOwnColumn}
 use Rattle.dcx_lp_answer.specs.Right.{is_slack_of, is_inequality}
 use Rattle.dcx_simplex.proofs.ReadLists.{starts_by}
 use Rattle.dcx_simplex.proofs.Owns.{slack_or, own_low}
-use Rattle.dcx_simplex.proofs.Starts.{different, same_test}
+use Rattle.dcx_simplex.proofs.Starts.{different, same_test, told_artificial_own}
 
 slack_test : (k : ColumnKind) (i : ℕ) → k ≡ Slack i → is_slack_of i k ≡ true
 slack_test (Unknown u n) i e = cc
@@ -110,11 +110,6 @@ module _ (p : Program) where
   own_slack (Slack r) i negated z e = let f : r ≡ i = cc in let d = subst (λ q. nat_eq q i ≡ true) (sym f) (same_test i) in rw d refl
   own_slack (Artificial r) i negated z e = cc
 
-  own_artificial : (k : ColumnKind) (i : ℕ) (negated : Bool) (z : ℤ) → k ≡ Artificial i → told_entry i negated k z ≡ pos 1
-  own_artificial (Unknown u n) i negated z e = cc
-  own_artificial (Slack r) i negated z e = cc
-  own_artificial (Artificial r) i negated z e = let f : r ≡ i = cc in let d = subst (λ q. nat_eq q i ≡ true) (sym f) (same_test i) in rw d refl
-
   none_cost : (k : ColumnKind) (i : ℕ) (z : ℤ) → (k ≡ Slack i) ⊎ (k ≡ Artificial i) → unknown_entry k z ≡ pos 0
   none_cost (Unknown u n) i z (inl e) = cc
   none_cost (Unknown u n) i z (inr e) = cc
@@ -139,7 +134,8 @@ module _ (p : Program) where
   sign_slack i h o e = told i o.column h (own_low p.columns i o.column o.own) ∙ own_slack (kind_at p.columns o.column) i (is_negated_at p.rows i) (entry (entries_at p.rows i) o.column) e
 
   pub sign_artificial : (i : ℕ) → i < length p.rows → (o : Own p.columns i) → kind_at p.columns o.column ≡ Artificial i → entry (entries_at p.rows i) o.column ≡ pos 1
-  sign_artificial i h o e = told i o.column h (own_low p.columns i o.column o.own) ∙ own_artificial (kind_at p.columns o.column) i (is_negated_at p.rows i) (entry (entries_at p.rows i) o.column) e
+  sign_artificial i h o e = told i o.column h (own_low p.columns i o.column o.own)
+      ∙ told_artificial_own (kind_at p.columns o.column) i (is_negated_at p.rows i) (entry (entries_at p.rows i) o.column) e
 
   either_kind : {A B C D : Type 0} → (A × B) ⊎ (C × D) → A ⊎ C
   either_kind (inl k) = inl k.0

@@ -16,7 +16,6 @@ use Rattle.dcx_tab.specs.declared.rows.ColumnKind.TheVariants.{Unknown, Slack, A
 use Rattle.dcx_tab.specs.declared.rows.IntRow.{IntRow}
 use Rattle.dcx_tab.specs.declared.rows.CostRow.{CostRow}
 use Rattle.dcx_tab.specs.Rows.{Row, Assignment, entry, row_at, basic_at, Solves, IsBasicRow, IsTableau}
-use Rattle.dcx_tab.specs.Table.{Table}
 use Rattle.dcx_tab.specs.Program.{IsProgram, kind_at, plain_count, told_entry, unknown_entry, may_start, sum_started}
 use Rattle.dcx_tab.specs.Program.{first_basic_of, first_basic_at, tableau_row, objective_row, phase_row, first_table}
 use Rattle.dcx_tab.proofs.RowLaws.{gcd_of-dvd_entry, entry-added, entry-scaled}
@@ -160,10 +159,10 @@ unknown_none (Unknown u n) i start z h = cc
 unknown_none (Slack r) i start z h = refl
 unknown_none (Artificial r) i start z h = refl
 
-at_least : (a b : ℕ) → nat_le a b ≡ true → a ≤ b
+pub at_least : (a b : ℕ) → nat_le a b ≡ true → a ≤ b
 at_least a b h = grind (arith, nat_tests)
 
-at_least_test : (a b : ℕ) → a ≤ b → nat_le a b ≡ true
+pub at_least_test : (a b : ℕ) → a ≤ b → nat_le a b ≡ true
 at_least_test a b h = grind (arith, nat_tests)
 
 -- an artificial column's entry
@@ -172,7 +171,7 @@ told_artificial (Unknown u n) r l negated z e m = cc
 told_artificial (Slack s) r l negated z e m = cc
 told_artificial (Artificial s) r l negated z e m = let f : s ≡ r = cc in let d = different s l (λ q. m (sym q ∙ f)) in rw d refl
 
-told_artificial_own : (k : ColumnKind) (r : ℕ) (negated : Bool) (z : ℤ) → k ≡ Artificial r → told_entry r negated k z ≡ pos 1
+pub told_artificial_own : (k : ColumnKind) (r : ℕ) (negated : Bool) (z : ℤ) → k ≡ Artificial r → told_entry r negated k z ≡ pos 1
 told_artificial_own (Unknown u n) r negated z e = cc
 told_artificial_own (Slack s) r negated z e = cc
 told_artificial_own (Artificial s) r negated z e = let f : s ≡ r = cc in let d = subst (λ q. nat_eq q r ≡ true) (sym f) (same_test r) in rw d refl
@@ -216,9 +215,6 @@ module _ (rows : List IntRow) (kinds : List ColumnKind) (objective phase : CostR
 
   phase_start : (k : ℕ) → k < length rows → entry phase.entries (first_basic_at rows k) ≡ pos 0
   phase_start k h = phase_start_by k h (cases_lt (first_basic_at rows k) (plain_count kinds))
-
-  first : Table
-  first = first_table rows kinds objective phase
 
   -- ---- the zeros of a row at the basic columns
   zeros_by : (es : List ℤ) (a b c : ℤ) (i : ℕ) → length es ≡ length kinds → ((k : ℕ) → k < length rows → k ≢ i → entry es (first_basic_at rows k) ≡ pos 0) → (length rows ≢ i → a ≡ pos 0)

@@ -8,8 +8,9 @@ use Rattle.dcx_math.proofs.Points.{wholes, over, rat_dot-over, rat_dot-wholes}
 use Rattle.dcx_math.proofs.Denominators.{by_point, whole-ratio, ratio-≡}
 use Rattle.dcx_math.proofs.FieldLaws.{≡ℚ_prop, +ℚ_idl}
 use Rattle.dcx_math.proofs.Orders.{+ℚ_assoc, zero-*ℚ}
-use Rattle.dcx_math.proofs.Vectors.{rat_dot-nil, rat_dot-added_right, rat_dot-scaled_right}
+use Rattle.dcx_math.proofs.Vectors.{rat_dot-nil, rat_dot-added_right, rat_dot-scaled_right, length-rat_scaled}
 use Rattle.dcx_math.proofs.Ring.{ring, reads}
+use Rattle.dcx_math.specs.Integers.{*ℤ_idl}
 use Rattle.dcx_math.specs.IntegerSums.{int_dot}
 use Rattle.dcx_tab.specs.Rows.{Row, Assignment, entry, row_at, Solves}
 use Rattle.dcx_tab.proofs.RowLaws.{unit, int_dot-unit}
@@ -69,10 +70,7 @@ dot_front (e ∷ es) tail (x ∷ xs) h = ap (λ u. whole e *ℚ x +ℚ u) (dot_f
 pub dot_unit : (row : Row) (k : ℚ) (t : ℕ) → rat_dot (wholes row) (rat_scaled k (wholes (unit t))) ≡ k *ℚ whole (entry row t)
 dot_unit row k t =
     rat_dot-scaled_right k (wholes row) (wholes (unit t))
-    ∙ ap (λ u. k *ℚ u) (rat_dot-wholes row (unit t) ∙ ap whole (ap (int_dot row) (sym (int_scaled-one (unit t))) ∙ int_dot-unit row (pos 1) t ∙ one (entry row t)))
-  where
-    one : (z : ℤ) → pos 1 *ℤ z ≡ z
-    one z = omega (arith, ints)
+    ∙ ap (λ u. k *ℚ u) (rat_dot-wholes row (unit t) ∙ ap whole (ap (int_dot row) (sym (int_scaled-one (unit t))) ∙ int_dot-unit row (pos 1) t ∙ *ℤ_idl (entry row t)))
 
 -- f 0 at the column own 0, f 1 at the column own 1, and so on
 abbrev pub placed : (ℕ → ℚ) → (ℕ → ℕ) → ℕ → List ℚ
@@ -87,10 +85,6 @@ length_unit : (t : ℕ) → length (unit t) ≡ suc t
 length_unit zero = refl
 length_unit (suc t) = let h = length_unit t in omega (arith, h)
 
-length_scaled : (k : ℚ) (xs : List ℚ) → length (rat_scaled k xs) ≡ length xs
-length_scaled k [] = refl
-length_scaled k (x ∷ xs) = let h = length_scaled k xs in omega (arith, h)
-
 length_both : (xs ys : List ℚ) (n : ℕ) → length xs ≤ n → length ys ≤ n → length (rat_added xs ys) ≤ n
 length_both [] ys n h k = k
 length_both (x ∷ xs) [] n h k = h
@@ -102,7 +96,7 @@ length_placed f own zero n h = omega arith
 length_placed f own (suc m) n h =
     let l = h m (omega arith) in
     length_both (placed f own m) (rat_scaled (f m) (wholes (unit (own m)))) n (length_placed f own m n (λ k q. h k (omega arith)))
-    (let a = length_scaled (f m) (wholes (unit (own m))) in let b = length-map (unit (own m)) whole in let c = length_unit (own m) in omega (arith, a, b, c, l))
+    (let a = length-rat_scaled (f m) (wholes (unit (own m))) in let b = length-map (unit (own m)) whole in let c = length_unit (own m) in omega (arith, a, b, c, l))
 
 pub length_added : (xs ys : List ℚ) → length ys ≤ length xs → length (rat_added xs ys) ≡ length xs
 length_added [] [] h = refl

@@ -7,6 +7,7 @@ use Rattle.dcx_tab.specs.Rows.{Row, row_at, entry, basic_at}
 use Rattle.dcx_tab.specs.Pivot.{turned, eliminated}
 use Rattle.dcx_tab.specs.Table.{Table, entry_at, after_pivot}
 use Rattle.dcx_tab.proofs.Pivots.{at_other, step}
+use Rattle.dcx_tab.proofs.Feasible.{cross_of}
 use Rattle.dcx_tab.proofs.RowLaws.{entry-scaled}
 use Rattle.dcx_tab.proofs.LineSteps.{turned_negative}
 use Rattle.dcx_simplex.specs.Run.{NoneEnters}
@@ -46,9 +47,6 @@ turned_entry c row j h = ap (λ w. entry w j) (turned_negative c row h) ∙ entr
 
 less_minus : (u e v f : ℤ) → u *ℤ e -ℤ v *ℤ neg_ℤ f ≡ u *ℤ e +ℤ v *ℤ f
 less_minus u e v f = simp ring (omega (arith, ints))
-
-cross_of : (k n u a v p : ℤ) → k *ℤ n ≡ u *ℤ a -ℤ v *ℤ p → n ≡ pos 0 → u *ℤ a ≡ v *ℤ p
-cross_of k n u a v p h z = let e : k *ℤ n ≡ pos 0 = rw z (omega (arith, ints)) in omega (arith, ints, h, e)
 
 ratio_low : (a f e q : ℤ) → (a *ℤ f) ≤ℤ (e *ℤ q) → (a *ℤ f +ℤ e *ℤ neg_ℤ q) ≤ℤ pos 0
 ratio_low a f e q h = simp ring (omega (arith, ints, h))

@@ -14,6 +14,7 @@ use Rattle.dcx_simplex.specs.Reading.{IsReading}
 use Rattle.dcx_simplex.proofs.Chains.{IsKin}
 use Rattle.dcx_simplex.proofs.Starts.{starts}
 use Rattle.dcx_simplex.proofs.EndFacts.{IsEnded, readable}
+use Rattle.dcx_simplex.proofs.EndLaws.{kin_both}
 use Rattle.dcx_simplex.proofs.Rights.{optimal_right}
 use Rattle.dcx_lp_answer.specs.declared.answer.LpStatus.TheVariants as status
 use Rattle.dcx_lp_answer.specs.declared.answer.LpAnswer.{LpAnswer}
@@ -31,14 +32,6 @@ start_of p = starts p.rows p.columns p.objective p.phase p.form
 
 pub sound_first : (t : Table) → IsFirst t → IsSound t
 sound_first t f = subst IsSound (sym f.1) (start_of f.0).tableau.form
-
-kin_trans : (t v u : Table) → IsKin t v → IsKin v u → IsKin t u
-kin_trans t v u a b = record {
-  rows = b.rows ∙ a.rows;
-  columns = b.columns ∙ a.columns;
-  plain = b.plain ∙ a.plain;
-  last = λ k h l. let r = a.rows in b.last k (omega (arith, r, h)) (omega (arith, r, l)) ∙ a.last k h l;
-}
 
 -- ---- one end
 same_repairs : (limit : ℕ) (u v w x : Table) (n m k l : ℕ) → IsSound w → Repairs limit u n w k → Repairs limit v m x l → w ≡ x → k ≡ l → (u ≡ v) × (n ≡ m)
@@ -77,7 +70,7 @@ ends_optimal p limit columns u n list w =
     let sound_v : IsSound v = install.sound columns limit v w.pivots t 0 i start.tableau.form in
     let of_v = install.keeps columns limit v w.pivots t.rows t 0 i start.tableau in
     let plain_v = all_plain columns v (subst (λ k. IsColumnList k columns) (sym kin_v.plain) list) (w.count ∙ sym kin_v.rows) (install.all_basic columns limit v w.pivots t 0 i) in
-    let kin : IsKin t u = kin_trans t v u kin_v (repair.kin limit u n v w.pivots w.repairs) in
+    let kin : IsKin t u = kin_both t v u kin_v (repair.kin limit u n v w.pivots w.repairs) in
     let enough = start.enough in
     record {
       tableau = repair.keeps limit u n t.rows v w.pivots w.repairs of_v;
