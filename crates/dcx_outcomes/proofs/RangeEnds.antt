@@ -1,15 +1,18 @@
 -- What holds of the outcomes of settings at which a parameter's range is told.
-use Rattle.std.proofs.Common.{◌≡◌, ℕ, List, [], Option, Some, None, Result, Ok, Err, is_some, refl, sym, ap, subst}
-use Rattle.std.specs.Prelude.{IfOk}
+use Rattle.std.proofs.Common.{◌≡◌, ℕ, List, [], Option, Some, None, Result, Ok, Err, Bor, is_some, refl, sym, ap, subst}
+use Rattle.std.specs.Prelude.{IfOk, MatchOption, option_copied}
 use Rattle.std.proofs.Props.{props}
 use mathlib.Core.HLevel.{is_prop→PathP}
 use Rattle.dcx_frac.specs.declared.fraction.Frac.{Frac}
 use Rattle.dcx_point.specs.Pairs.{Pairs}
+use Rattle.dcx_call.specs.declared.attribute.Parameter.{Parameter}
 use Rattle.dcx_tree.specs.declared.problem.Problem.{Problem}
 use Rattle.dcx_tree.specs.Meaning.{IsFitting, setting_of}
+use Rattle.dcx_declared.specs.Stands.{HasParameter}
 use Rattle.dcx_fit.specs.Fit.{FitsParameters}
 use Rattle.dcx_linear.specs.declared.param_form.ParamForm.{ParamForm}
 use Rattle.dcx_answer.specs.declared.not_ranged.NotRanged.{NotRanged}
+use Rattle.dcx_answer.specs.declared.not_ranged.NotRanged.TheVariants as faults
 use Rattle.dcx_answer.specs.declared.ranged.Ranged.{Ranged}
 use Rattle.dcx_answer.specs.declared.range_stop.RangeStop.{RangeStop}
 use Rattle.dcx_answer.specs.declared.range_stop.RangeStop.TheVariants as range
@@ -19,19 +22,20 @@ use Rattle.dcx_answer.specs.declared.range_outcome.RangeOutcome.{RangeOutcome}
 use Rattle.dcx_answer.specs.declared.stop.Stop.{Stop}
 use Rattle.dcx_answer.specs.NodeStops.{range_names_node}
 use Rattle.dcx_graph.specs.Program.{Program}
+use Rattle.dcx_graph.specs.declared.reduced.Reduced.{Reduced}
 use Rattle.dcx_graph.specs.Fixing.{FixGives}
 use Rattle.dcx_graph.proofs.OneWay.{one_affine}
-use Rattle.dcx_cache.specs.Programs.{IsMapOf, SessionGives, mapped, anew}
+use Rattle.dcx_cache.specs.Programs.{IsMapOf, HasMap, SessionGives, mapped, anew}
 use Rattle.dcx_cache.proofs.DivisorLawsHold.{formed_are_fitting}
-use Rattle.dcx_range.specs.Parameters.{IsRanged, IsFaultOf, IsTold}
+use Rattle.dcx_range.specs.Parameters.{IsRanged, IsFaultOf, IsTold, program_in}
 use Rattle.dcx_range.specs.Range.{RangeGives, IsMapOf as IsAffineMapOf}
-use Rattle.dcx_right.specs.Ranges.{HoldsOn}
+use Rattle.dcx_right.specs.Ranges.{HasParameter as IsParameter, HoldsOn}
 use Rattle.dcx_range.specs.Laws.{AreOneRange}
-use Rattle.dcx_range.proofs.Named.{tells_once}
+use Rattle.dcx_range.proofs.Named.{tells_once, name_is}
 use Rattle.dcx_range.proofs.Right.{ranges_are_right as right_told}
 use Rattle.dcx_range.proofs.OneRange.{ranges_are_one as one_range}
 use Rattle.dcx_outcomes.specs.Asking.{IsRightAt, FindsRight, WantsMemory, IsSameEnd, AreOneEnd}
-use Rattle.dcx_outcomes.specs.Ranges.{IsKeptProgram, HasRange, LacksRange, TellsOf, range_end}
+use Rattle.dcx_outcomes.specs.Ranges.{IsKeptProgram, HasRange, LacksRange, TellsRange, TellsOf, range_end}
 use Rattle.dcx_outcomes.specs.RangeLaws.{RangeIsTold, HadMemory, RangesAreRight, RangesAreOne}
 use Rattle.dcx_outcomes.proofs.Asked.{are_right, same_end, are_one, right_there}
 
@@ -69,11 +73,26 @@ pub range_is_told : RangeIsTold
 range_is_told = record { once = lacks_once; never_both = has_or_lacks }
 
 -- what a session tells of a name, with the program that it keeps
-pub told_has : (p : Problem) (o : Option (Program ParamForm)) (name : List ℕ) (u : Unit {0}) → IsKeptProgram p o → IsTold p o name (Ok u) → HasRange p name
-told_has p o name u kept (q, is, ranged) = record { map = q; is_map = subst (IsKeptProgram p) is kept; ranged = ranged }
+pub kept_of : (p : Problem) (r : Option (Bor (Reduced ParamForm))) → MatchOption r (¬ HasMap p) (λ m. IsMapOf p m.now.program) → IsKeptProgram p (program_in (option_copied r))
+kept_of p None h = h
+kept_of p (Some m) h = h
 
-pub told_lacks : (p : Problem) (o : Option (Program ParamForm)) (name : List ℕ) (f : NotRanged) → IsKeptProgram p o → IsTold p o name (Err f) → LacksRange p name f
-told_lacks p o name f kept h = record { program = o; is_kept = kept; is_fault = h }
+pub told_range : (p : Problem) (o : Option (Program ParamForm)) (name : List ℕ) (r : Result (Unit {0}) NotRanged) → IsKeptProgram p o → IsTold p o name r → TellsRange p name r
+told_range p o name (Ok u) kept (q, is, ranged) = record { map = q; is_map = subst (IsKeptProgram p) is kept; ranged = ranged }
+told_range p o name (Err fault) kept h = record { program = o; is_kept = kept; is_fault = h }
+
+-- what stands against a range, but for the name, is that of a parameter that the problem declares
+declared : (p : Problem) (name : List ℕ) (k : ℕ) (q : Parameter) → IsParameter p name k q → HasParameter p name
+declared p name k q h = (k, q, h.there, name_is p.parameters name k q h.place h.there)
+
+pub lacking_shape : (p : Problem) (name : List ℕ) → LacksRange p name faults.Shape → HasParameter p name
+lacking_shape p name h = declared p name h.is_fault.at h.is_fault.parameter h.is_fault.named
+
+pub lacking_map : (p : Problem) (name : List ℕ) → LacksRange p name faults.Map → HasParameter p name
+lacking_map p name h = declared p name h.is_fault.0.at h.is_fault.0.parameter h.is_fault.0.named
+
+pub lacking_coefficient : (p : Problem) (name : List ℕ) → LacksRange p name faults.Coefficient → HasParameter p name
+lacking_coefficient p name h = declared p name h.is_fault.2.number.at h.is_fault.2.number.parameter h.is_fault.2.number.named
 
 -- ---- one setting
 pub affine_map : (p : Problem) (q : Program ParamForm) → IsMapOf p q → IsAffineMapOf p q

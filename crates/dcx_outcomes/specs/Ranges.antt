@@ -36,6 +36,11 @@ pub record LacksRange (p : Problem) (name : List ℕ) (fault : NotRanged) : Type
   pub is_kept : IsKeptProgram p program
   pub is_fault : IsFaultOf p program name fault
 
+-- whether it has one, or what stands against it
+abbrev pub TellsRange : Problem → List ℕ → Result (Unit {0}) NotRanged → Type 0
+TellsRange p name (Ok u) = HasRange p name
+TellsRange p name (Err fault) = LacksRange p name fault
+
 -- ---- one setting
 -- the parameter has a range, and this is told of it for the program, or stops it
 pub record TellsOf (name : List ℕ) (limit : ℕ) (p : Problem) (setting : Pairs) (program : Program Frac) (told : Result Ranged RangeStop) : Type 0 where

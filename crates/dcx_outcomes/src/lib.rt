@@ -17,7 +17,8 @@
 //! | where a variable is to be whole, an outcome tells how the run of nodes over a session's program ends, of at most 10,000 nodes; and else how a solve ends | `outcomes`, `specs/Warm.antt`: `AreFound`, `specs/Wholes.antt`: `AreWholeOutcomes` |
 //! | each answer among those of a run of nodes is a whole optimum, or that there is no whole point, at its setting, which fits, with a tree that shows it, as `dcx_branch::branch` ensures of each setting; its point has an array of its shape for each variable, in order | `laws::wholes_are_right`, `specs/Right.antt`: `IsRightWhole` |
 //! | settings have one list of them; want of memory is free | `laws::wholes_are_one` |
-//! | one thing stands against the range of a parameter, and nothing where it has one | `laws::range_is_told`, `specs/Ranges.antt`: `HasRange`, `LacksRange` |
+//! | a parameter has a range, by the program that a session keeps, or that stands first against it | `has_range`, `specs/Ranges.antt`: `HasRange`, `LacksRange` |
+//! | one thing stands against the range of a parameter, and nothing where it has one | `laws::range_is_told` |
 //! | the range of a parameter is told at each setting, in order: for a session's program, or what stops it; no step is counted | `range_outcomes`, `specs/Ranges.antt`: `AreRangeOutcomes` |
 //! | whatever is told of it is right for the problem at its setting, which fits: `dcx_range::range` ensures it of each setting | `laws::ranges_are_right` |
 //! | settings have one list of what is told of it, or of stops; want of memory is free | `laws::ranges_are_one` |
@@ -35,4 +36,4 @@ mod wholes;
 
 pub use filters::filter_outcomes;
 pub use finding::{Found, outcomes};
-pub use ranges::range_outcomes;
+pub use ranges::{has_range, range_outcomes};

@@ -1,20 +1,28 @@
-//! The outcomes of a problem at settings at which a parameter's range is told.
+//! Whether a parameter has a range, and the outcomes of a problem at settings at which it is told.
 ghost use Rattle.std.specs.Prelude.{◌≡◌, IfOk, OnOk};
-ghost use Rattle.dcx_outcomes.specs.Ranges.{HasRange, TellsOf, range_end, AreRangeOutcomes};
+ghost use Rattle.dcx_outcomes.specs.Ranges.{HasRange, TellsRange, TellsOf, range_end, AreRangeOutcomes};
 
 use crate::asking::{Question, ask_session};
-use dcx_answer::{RangeEnd, RangeOutcome, RangeOutcomes, RangeStop, Ranged, Stop};
+use dcx_answer::{NotRanged, RangeEnd, RangeOutcome, RangeOutcomes, RangeStop, Ranged, Stop};
 use dcx_cache::Session;
 use dcx_frac::Frac;
 use dcx_graph::Reduced;
 use dcx_linear::ParamForm;
 use dcx_point::Setting;
-use dcx_range::range;
+use dcx_range::{range, ranged};
 use dcx_shape::{Name, Place};
 use dcx_steps::Steps;
 use dcx_tree::Problem;
 use std::alloc::{AllocError, Global};
 use std::sync::ledger::Ledger;
+
+/// Whether the parameter of this name has a range, by the program with affine coefficients that the session keeps, or what stands first
+/// against it. Takes no memory.
+pub fn has_range(session: &Session, name: &Name) -> Result<(), NotRanged>
+    ensures { TellsRange session.now.problem name.now result }
+{
+    ranged(session.problem(), session.map(), name)
+}
 
 /// What is told of the parameter of this name for a program, with at most so many pivots.
 #[derive(Clone, Copy)]

@@ -1,5 +1,5 @@
 -- The lines of settings at which constraints are filtered.
-use Rattle.std.specs.Prelude.{ℕ, ◌+◌, Bool, true, false, not, List, ◌++◌, None, codes, decimal, count_by}
+use Rattle.std.specs.Prelude.{ℕ, ◌+◌, not, List, ◌++◌, None, codes, decimal, count_by}
 use Rattle.std.specs.List.{flat_map, enumerate_from, zip}
 use Rattle.std.specs.declared.option.Option.{Option}
 use Rattle.dcx_shape.specs.declared.place.Place.{Place}
@@ -12,6 +12,7 @@ use Rattle.dcx_answer.specs.declared.stop.Stop.TheVariants as stops
 use Rattle.dcx_answer.specs.declared.filter_outcome.FilterEnd.{FilterEnd}
 use Rattle.dcx_answer.specs.declared.filter_outcome.FilterEnd.TheVariants as the
 use Rattle.dcx_answer.specs.declared.filter_outcome.FilterOutcome.{FilterOutcome}
+use Rattle.dcx_report.specs.Ends.{is_filtered}
 use Rattle.dcx_report.specs.AnswerText.{var_lines}
 use Rattle.dcx_report.specs.OutcomeText.{counts_line}
 use Rattle.dcx_report.specs.StopText.{stop_name, stop_details, stopped_text}
@@ -55,12 +56,6 @@ filter_text numbered = codes "setting " ++ decimal numbered.0 ++ filter_end_text
 -- the lines of the settings, numbered from 1
 unfoldable pub filter_lines : List FilterOutcome → List ℕ
 filter_lines outcomes = flat_map filter_text (enumerate_from 1 outcomes)
-
--- whether something is found at a setting
-abbrev pub is_filtered : FilterEnd → Bool
-is_filtered (the.Filtered found) = true
-is_filtered (the.Filter stop) = false
-is_filtered (the.Stop stop) = false
 
 -- at how many settings something is found, and how many are stopped
 unfoldable pub filter_count_line : List FilterOutcome → List ℕ

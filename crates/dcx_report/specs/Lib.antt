@@ -2,6 +2,7 @@
 pub mod AnswerText
 pub mod CertifiedText
 pub mod CheckText
+pub mod Ends
 pub mod FilterText
 pub mod Negated
 pub mod OutcomeText

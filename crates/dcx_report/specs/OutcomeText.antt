@@ -1,5 +1,5 @@
 -- The lines of the outcomes of a run.
-use Rattle.std.specs.Prelude.{ℕ, Bool, true, false, not, List, [], ◌++◌, Some, None, codes, decimal, count_by}
+use Rattle.std.specs.Prelude.{ℕ, not, List, [], ◌++◌, Some, None, codes, decimal, count_by}
 use Rattle.std.specs.List.{flat_map, enumerate_from}
 use Rattle.std.specs.declared.option.Option.{Option}
 use Rattle.dcx_shape.specs.declared.place.Place.{Place}
@@ -9,6 +9,7 @@ use Rattle.dcx_answer.specs.declared.outcome.OutcomeEnd.{OutcomeEnd}
 use Rattle.dcx_answer.specs.declared.outcome.OutcomeEnd.TheVariants.{Answer, Whole, Branch, Stop}
 use Rattle.dcx_report.specs.declared.run.Word.{Word}
 use Rattle.dcx_report.specs.declared.run.Word.TheVariants.{Solve, Setting}
+use Rattle.dcx_report.specs.Ends.{is_answer}
 use Rattle.dcx_report.specs.AnswerText.{answer_text}
 use Rattle.dcx_report.specs.StopText.{stopped_text}
 use Rattle.dcx_report.specs.WholeText.{whole_text, branch_stop_text}
@@ -33,13 +34,6 @@ outcome_text word sense numbered =
 -- the lines of the outcomes, numbered from 1
 unfoldable pub outcome_lines : Word → Sense → List Outcome → List ℕ
 outcome_lines word sense outcomes = flat_map (outcome_text word sense) (enumerate_from 1 outcomes)
-
--- whether a setting is answered, and not stopped
-abbrev pub is_answer : OutcomeEnd → Bool
-is_answer (Answer answer) = true
-is_answer (Whole answer) = true
-is_answer (Branch stop) = false
-is_answer (Stop stop) = false
 
 -- how many settings are answered
 abbrev pub count_of_answers : List Outcome → ℕ

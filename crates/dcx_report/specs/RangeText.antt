@@ -1,5 +1,5 @@
 -- The lines of settings at which a parameter's range is told.
-use Rattle.std.specs.Prelude.{ℕ, Bool, true, false, not, List, ◌++◌, Some, None, codes, decimal, count_by}
+use Rattle.std.specs.Prelude.{ℕ, not, List, ◌++◌, Some, None, codes, decimal, count_by}
 use Rattle.std.specs.List.{flat_map, enumerate_from}
 use Rattle.std.specs.declared.option.Option.{Option}
 use Rattle.dcx_shape.specs.declared.place.Place.{Place}
@@ -14,6 +14,7 @@ use Rattle.dcx_answer.specs.declared.range_stop.RangeStop.TheVariants as range
 use Rattle.dcx_answer.specs.declared.range_outcome.RangeEnd.{RangeEnd}
 use Rattle.dcx_answer.specs.declared.range_outcome.RangeEnd.TheVariants as the
 use Rattle.dcx_answer.specs.declared.range_outcome.RangeOutcome.{RangeOutcome}
+use Rattle.dcx_report.specs.Ends.{is_ranged}
 use Rattle.dcx_report.specs.AnswerText.{user_number}
 use Rattle.dcx_report.specs.OutcomeText.{counts_line}
 use Rattle.dcx_report.specs.Pieces.{passes_text}
@@ -58,12 +59,6 @@ range_text parameter sense numbered = codes "setting " ++ decimal numbered.0 ++ 
 -- the lines of the settings, numbered from 1
 unfoldable pub range_lines : List ℕ → Sense → List RangeOutcome → List ℕ
 range_lines parameter sense outcomes = flat_map (range_text parameter sense) (enumerate_from 1 outcomes)
-
--- whether something is told of the parameter at a setting
-abbrev pub is_ranged : RangeEnd → Bool
-is_ranged (the.Ranged ranged) = true
-is_ranged (the.Range stop) = false
-is_ranged (the.Stop stop) = false
 
 -- at how many settings something is told, and how many are stopped
 unfoldable pub range_count_line : List RangeOutcome → List ℕ

@@ -1,19 +1,11 @@
 //! Appends the line that counts settings.
-ghost use Rattle.std.specs.Prelude.{◌≡◌, ◌++◌, Bool, not, count_by, OnOk};
+ghost use Rattle.std.specs.Prelude.{◌≡◌, ◌++◌, not, count_by, OnOk};
 ghost use Rattle.dcx_report.specs.OutcomeText.{counts_line};
 
+use crate::ends::SettingEnd;
 use crate::pieces::put_numbered;
 use dcx_lines::put_bytes;
 use std::alloc::AllocError;
-
-/// The outcome of a setting, as far as settings are counted.
-pub(crate) trait SettingEnd {
-    /// Whether the setting is answered, and not stopped.
-    ghost answered: { Self → Bool };
-
-    fn is_answered(&self) -> bool
-        ensures { result ≡ answered self.now };
-}
 
 /// How many settings are answered.
 fn answers<E: SettingEnd>(outcomes: &[E]) -> usize

@@ -2,10 +2,10 @@
 ghost use Rattle.std.specs.Prelude.{◌≡◌, ◌++◌, IfSome, OnOk, slice_get, length};
 ghost use Rattle.std.specs.List.{flat_map, zip};
 ghost use Rattle.dcx_report.specs.FilterText.{member_text, without_lines, points_lines, filtered_text, step_text, filter_stop_text};
-ghost use Rattle.dcx_report.specs.FilterText.{filter_end_text, filter_text, filter_lines, is_filtered, filter_count_line};
+ghost use Rattle.dcx_report.specs.FilterText.{filter_end_text, filter_text, filter_lines, filter_count_line};
 
 use crate::answer_lines::put_var_lines;
-use crate::counts::{SettingEnd, put_setting_counts};
+use crate::counts::put_setting_counts;
 use crate::pieces::put_numbered;
 use crate::stop_line::{name_of_stop, put_details, put_stop, put_stopped};
 use crate::{FilterEnd, FilterOutcome, FilterStop, Filtered, Stop};
@@ -168,14 +168,6 @@ pub(crate) fn put_filters(out: &mut Vec<u8>, outcomes: &[FilterOutcome]) -> Resu
         put_filter(out, number, outcome)?;
     }
     Ok(())
-}
-
-impl SettingEnd for FilterOutcome {
-    ghost answered = { λ o. is_filtered o.end };
-
-    fn is_answered(&self) -> bool {
-        matches!(&self.end, FilterEnd::Filtered(_))
-    }
 }
 
 /// Appends the line that counts the settings.

@@ -1,9 +1,9 @@
 //! Appends the lines of settings at which a parameter's range is told.
 ghost use Rattle.std.specs.Prelude.{◌≡◌, ◌++◌, OnOk};
-ghost use Rattle.dcx_report.specs.RangeText.{bound_text, span_text, course_text, ranged_text, range_stop_text, range_end_text, range_text, range_lines, is_ranged, range_count_line};
+ghost use Rattle.dcx_report.specs.RangeText.{bound_text, span_text, course_text, ranged_text, range_stop_text, range_end_text, range_text, range_lines, range_count_line};
 
 use crate::answer_lines::user_number;
-use crate::counts::{SettingEnd, put_setting_counts};
+use crate::counts::put_setting_counts;
 use crate::pieces::{put_both, put_numbered, put_passes};
 use crate::stop_line::{put_stop, put_stopped};
 use crate::{RangeEnd, RangeOutcome, RangeStop, Ranged, Sense, Stop};
@@ -149,14 +149,6 @@ pub(crate) fn put_ranges(
         put_range(out, parameter, sense, number, outcome)?;
     }
     Ok(())
-}
-
-impl SettingEnd for RangeOutcome {
-    ghost answered = { λ o. is_ranged o.end };
-
-    fn is_answered(&self) -> bool {
-        matches!(&self.end, RangeEnd::Ranged(_))
-    }
 }
 
 /// Appends the line that counts the settings.

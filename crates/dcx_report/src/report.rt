@@ -1,12 +1,12 @@
 //! The bytes of the report of a run.
 ghost use Rattle.std.specs.Prelude.{◌≡◌, ◌++◌, IfOk, OnOk};
-ghost use Rattle.dcx_report.specs.OutcomeText.{word_text, end_text, outcome_text, outcome_lines, is_answer, count_line, warm_line};
+ghost use Rattle.dcx_report.specs.OutcomeText.{word_text, end_text, outcome_text, outcome_lines, count_line, warm_line};
 ghost use Rattle.dcx_report.specs.ReportText.{text_of};
 
 use crate::answer_lines::put_answer;
 use crate::certified_lines::{put_cert_refused, put_certified};
 use crate::check_lines::put_checked;
-use crate::counts::{SettingEnd, put_setting_counts};
+use crate::counts::put_setting_counts;
 use crate::filter_lines::{put_filter_counts, put_filters};
 use crate::pieces::put_numbered;
 use crate::range_lines::{put_range_counts, put_ranges};
@@ -80,14 +80,6 @@ fn put_outcomes(
         put_outcome(out, word, sense, number, outcome)?;
     }
     Ok(())
-}
-
-impl SettingEnd for Outcome {
-    ghost answered = { λ o. is_answer o.end };
-
-    fn is_answered(&self) -> bool {
-        matches!(&self.end, OutcomeEnd::Answer(_) | OutcomeEnd::Whole(_))
-    }
 }
 
 /// Appends the line that counts the outcomes.

@@ -36,7 +36,7 @@ use Rattle.dcx_trial.specs.Trial.{trial_text}
 use Rattle.dcx_top.specs.Commands.{IsScriptOf, script_name, settings_name, certificate_name, parameter_name, AreOfFile, AreSettingsOf, limit_of, TellsOutcomes}
 use Rattle.dcx_top.specs.Files.{RefusesScript, RefusesSettings, HasTextOf}
 use Rattle.dcx_top.specs.Reading.{run_of, EndsAt, refused_at, ReadsCertificate}
-use Rattle.dcx_top.specs.Asked.{IsAcceptedWork}
+use Rattle.dcx_top.specs.Asked.{IsAcceptedWork, Asked}
 use Rattle.dcx_top.specs.Runs.{IsSolvedRun, HasCertificate, ReadsSections, HasPassed, misread, failed, long_script, bad_script, for_whole, for_range}
 use Rattle.dcx_top.specs.Runs.{bad_settings, long_certificate, no_script, no_settings, no_certificate, CountsAtMostBeginning, CountsAtMost, none, beginning, solving, Causes}
 use Rattle.dcx_top.specs.Solving.{OrWhole, SolvesAt, SolvesUnder, TriesAt, CertifiesAt, DoesAt, DoesFrom, task_refuses, command_for, RangesFrom, lacking, ending, ranging, wanting}
@@ -57,6 +57,11 @@ pub accepted_work : (told : Option Files) (command : Command) (bytes : List ℕ)
 accepted_work told command bytes a of gives =
     let h = acceptance bytes a gives in
     record { bytes = bytes; are_of = of; script = h.script; spelled = h.spelled; stands_for = h.stands_for; accepted = h.judged.accepted; convex = h.judged.convex }
+
+-- what words ask of an accepted problem
+abbrev asked_of : (words : List (List ℕ)) (told : Option Files) (command : Command) (Marks : Problem → Type 0) (work : Work) (settings : List Pairs) → command_of words ≡ Some command
+    → IsAcceptedWork told command work → Marks work.problem → AreSettingsOf told command work settings → Asked words told command Marks
+asked_of words told command Marks work settings form problem marks are = record { form = form; work = work; problem = problem; marks = marks; settings = settings; are_of = are }
 
 pub judged_of : (bytes : List ℕ) (a : Accepted) → Gives bytes (Ok a) → IsJudged a.work.problem a.verdict
 judged_of bytes a g = (acceptance bytes a g).judged
@@ -123,7 +128,7 @@ module _ (words : List (List ℕ)) (told : Option Files) (risen : Type 0) (comma
           → IsSolvedRun words told old new (tells outcomes count)
       solved_run old new outcomes count are steps = record {
         command = command;
-        asked = record { form = form; work = a; problem = gives; marks = takes; settings = settings; are_of = asked };
+        asked = asked_of words told command (Takes command) a settings form gives takes asked;
         outcomes = outcomes;
         warm = count;
         are = are;
@@ -147,14 +152,7 @@ module _ (words : List (List ℕ)) (told : Option Files) (risen : Type 0) (comma
   has_certificate a settings h = record {
     name = file;
     named = named;
-    asked = record {
-      form = form;
-      work = a.work;
-      problem = accepted_work told command h.bytes a (of h.bytes h.are_told) h.gives;
-      marks = h.continuous;
-      settings = settings;
-      are_of = asks a.work settings h.asked;
-    };
+    asked = asked_of words told command HasNoWhole a.work settings form (accepted_work told command h.bytes a (of h.bytes h.are_told) h.gives) h.continuous (asks a.work settings h.asked);
   }
 
   certificate_ends : (a : Accepted) (settings : List Pairs) (n : ℕ) (r : Run) → GivesSettings told script name a settings → ReadsCertificate told risen file a.work.problem (length settings) (Err r)
@@ -301,14 +299,7 @@ module _ (words : List (List ℕ)) (told : Option Files) (risen : Type 0) where
         script = script;
         name = name;
         limit = limit;
-        asked = record {
-          form = form;
-          work = a.work;
-          problem = accepted_work told (certificate script name limit) bytes a there gives;
-          marks = free refl;
-          settings = settings;
-          are_of = are;
-        };
+        asked = asked_of words told (certificate script name limit) HasNoWhole a.work settings form (accepted_work told (certificate script name limit) bytes a there gives) (free refl) are;
         sections = c;
         are = is;
         flag = flag;
@@ -322,14 +313,7 @@ module _ (words : List (List ℕ)) (told : Option Files) (risen : Type 0) where
         script = script;
         name = name;
         limit = limit;
-        asked = record {
-          form = form;
-          work = a.work;
-          problem = accepted_work told (iis script name limit) bytes a there gives;
-          marks = free refl;
-          settings = settings;
-          are_of = are;
-        };
+        asked = asked_of words told (iis script name limit) HasNoWhole a.work settings form (accepted_work told (iis script name limit) bytes a there gives) (free refl) are;
         are = is;
         steps = steps;
       })
@@ -384,14 +368,7 @@ module _ (words : List (List ℕ)) (told : Option Files) (risen : Type 0) where
         script = script;
         name = name;
         limit = limit;
-        asked = record {
-          form = form;
-          work = a.work;
-          problem = accepted_work told (range script name parameter limit) bytes a there gives;
-          marks = free tt;
-          settings = settings;
-          are_of = asked;
-        };
+        asked = asked_of words told (range script name parameter limit) HasNoWhole a.work settings form (accepted_work told (range script name parameter limit) bytes a there gives) (free tt) asked;
         ranged = has;
         are = are;
         sense_is = refl;

@@ -1,6 +1,6 @@
 -- Two runs of one command over the same contents tell the same.
-use Rattle.std.proofs.Common.{◌≡◌, ◌≢◌, ℕ, ◌+◌, Bool, true, false, ◌||◌, not, cond, if◌then◌else◌, List, [], ◌∷◌, ◌++◌, codes, decimal, count_by, Option, Some, None, refl, sym, ap, ap₂, subst, ◌∙◌, true≢false}
-use Rattle.std.specs.List.{AllByRecursion, AllZip, list_any, flat_map, enumerate_from}
+use Rattle.std.proofs.Common.{◌≡◌, ◌≢◌, ℕ, ◌+◌, Bool, true, false, ◌||◌, ◌&&◌, not, cond, if◌then◌else◌, List, [], ◌∷◌, ◌++◌, codes, decimal, count_by, Option, Some, None, refl, sym, ap, ap₂, subst, ◌∙◌, true≢false}
+use Rattle.std.specs.List.{AllByRecursion, AllZip, list_any, list_all, flat_map, enumerate_from}
 use Rattle.std.proofs.lemmas.List.Elements.{All-from_recursion}
 use Rattle.std.proofs.lemmas.List.Sums.{sum_by-cons}
 use Rattle.dcx_shape.specs.declared.place.Place.{Place}
@@ -24,7 +24,8 @@ use Rattle.dcx_answer.specs.declared.whole_answer.WholeAnswer.TheVariants.{Optim
 use Rattle.dcx_report.specs.declared.run.Run.{Run}
 use Rattle.dcx_report.specs.declared.run.Run.TheVariants as run
 use Rattle.dcx_report.specs.declared.run.Word.{Word}
-use Rattle.dcx_report.specs.OutcomeText.{word_text, end_text, outcome_text, outcome_lines, is_answer, counts_line, count_line, warm_line}
+use Rattle.dcx_report.specs.Ends.{is_answer, is_filtered, is_ranged, wants_memory, filter_wants_memory, range_wants_memory}
+use Rattle.dcx_report.specs.OutcomeText.{word_text, end_text, outcome_text, outcome_lines, counts_line, count_line, warm_line}
 use Rattle.dcx_report.specs.TrialText.{trial_end, trial_line, setting_lines, trial_lines}
 use Rattle.dcx_report.specs.WholeText.{whole_text}
 use Rattle.dcx_report.specs.ReportText.{text_of}
@@ -35,7 +36,7 @@ use Rattle.dcx_outcomes.specs.Laws.{IsSameWhole, IsSameOutcome, WantsMemory, Had
 use Rattle.dcx_outcomes.specs.FilterLaws.{HadMemory as HadFilterMemory}
 use Rattle.dcx_outcomes.specs.RangeLaws.{HadMemory as HadRangeMemory}
 use Rattle.dcx_outcomes.proofs.OneOutcome.{same_of}
-use Rattle.dcx_top.specs.Ended.{is_stop, wants_memory, status_of_all, is_filter_stop, filter_wants_memory, is_range_stop, range_wants_memory, status_of}
+use Rattle.dcx_top.specs.Ended.{status_of_all, status_of}
 use Rattle.dcx_top.specs.Runs.{Causes}
 use Rattle.dcx_top.specs.OneRun.{IsAnswered, AreOneRun, told_same, told_solved, told_tried, told_filtered, told_ranged}
 use Rattle.dcx_top.specs.SameReport.{LacksNothing, AreReportedAlike, SameContentsSameReport}
@@ -46,12 +47,12 @@ or_false : (a b : Bool) → (a || b) ≡ false → (a ≡ false) × (b ≡ false
 or_false true b e = absurd (true≢false e)
 or_false false b e = (refl, e)
 
-none_wanted : {A : Type 0} (stopped wanted : A → Bool) (os : List A) → status_of_all stopped wanted os ≢ 5 → list_any wanted os ≡ false
-none_wanted stopped wanted os n = by (list_any wanted os) refl
+none_wanted : {A : Type 0} (answered wanted : A → Bool) (os : List A) → status_of_all answered wanted os ≢ 5 → list_any wanted os ≡ false
+none_wanted answered wanted os n = by (list_any wanted os) refl
   where
     by : (b : Bool) → list_any wanted os ≡ b → list_any wanted os ≡ false
     by false e = e
-    by true e = absurd (n (ap (λ b. if b then 5 else (if list_any stopped os then 6 else 0)) e))
+    by true e = absurd (n (ap (λ b. if b then 5 else (if list_all answered os then 0 else 6)) e))
 
 each_had : {A : Type 0} (wanted : A → Bool) (P : A → Type 0) → ((a : A) → wanted a ≡ false → P a) → (os : List A) → list_any wanted os ≡ false → AllByRecursion P os
 each_had wanted P f [] e = tt
@@ -59,8 +60,8 @@ each_had wanted P f (o ∷ os) e =
     let both = or_false (wanted o) (list_any wanted os) e in
     (f o both.0, each_had wanted P f os both.1)
 
-all_had : {A : Type 0} (stopped wanted : A → Bool) (P : A → Type 0) → ((a : A) → wanted a ≡ false → P a) → (os : List A) → status_of_all stopped wanted os ≢ 5 → AllByRecursion P os
-all_had stopped wanted P f os n = each_had wanted P f os (none_wanted stopped wanted os n)
+all_had : {A : Type 0} (answered wanted : A → Bool) (P : A → Type 0) → ((a : A) → wanted a ≡ false → P a) → (os : List A) → status_of_all answered wanted os ≢ 5 → AllByRecursion P os
+all_had answered wanted P f os n = each_had wanted P f os (none_wanted answered wanted os n)
 
 had : (x : OutcomeEnd) → wants_memory x ≡ false → ¬ WantsMemory x
 had (the.Answer answer) e w = w
@@ -146,6 +147,12 @@ module _ (f : OutcomeEnd → Bool) (same : (a b : WholeAnswer) → IsSameWhole a
       ∙ ap₂ (λ b c. cond b 1 0 + c) (same_of f same o.end q.end a.0.end) (counts_same os qs a.1)
       ∙ sym (sum_by-cons (λ (x : Outcome). cond (f x.end) 1 0) q qs)
 
+  all_same : (os qs : List Outcome) → AllZip IsSameOutcome os qs → list_all (λ (o : Outcome). f o.end) os ≡ list_all (λ (o : Outcome). f o.end) qs
+  all_same [] [] a = refl
+  all_same [] (q ∷ qs) a = absurd a
+  all_same (o ∷ os) [] a = absurd a
+  all_same (o ∷ os) (q ∷ qs) a = ap₂ (λ b c. b && c) (same_of f same o.end q.end a.0.end) (all_same os qs a.1)
+
   any_same : (os qs : List Outcome) → AllZip IsSameOutcome os qs → list_any (λ (o : Outcome). f o.end) os ≡ list_any (λ (o : Outcome). f o.end) qs
   any_same [] [] a = refl
   any_same [] (q ∷ qs) a = absurd a
@@ -157,8 +164,8 @@ unfolding count_line
 count_same os qs a = ap₂ counts_line (counts_same is_answer (λ x y h. refl) os qs a) (counts_same (λ x. not (is_answer x)) (λ x y h. refl) os qs a)
 
 status_same : (os qs : List Outcome) → AllZip IsSameOutcome os qs
-    → status_of_all (λ (o : Outcome). is_stop o.end) (λ (o : Outcome). wants_memory o.end) os ≡ status_of_all (λ (o : Outcome). is_stop o.end) (λ (o : Outcome). wants_memory o.end) qs
-status_same os qs a = ap₂ (λ b c. if b then 5 else (if c then 6 else 0)) (any_same wants_memory (λ x y h. refl) os qs a) (any_same is_stop (λ x y h. refl) os qs a)
+    → status_of_all (λ (o : Outcome). is_answer o.end) (λ (o : Outcome). wants_memory o.end) os ≡ status_of_all (λ (o : Outcome). is_answer o.end) (λ (o : Outcome). wants_memory o.end) qs
+status_same os qs a = ap₂ (λ b c. if b then 5 else (if c then 0 else 6)) (any_same wants_memory (λ x y h. refl) os qs a) (all_same is_answer (λ x y h. refl) os qs a)
 
 solved_alike : (word : Word) (sense : Sense) (os qs : List Outcome) (m n : Option ℕ) → AllZip IsSameOutcome os qs → m ≡ n → AreReportedAlike (run.Solved word sense os m) (run.Solved word sense qs n)
 unfolding text_of outcome_lines
@@ -187,21 +194,21 @@ moved r t e h = subst (λ z. status_of z ≢ 5) e h.memory
 reported : (r s : Run) → AreOneRun r s → LacksNothing r → LacksNothing s → AreReportedAlike r s
 reported r s (told_same e) h k = by_same r s e
 reported r s (told_solved word sense os qs m n a b alike) h k =
-    let first = all_had (λ (o : Outcome). is_stop o.end) (λ (o : Outcome). wants_memory o.end) HadMemory (λ o. had o.end) os (moved r (run.Solved word sense os m) a h) in
-    let second = all_had (λ (o : Outcome). is_stop o.end) (λ (o : Outcome). wants_memory o.end) HadMemory (λ o. had o.end) qs (moved s (run.Solved word sense qs n) b k) in
+    let first = all_had (λ (o : Outcome). is_answer o.end) (λ (o : Outcome). wants_memory o.end) HadMemory (λ o. had o.end) os (moved r (run.Solved word sense os m) a h) in
+    let second = all_had (λ (o : Outcome). is_answer o.end) (λ (o : Outcome). wants_memory o.end) HadMemory (λ o. had o.end) qs (moved s (run.Solved word sense qs n) b k) in
     let both = same_found os qs m n first second alike in
     of_both r s (run.Solved word sense os m) (run.Solved word sense qs n) a b (solved_alike word sense os qs m n both.0 both.1)
 reported r s (told_tried size os qs a b alike) h k =
-    let first = all_had (λ (o : Outcome). is_stop o.end) (λ (o : Outcome). wants_memory o.end) HadMemory (λ o. had o.end) os (moved r (run.Trial size os) a h) in
-    let second = all_had (λ (o : Outcome). is_stop o.end) (λ (o : Outcome). wants_memory o.end) HadMemory (λ o. had o.end) qs (moved s (run.Trial size qs) b k) in
+    let first = all_had (λ (o : Outcome). is_answer o.end) (λ (o : Outcome). wants_memory o.end) HadMemory (λ o. had o.end) os (moved r (run.Trial size os) a h) in
+    let second = all_had (λ (o : Outcome). is_answer o.end) (λ (o : Outcome). wants_memory o.end) HadMemory (λ o. had o.end) qs (moved s (run.Trial size qs) b k) in
     of_both r s (run.Trial size os) (run.Trial size qs) a b (tried_alike size os qs (zip_had HadMemory IsSameOutcome os qs first second alike))
 reported r s (told_filtered os qs a b alike) h k =
-    let first = all_had (λ (o : FilterOutcome). is_filter_stop o.end) (λ (o : FilterOutcome). filter_wants_memory o.end) HadFilterMemory (λ o. had_filter o.end) os (moved r (run.Filtered os) a h) in
-    let second = all_had (λ (o : FilterOutcome). is_filter_stop o.end) (λ (o : FilterOutcome). filter_wants_memory o.end) HadFilterMemory (λ o. had_filter o.end) qs (moved s (run.Filtered qs) b k) in
+    let first = all_had (λ (o : FilterOutcome). is_filtered o.end) (λ (o : FilterOutcome). filter_wants_memory o.end) HadFilterMemory (λ o. had_filter o.end) os (moved r (run.Filtered os) a h) in
+    let second = all_had (λ (o : FilterOutcome). is_filtered o.end) (λ (o : FilterOutcome). filter_wants_memory o.end) HadFilterMemory (λ o. had_filter o.end) qs (moved s (run.Filtered qs) b k) in
     by_same r s (a ∙ ap run.Filtered (same_had HadFilterMemory os qs first second alike) ∙ sym b)
 reported r s (told_ranged name sense os qs a b alike) h k =
-    let first = all_had (λ (o : RangeOutcome). is_range_stop o.end) (λ (o : RangeOutcome). range_wants_memory o.end) HadRangeMemory (λ o. had_range o.end) os (moved r (run.Ranged name sense os) a h) in
-    let second = all_had (λ (o : RangeOutcome). is_range_stop o.end) (λ (o : RangeOutcome). range_wants_memory o.end) HadRangeMemory (λ o. had_range o.end) qs (moved s (run.Ranged name sense qs) b k) in
+    let first = all_had (λ (o : RangeOutcome). is_ranged o.end) (λ (o : RangeOutcome). range_wants_memory o.end) HadRangeMemory (λ o. had_range o.end) os (moved r (run.Ranged name sense os) a h) in
+    let second = all_had (λ (o : RangeOutcome). is_ranged o.end) (λ (o : RangeOutcome). range_wants_memory o.end) HadRangeMemory (λ o. had_range o.end) qs (moved s (run.Ranged name sense qs) b k) in
     by_same r s (a ∙ ap (run.Ranged name sense) (same_had HadRangeMemory os qs first second alike) ∙ sym b)
 
 answered : (r : Run) → LacksNothing r → IsAnswered r

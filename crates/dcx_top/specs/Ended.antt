@@ -1,75 +1,31 @@
 -- How a run ends: its status, and what of its report is written.
-use Rattle.std.specs.Prelude.{◌≡◌, ◌≢◌, ◌<◌, ℕ, Bool, true, false, ◌⊎◌, List, length, ◌++◌, if◌then◌else◌}
-use Rattle.std.specs.List.{list_any}
+use Rattle.std.specs.Prelude.{◌≡◌, ◌≢◌, ◌<◌, ℕ, Bool, ◌⊎◌, List, length, ◌++◌, if◌then◌else◌}
+use Rattle.std.specs.List.{list_any, list_all}
 use Rattle.std.specs.declared.option.Option.{Option}
 use Rattle.std.specs.Io.KnownBytes.{Appends}
 use Rattle.dcx_host.specs.Pieces.{HandsRests}
 use Rattle.dcx_report.specs.ReportText.{text_of}
-use Rattle.dcx_answer.specs.declared.stop.Stop.TheVariants.{Memory as StopMemory}
+use Rattle.dcx_report.specs.Ends.{is_answer, is_filtered, is_ranged, wants_memory, filter_wants_memory, range_wants_memory}
 use Rattle.dcx_report.specs.declared.run.Run.{Run}
 use Rattle.dcx_report.specs.declared.run.Run.TheVariants.{Usage, Refused, Checked, Solved, Certificates, Certified, CertRefused, Trial, Filtered, Ranged, ReadFault, Memory}
-use Rattle.dcx_answer.specs.declared.outcome.OutcomeEnd.{OutcomeEnd}
-use Rattle.dcx_answer.specs.declared.outcome.OutcomeEnd.TheVariants.{Answer, Whole, Branch, Stop}
-use Rattle.dcx_answer.specs.declared.filter_stop.FilterStop.TheVariants.{Memory as FilterMemory}
-use Rattle.dcx_answer.specs.declared.filter_outcome.FilterEnd.{FilterEnd}
-use Rattle.dcx_answer.specs.declared.filter_outcome.FilterEnd.TheVariants as filter
-use Rattle.dcx_answer.specs.declared.whole_answer.BranchStop.TheVariants.{Memory as BranchMemory}
-use Rattle.dcx_answer.specs.declared.range_stop.RangeStop.TheVariants.{Memory as RangeMemory}
-use Rattle.dcx_answer.specs.declared.range_outcome.RangeEnd.{RangeEnd}
-use Rattle.dcx_answer.specs.declared.range_outcome.RangeEnd.TheVariants as range
 use Rattle.dcx_top.specs.declared.ended.Ended.{Ended}
 
--- the setting stopped
-abbrev pub is_stop : OutcomeEnd → Bool
-is_stop (Answer answer) = false
-is_stop (Whole answer) = false
-is_stop (Branch stop) = true
-is_stop (Stop stop) = true
-
--- the setting stopped for want of memory
-abbrev pub wants_memory : OutcomeEnd → Bool
-wants_memory (Branch BranchMemory) = true
-wants_memory (Stop StopMemory) = true
-wants_memory _ = false
-
--- the status of settings' outcomes: 5 where one stopped for want of memory, 6 where another one stopped, else 0
+-- the status of settings' outcomes: 5 where one stopped for want of memory, else 0 where each is answered, and else 6
 abbrev pub status_of_all : {A : Type 0} → (A → Bool) → (A → Bool) → List A → ℕ
-status_of_all stopped wanted outcomes = if list_any wanted outcomes then 5 else (if list_any stopped outcomes then 6 else 0)
-
--- the same where constraints are filtered
-abbrev pub is_filter_stop : FilterEnd → Bool
-is_filter_stop (filter.Filtered found) = false
-is_filter_stop (filter.Filter stop) = true
-is_filter_stop (filter.Stop stop) = true
-
-abbrev pub filter_wants_memory : FilterEnd → Bool
-filter_wants_memory (filter.Filter FilterMemory) = true
-filter_wants_memory (filter.Stop StopMemory) = true
-filter_wants_memory _ = false
-
--- the same where the range of a parameter is told
-abbrev pub is_range_stop : RangeEnd → Bool
-is_range_stop (range.Ranged ranged) = false
-is_range_stop (range.Range stop) = true
-is_range_stop (range.Stop stop) = true
-
-abbrev pub range_wants_memory : RangeEnd → Bool
-range_wants_memory (range.Range RangeMemory) = true
-range_wants_memory (range.Stop StopMemory) = true
-range_wants_memory _ = false
+status_of_all answered wanted outcomes = if list_any wanted outcomes then 5 else (if list_all answered outcomes then 0 else 6)
 
 -- the status where the whole report is written
 abbrev pub status_of : Run → ℕ
 status_of Usage = 2
 status_of (Refused refusal) = 1
 status_of (Checked checked) = 0
-status_of (Solved word sense outcomes warm) = status_of_all (λ o. is_stop o.end) (λ o. wants_memory o.end) outcomes
+status_of (Solved word sense outcomes warm) = status_of_all (λ o. is_answer o.end) (λ o. wants_memory o.end) outcomes
 status_of (Certificates text stopped) = if stopped then 6 else 0
 status_of (Certified sections) = 0
 status_of (CertRefused section fault) = 7
-status_of (Trial size outcomes) = status_of_all (λ o. is_stop o.end) (λ o. wants_memory o.end) outcomes
-status_of (Filtered outcomes) = status_of_all (λ o. is_filter_stop o.end) (λ o. filter_wants_memory o.end) outcomes
-status_of (Ranged parameter sense outcomes) = status_of_all (λ o. is_range_stop o.end) (λ o. range_wants_memory o.end) outcomes
+status_of (Trial size outcomes) = status_of_all (λ o. is_answer o.end) (λ o. wants_memory o.end) outcomes
+status_of (Filtered outcomes) = status_of_all (λ o. is_filtered o.end) (λ o. filter_wants_memory o.end) outcomes
+status_of (Ranged parameter sense outcomes) = status_of_all (λ o. is_ranged o.end) (λ o. range_wants_memory o.end) outcomes
 status_of ReadFault = 3
 status_of Memory = 5
 

@@ -62,7 +62,7 @@ pub record IsFilteredRun (words : List (List ℕ)) (told : Option Files) (old ne
   pub steps : Counts asked.work.problem (length asked.settings) old new
 
 -- ---- ranges
--- its parameter has a range, which is told, and a step was counted for each node
+-- the parameter of a problem without such variables has a range, which is told, and a step was counted for each node
 pub record IsRangedRun (words : List (List ℕ)) (told : Option Files) (old new : ℕ) (parameter : List ℕ) (sense : Sense) (outcomes : List RangeOutcome) : Type 0 where
   pub script : List ℕ
   pub name : List ℕ

@@ -6,7 +6,7 @@ ghost use Rattle.dcx_top.specs.NoRange.{IsPlaceOf, IsRefusedForRange};
 use dcx_answer::NotRanged;
 use dcx_cache::Session;
 use dcx_declared::place_of;
-use dcx_range::ranged;
+use dcx_outcomes::has_range;
 use dcx_refusal::Refusal;
 use dcx_shape::{Name, Place};
 use dcx_tree::Problem;
@@ -36,9 +36,8 @@ fn refused(problem: &Problem, name: &Name, fault: NotRanged) -> Refusal
 pub(crate) fn refuse_range(session: &Session, name: &Name) -> Option<Refusal>
     ensures { MatchOption result (HasRange session.now.problem name.now) (IsRefusedForRange session.now.problem name.now) }
 {
-    let problem = session.problem();
-    match ranged(problem, session.map(), name) {
+    match has_range(session, name) {
         Ok(()) => None,
-        Err(fault) => Some(refused(problem, name, fault)),
+        Err(fault) => Some(refused(session.problem(), name, fault)),
     }
 }

@@ -1,86 +1,15 @@
 //! The status of a run whose whole report is written.
-ghost use Rattle.std.specs.Prelude.{◌≡◌, ◌≢◌, ◌⊎◌, Bool};
-ghost use Rattle.std.specs.List.{list_any};
-ghost use Rattle.dcx_top.specs.Ended.{status_of_all as status_of_outcomes, status_of, is_stop, wants_memory, is_filter_stop};
-ghost use Rattle.dcx_top.specs.Ended.{filter_wants_memory, is_range_stop, range_wants_memory};
+ghost use Rattle.std.specs.Prelude.{◌≡◌, ◌≢◌, ◌⊎◌};
+ghost use Rattle.std.specs.List.{list_any, list_all};
+ghost use Rattle.dcx_top.specs.Ended.{status_of_all as status_of_outcomes, status_of};
 
-use dcx_answer::Stop;
-use dcx_report::{
-    BranchStop, FilterEnd, FilterOutcome, FilterStop, Outcome, OutcomeEnd, RangeEnd, RangeOutcome,
-    RangeStop, Run,
-};
+use dcx_report::{Run, SettingEnd};
 
-/// The outcome of a setting, as far as the status of a run goes.
-trait SettingEnd {
-    /// Whether the setting stopped.
-    ghost stopped: { Self → Bool };
-
-    /// Whether it stopped for want of memory.
-    ghost wanted: { Self → Bool };
-
-    fn has_stopped(&self) -> bool
-        ensures { result ≡ stopped self.now };
-
-    fn wants_memory(&self) -> bool
-        ensures { result ≡ wanted self.now };
-}
-
-impl SettingEnd for Outcome {
-    ghost stopped = { λ o. is_stop o.end };
-
-    ghost wanted = { λ o. wants_memory o.end };
-
-    fn has_stopped(&self) -> bool {
-        matches!(&self.end, OutcomeEnd::Branch(_) | OutcomeEnd::Stop(_))
-    }
-
-    fn wants_memory(&self) -> bool {
-        matches!(
-            &self.end,
-            OutcomeEnd::Branch(BranchStop::Memory) | OutcomeEnd::Stop(Stop::Memory)
-        )
-    }
-}
-
-impl SettingEnd for FilterOutcome {
-    ghost stopped = { λ o. is_filter_stop o.end };
-
-    ghost wanted = { λ o. filter_wants_memory o.end };
-
-    fn has_stopped(&self) -> bool {
-        matches!(&self.end, FilterEnd::Filter(_) | FilterEnd::Stop(_))
-    }
-
-    fn wants_memory(&self) -> bool {
-        matches!(
-            &self.end,
-            FilterEnd::Filter(FilterStop::Memory) | FilterEnd::Stop(Stop::Memory)
-        )
-    }
-}
-
-impl SettingEnd for RangeOutcome {
-    ghost stopped = { λ o. is_range_stop o.end };
-
-    ghost wanted = { λ o. range_wants_memory o.end };
-
-    fn has_stopped(&self) -> bool {
-        matches!(&self.end, RangeEnd::Range(_) | RangeEnd::Stop(_))
-    }
-
-    fn wants_memory(&self) -> bool {
-        matches!(
-            &self.end,
-            RangeEnd::Range(RangeStop::Memory) | RangeEnd::Stop(Stop::Memory)
-        )
-    }
-}
-
-/// Whether a setting stopped.
-fn has_stop<E: SettingEnd>(outcomes: &[E]) -> bool
-    ensures { result ≡ list_any E.stopped outcomes.now }
+/// Whether each setting is answered.
+fn are_answered<E: SettingEnd>(outcomes: &[E]) -> bool
+    ensures { result ≡ list_all E.answered outcomes.now }
 {
-    outcomes.iter().any(|outcome| outcome.has_stopped())
+    outcomes.iter().all(|outcome| outcome.is_answered())
 }
 
 /// Whether a setting stopped for want of memory.
@@ -90,16 +19,16 @@ fn has_want_of_memory<E: SettingEnd>(outcomes: &[E]) -> bool
     outcomes.iter().any(|outcome| outcome.wants_memory())
 }
 
-/// The status of outcomes: 5 where a setting stopped for want of memory, 6 where another one stopped, else 0.
+/// The status of outcomes: 5 where a setting stopped for want of memory, else 0 where each is answered, and else 6.
 fn status_of_all<E: SettingEnd>(outcomes: &[E]) -> u8
-    ensures { result ≡ status_of_outcomes E.stopped E.wanted outcomes.now }
+    ensures { result ≡ status_of_outcomes E.answered E.wanted outcomes.now }
 {
     if has_want_of_memory(outcomes) {
         5
-    } else if has_stop(outcomes) {
-        6
-    } else {
+    } else if are_answered(outcomes) {
         0
+    } else {
+        6
     }
 }
 

@@ -2,7 +2,7 @@
 use Rattle.std.proofs.Common.{inr, subst}
 use Rattle.dcx_answer.specs.declared.not_ranged.NotRanged.{NotRanged}
 use Rattle.dcx_outcomes.specs.Ranges.{LacksRange}
-use Rattle.dcx_top.proofs.NoRange.{lacking_shape, lacking_map, lacking_coefficient}
+use Rattle.dcx_outcomes.proofs.RangeEnds.{lacking_shape, lacking_map, lacking_coefficient}
 use Rattle.dcx_top.proofs.no_range.fault_place.Goals as goal
 
 pub place_of-requires : goal.place_of-requires
