@@ -2,6 +2,7 @@
 pub mod Multiples
 pub mod Coefficients
 pub mod Numerators
+pub mod Products
 pub mod WholeRows
 pub mod ColumnLaws
 pub mod RowForm

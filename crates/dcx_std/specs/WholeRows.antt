@@ -1,5 +1,5 @@
 -- Rows of whole numbers: by what a row of fractions is multiplied and divided, and in which order its numbers are formed.
-use Rattle.std.specs.Prelude.{ℕ, zero, suc, List, [], ◌∷◌, ◌++◌, map, Option, Some, None, Result, Ok, ℤ, pos}
+use Rattle.std.specs.Prelude.{ℕ, zero, suc, Bool, true, false, List, [], ◌∷◌, ◌++◌, map, Option, Some, None, Result, Ok, ℤ, pos}
 use Rattle.std.specs.List.{range_with_len}
 use Rattle.dcx_math.specs.Rational.{whole, neg_ℚ, ◌/ℚ◌}
 use Rattle.dcx_math.specs.Divisors.{gcd_of, divided}
@@ -39,6 +39,11 @@ coefficients n f = map (coefficient_at f.terms) (range_with_len 0 n)
 abbrev pub opposite : Frac → Frac
 opposite x = frac_at (neg_ℚ (value x))
 
+-- the number, or with its sign turned
+abbrev pub turned_frac : Bool → Frac → Frac
+turned_frac true x = opposite x
+turned_frac false x = x
+
 abbrev pub one_frac : Frac
 one_frac = frac_at (whole (pos 1))
 
@@ -55,6 +60,10 @@ cost_numbers n f = map opposite (coefficients n f) ++ f.constant ∷ one_frac �
 abbrev pub numerators : List (Result Frac Passes) → Result (List ℤ) Passes
 numerators [] = Ok []
 numerators (r ∷ rs) = and_then r (λ x. and_then (numerators rs) (λ zs. Ok (num_of x ∷ zs)))
+
+-- the product with the coefficient of an unknown, or with its opposite
+abbrev pub product_with : Frac → Bool → List (FormTerm Frac) → ℕ → Result Frac Passes
+product_with by is_turned ts u = product_of by (turned_frac is_turned (coefficient_at ts u))
 
 abbrev pub or_one : ℕ → ℕ
 or_one zero = 1

@@ -1,9 +1,8 @@
 //! The scaled program of rows.
 ghost use Rattle.std.specs.Prelude.{◌≡◌, ◌<◌, ◌≤◌, ◌^◌, length, map, Ok, IfOk, IfErr, OnOk};
 ghost use Rattle.std.specs.List.{All};
-ghost use Rattle.dcx_linear.specs.Stops.{Gives};
-ghost use Rattle.dcx_linear.specs.Widths.{form_width, rows_width};
-ghost use Rattle.dcx_std.specs.WholeRows.{row_made, cost_made, IsSparseForm};
+ghost use Rattle.dcx_linear.specs.Widths.{rows_width};
+ghost use Rattle.dcx_std.specs.WholeRows.{row_made, IsSparseForm};
 ghost use Rattle.dcx_std.specs.GivenRows.{given};
 ghost use Rattle.dcx_std.specs.IntegerRows.{passing_from, result_at, StopsAt, IsFitting, AreWhole, IsStopOf, IsMade};
 
@@ -12,10 +11,10 @@ use crate::phase::phase_row;
 use crate::rows::{all_starts, cost_row, int_rows};
 use crate::size::check_size;
 use crate::stop::RowStop;
-use crate::whole::{WholeRow, numbers_of_cost, numbers_of_row, whole_row};
+use crate::whole::{WholeRow, whole_cost, whole_row};
 use dcx_answer::Site;
 use dcx_frac::Frac;
-use dcx_linear::{CoefStop, Form, Row, RowKind, Rows};
+use dcx_linear::{CoefStop, Row, Rows};
 use dcx_tab::{ColumnKinds, IntRows, Program};
 use std::alloc::Global;
 
@@ -30,16 +29,6 @@ fn at_row<T: Drop>(row: u32, given: Result<T, CoefStop>) -> Result<T, RowStop>
     }
 }
 
-/// A row over so many unknowns, made whole.
-fn made_row(alloc: Global, row: &Row<Frac>, count: usize) -> Result<WholeRow, CoefStop>
-    requires { form_width row.now.form ≤ count }
-    ensures made { Gives result (λ r. r ≡ row_made count row.now) }
-    ensures sparse { IsSparseForm row.now.form }
-{
-    let numbers = numbers_of_row(alloc, &row.form, count)?;
-    whole_row(alloc, row.kind, &row.form, &numbers)
-}
-
 /// The rows over so many unknowns, made whole.
 fn made_rows(alloc: Global, rows: &[Row<Frac>], count: usize) -> Result<Vec<WholeRow>, RowStop>
     requires known { rows_width rows.now ≤ count }
@@ -50,20 +39,10 @@ fn made_rows(alloc: Global, rows: &[Row<Frac>], count: usize) -> Result<Vec<Whol
 {
     let mut made = Vec::with_capacity(alloc, rows.len())?;
     'rows: for (index, row) in rows.iter().enumerate() {
-        let whole = at_row(index as u32, made_row(alloc, row, count))?;
+        let whole = at_row(index as u32, whole_row(alloc, row, count))?;
         made.push(whole)?;
     }
     Ok(made)
-}
-
-/// The row `z - cost = constant` over so many unknowns, made whole.
-fn made_cost(alloc: Global, cost: &Form<Frac>, count: usize) -> Result<WholeRow, CoefStop>
-    requires { form_width cost.now ≤ count }
-    ensures made { Gives result (λ r. r ≡ cost_made count cost.now) }
-    ensures sparse { IsSparseForm cost.now }
-{
-    let numbers = numbers_of_cost(alloc, cost, count)?;
-    whole_row(alloc, RowKind::Equal, cost, &numbers)
 }
 
 /// The rows of a program and its objective row, made whole.
@@ -86,7 +65,7 @@ fn whole_program(alloc: Global, rows: &Rows<Frac>) -> Result<WholeProgram, RowSt
     let count = kinds.len();
     let number = list.len() as u32;
     let made = made_rows(alloc, list, count)?;
-    let cost = at_row(number, made_cost(alloc, &rows.objective, count))?;
+    let cost = at_row(number, whole_cost(alloc, &rows.objective, count))?;
     Ok(WholeProgram { rows: made, cost })
 }
 

@@ -1,17 +1,20 @@
 //! Rows of whole numbers: each row of fractions is multiplied and divided until its numbers are whole and in lowest terms.
-ghost use Rattle.std.specs.Prelude.{◌≡◌, ◌≤◌, ◌<◌, ◌^◌, ◌++◌, ◌∷◌, [], map, replicate, length, pos, ◌<ℤ◌, unsigned_abs, IfOk};
+ghost use Rattle.std.specs.Prelude.{◌≡◌, ◌≤◌, ◌<◌, ◌^◌, ◌++◌, map, Ok, pos, ◌<ℤ◌, unsigned_abs, IfOk};
+ghost use Rattle.std.specs.List.{range_with_len};
 ghost use Rattle.dcx_math.specs.Rational.{whole, ◌/ℚ◌};
 ghost use Rattle.dcx_math.specs.Divisors.{gcd_of, divided};
+ghost use Rattle.dcx_math.specs.Rising.{IsRising};
 ghost use Rattle.dcx_frac.specs.Frac.{num_of};
 ghost use Rattle.dcx_frac.specs.Results.{product_of};
-ghost use Rattle.dcx_atom.specs.Formed.{zero_frac, frac_at};
+ghost use Rattle.dcx_atom.specs.Formed.{frac_at, and_then};
+ghost use Rattle.dcx_linear.specs.FormTerms.{unknown_of};
 ghost use Rattle.dcx_linear.specs.Stops.{Gives, GivesBy};
-ghost use Rattle.dcx_linear.specs.Widths.{form_width};
-ghost use Rattle.dcx_std.specs.WholeRows.{coefficients, opposite, row_numbers, cost_numbers, numerators, divisor_of, whole_row_of, IsSparseForm};
+ghost use Rattle.dcx_linear.specs.Widths.{form_width, terms_width};
+ghost use Rattle.dcx_std.specs.WholeRows.{coefficients, opposite, turned_frac, product_with, numerators, divisor_of, whole_row_of, row_made, cost_made, IsSparseForm};
 
 use crate::multiple::{least_multiple, whole_number};
-use dcx_frac::{Frac, Passes, gcd};
-use dcx_linear::{CoefStop, Form, RowKind};
+use dcx_frac::{Frac, gcd};
+use dcx_linear::{CoefStop, Form, FormTerm, Row, RowKind};
 use dcx_tab::Ints;
 use std::alloc::{AllocError, Global};
 
@@ -26,31 +29,6 @@ pub(crate) struct WholeRow {
     pub(crate) factor: Frac,
 }
 
-/// So many zeros.
-fn zeros(alloc: Global, count: usize) -> Result<Vec<Frac>, AllocError>
-    ensures { IfOk result (λ v. v.items ≡ replicate count zero_frac) }
-{
-    let mut zeros = Vec::with_capacity(alloc, count)?;
-    'zeros: for _ in 0..count {
-        zeros.push(Frac::zero())?;
-    }
-    Ok(zeros)
-}
-
-/// The coefficient of each of so many unknowns.
-fn all_coefficients(alloc: Global, form: &Form<Frac>, count: usize) -> Result<Vec<Frac>, AllocError>
-    requires { form_width form.now ≤ count }
-    ensures coefficients { IfOk result (λ v. v.items ≡ coefficients count form.now) }
-    ensures sparse { IsSparseForm form.now }
-{
-    let terms = form.terms.as_slice();
-    let mut found = zeros(alloc, count)?;
-    'terms: for term in terms {
-        found[term.unknown as usize] = term.coefficient;
-    }
-    Ok(found)
-}
-
 /// The number with its sign turned.
 fn negative(number: &Frac) -> Frac
     ensures { result ≡ opposite number.now }
@@ -58,47 +36,11 @@ fn negative(number: &Frac) -> Frac
     number.neg()
 }
 
-/// The numbers with their signs turned.
-fn negatives(alloc: Global, numbers: &[Frac]) -> Result<Vec<Frac>, AllocError>
-    ensures { IfOk result (λ v. v.items ≡ map opposite numbers.now) }
+/// The number, or the number with its sign turned.
+fn turned_fraction(is_turned: bool, number: &Frac) -> Frac
+    ensures { result ≡ turned_frac is_turned number.now }
 {
-    let mut turned = Vec::with_capacity(alloc, numbers.len())?;
-    'numbers: for number in numbers {
-        turned.push(negative(number))?;
-    }
-    Ok(turned)
-}
-
-/// The numbers of a row, its constant taken to the right: the coefficients, and the right side.
-pub(crate) fn numbers_of_row(
-    alloc: Global,
-    form: &Form<Frac>,
-    count: usize,
-) -> Result<Vec<Frac>, AllocError>
-    requires { form_width form.now ≤ count }
-    ensures numbers { IfOk result (λ v. v.items ≡ row_numbers count form.now) }
-    ensures sparse { IsSparseForm form.now }
-{
-    let mut numbers = all_coefficients(alloc, form, count)?;
-    numbers.push(negative(&form.constant))?;
-    Ok(numbers)
-}
-
-/// The numbers of the row `z - cost = constant`: the coefficients, the right side, and the coefficient of z.
-pub(crate) fn numbers_of_cost(
-    alloc: Global,
-    form: &Form<Frac>,
-    count: usize,
-) -> Result<Vec<Frac>, AllocError>
-    requires { form_width form.now ≤ count }
-    ensures numbers { IfOk result (λ v. v.items ≡ cost_numbers count form.now) }
-    ensures sparse { IsSparseForm form.now }
-{
-    let costs = all_coefficients(alloc, form, count)?;
-    let mut numbers = negatives(alloc, &costs)?;
-    numbers.push(form.constant)?;
-    numbers.push(Frac::one())?;
-    Ok(numbers)
+    if is_turned { negative(number) } else { *number }
 }
 
 /// The upper part of a fraction.
@@ -109,27 +51,38 @@ pub(crate) fn numerator(number: Frac) -> i128
     number.num()
 }
 
-/// The product of two numbers. Most numbers of a row are 0, and a product with 0 isn't formed.
-///
-/// `Passes` where the product passes 128 bits.
-fn times(by: &Frac, number: &Frac) -> Result<Frac, Passes>
-    ensures { result ≡ product_of by.now number.now }
-{
-    if number.is_zero() {
-        return Ok(Frac::zero());
-    }
-    by.mul(*number)
-}
-
-/// The products with a number, which are whole.
+/// The products with the coefficients of so many unknowns, or with the opposites; they are whole. An unknown that isn't listed
+/// has 0, and a product with 0 isn't formed.
 ///
 /// `Passes` where a product passes 128 bits: the first one.
-fn products(alloc: Global, by: &Frac, numbers: &[Frac]) -> Result<Vec<i128>, CoefStop>
-    ensures { GivesBy result (λ v. v.items) (λ r. r ≡ numerators (map (product_of by.now) numbers.now)) }
+fn products(
+    alloc: Global,
+    by: &Frac,
+    terms: &[FormTerm<Frac>],
+    count: usize,
+    is_turned: bool,
+) -> Result<Vec<i128>, CoefStop>
+    requires known { terms_width terms.now ≤ count }
+    requires rising { IsRising unknown_of terms.now }
+    ensures { GivesBy result (λ v. v.items) (λ r. r ≡ numerators (map (product_with by.now is_turned terms.now) (range_with_len 0 count))) }
 {
-    let mut products = Vec::with_capacity(alloc, numbers.len())?;
+    let mut products = vec![in alloc; 0; count]?;
+    'terms: for term in terms {
+        let product = by.mul(turned_fraction(is_turned, &term.coefficient))?;
+        products[term.unknown as usize] = numerator(product);
+    }
+    Ok(products)
+}
+
+/// The products so far, and behind them those with more numbers, which are whole.
+///
+/// `Passes` where a product passes 128 bits: the first one.
+fn more_products(products: Vec<i128>, by: &Frac, numbers: &[Frac]) -> Result<Vec<i128>, CoefStop>
+    ensures { GivesBy result (λ v. v.items) (λ r. r ≡ and_then (numerators (map (product_of by.now) numbers.now)) (λ more. Ok (products.items ++ more))) }
+{
+    let mut products = products;
     'numbers: for number in numbers {
-        let product = times(by, number)?;
+        let product = by.mul(*number)?;
         products.push(numerator(product))?;
     }
     Ok(products)
@@ -211,25 +164,56 @@ fn factor(multiple: i128, divisor: i128) -> Frac
     }
 }
 
-/// The row of these numbers made whole: multiplied by the least common multiple of the form's denominators, and then
-/// divided by the greatest common divisor of the row.
+/// The row of a form's coefficients, or of their opposites, and of the numbers behind them, made whole: multiplied by the least
+/// common multiple of the form's denominators, and then divided by the greatest common divisor of the row.
 ///
 /// `Passes` where a multiple or a product passes 128 bits: the first one.
-pub(crate) fn whole_row(
+fn whole_numbers(
     alloc: Global,
     kind: RowKind,
     form: &Form<Frac>,
-    numbers: &[Frac],
+    count: usize,
+    is_turned: bool,
+    behind: &[Frac],
 ) -> Result<WholeRow, CoefStop>
-    ensures { Gives result (λ r. r ≡ whole_row_of kind form.now numbers.now) }
+    requires { form_width form.now ≤ count }
+    ensures made { Gives result (λ r. r ≡ whole_row_of kind form.now (map (turned_frac is_turned) (coefficients count form.now) ++ behind.now)) }
+    ensures sparse { IsSparseForm form.now }
 {
+    let terms = form.terms.as_slice();
     let multiple = least_multiple(form)?;
-    let products = products(alloc, &whole_number(multiple), numbers)?;
-    let by = signed(divisor(&products));
-    let quotients = reduced(alloc, products, by)?;
+    let by = whole_number(multiple);
+    let products = products(alloc, &by, terms, count, is_turned)?;
+    let numbers = more_products(products, &by, behind)?;
+    let divisor = signed(divisor(&numbers));
+    let quotients = reduced(alloc, numbers, divisor)?;
     Ok(WholeRow {
         kind,
         numbers: Ints::from_vec(quotients),
-        factor: factor(signed(multiple), by),
+        factor: factor(signed(multiple), divisor),
     })
+}
+
+/// A row over so many unknowns, made whole, its constant taken to the right: the coefficients, and the right side.
+pub(crate) fn whole_row(alloc: Global, row: &Row<Frac>, count: usize) -> Result<WholeRow, CoefStop>
+    requires { form_width row.now.form ≤ count }
+    ensures made { Gives result (λ r. r ≡ row_made count row.now) }
+    ensures sparse { IsSparseForm row.now.form }
+{
+    let right = negative(&row.form.constant);
+    whole_numbers(alloc, row.kind, &row.form, count, false, &[right])
+}
+
+/// The row `z - cost = constant` over so many unknowns, made whole: the coefficients, the right side, and the coefficient of z.
+pub(crate) fn whole_cost(
+    alloc: Global,
+    cost: &Form<Frac>,
+    count: usize,
+) -> Result<WholeRow, CoefStop>
+    requires { form_width cost.now ≤ count }
+    ensures made { Gives result (λ r. r ≡ cost_made count cost.now) }
+    ensures sparse { IsSparseForm cost.now }
+{
+    let behind = [cost.constant, Frac::one()];
+    whole_numbers(alloc, RowKind::Equal, cost, count, true, &behind)
 }

@@ -12,8 +12,8 @@ use Rattle.dcx_std.specs.IntegerRows.{passing_from, StopsAt}
 use Rattle.dcx_std.proofs.Making.{row_narrow, row_passes, stops_so, gives_so, made_next}
 use Rattle.dcx_std.proofs.program.made_rows.Goals as goal
 
-pub made_row-requires : goal.made_row-requires
-made_row-requires c =
+pub whole_row-requires : goal.whole_row-requires
+whole_row-requires c =
     let rows = c.args.rows.now in
     let row = c.index-rows-index.result in
     row_narrow rows c.args.count c.rows.index row c.requires.known (slice_get_read rows (length rows) c.rows.index row refl (omega arith) c.index-rows-index.is)
@@ -25,7 +25,7 @@ returns-in_err-whole-clause-stops c =
     let n = c.args.count in
     let row = c.index-rows-index.result in
     rw (p.1, p.2)
-    (stops_so c.rows.index c.made_row.result _ (λ e. StopsAt e (passing_from 0 (map (row_made n) rows))) (row_made n row) (sym c.at_row.ensures ∙ c.in_err-whole.was) c.made_row.ensures.made tt
+    (stops_so c.rows.index c.whole_row.result _ (λ e. StopsAt e (passing_from 0 (map (row_made n) rows))) (row_made n row) (sym c.at_row.ensures ∙ c.in_err-whole.was) c.whole_row.ensures.made tt
     (λ passes f. row_passes n rows c.rows.made.items c.rows.index row passes (omega arith) c.index-rows-index.is c.rows.invariant.made f))
 
 pub rows-preserved : goal.rows-preserved
@@ -35,11 +35,11 @@ rows-preserved c =
     let i = c.rows.index in
     let row = c.index-rows-index.result in
     let w = c.in_ok-whole.whole in
-    let is_made = gives_so i c.made_row.result w (row_made n row) (sym c.at_row.ensures ∙ c.in_ok-whole.was) c.made_row.ensures.made in
+    let is_made = gives_so i c.whole_row.result w (row_made n row) (sym c.at_row.ensures ∙ c.in_ok-whole.was) c.whole_row.ensures.made in
     record {
       made = made_next n rows i row c.rows.made.items c.push.new.self.items w (omega arith) c.index-rows-index.is c.rows.invariant.made is_made c.in_ok-push.ensures.items;
       sparse = All-more (λ (r : Row Frac). IsSparseForm r.form) rows i row (omega arith) c.rows.invariant.sparse
-          (subst (λ (r : Row Frac). IsSparseForm r.form) c.index-rows-index.is c.made_row.ensures.sparse);
+          (subst (λ (r : Row Frac). IsSparseForm r.form) c.index-rows-index.is c.whole_row.ensures.sparse);
     }
 
 pub returns-clause-rows : goal.returns-clause-rows

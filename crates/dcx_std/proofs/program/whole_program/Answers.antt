@@ -20,8 +20,8 @@ made_rows-requires-clause-known c =
     let k : length c.as_slice-kinds.result.now ≡ length rows.kinds = ap length c.as_slice-kinds.ensures in
     omega (arith, l, k)
 
-pub made_cost-requires : goal.made_cost-requires
-made_cost-requires c =
+pub whole_cost-requires : goal.whole_cost-requires
+whole_cost-requires c =
     let rows = c.args.rows.now in
     let l = rows.objective_known in
     let k : length c.as_slice-kinds.result.now ≡ length rows.kinds = ap length c.as_slice-kinds.ensures in
@@ -43,10 +43,10 @@ returns-in_err-cost-clause-stops c =
     let rows = c.args.rows.now in
     let k : length c.as_slice-kinds.result.now ≡ length rows.kinds = ap length c.as_slice-kinds.ensures in
     rw (p.1, p.2)
-    (cost_stop (given rows.kinds rows.rows rows.objective) c.requires c.in_ok-made.made.items c.made_cost.result _
+    (cost_stop (given rows.kinds rows.rows rows.objective) c.requires c.in_ok-made.made.items c.whole_cost.result _
     (c.in_ok-made.ensures.rows ∙ ap₂ (λ n rs. map (row_made n) rs) k c.as_slice-list.ensures)
-    (ap (λ l. result_at l c.made_cost.result) (sym (ap length c.as_slice-list.ensures)) ∙ sym c.at_row.ensures ∙ c.in_err-cost.was)
-    (subst (λ n. Gives c.made_cost.result (λ a. a ≡ cost_made n rows.objective)) k c.made_cost.ensures.made))
+    (ap (λ l. result_at l c.whole_cost.result) (sym (ap length c.as_slice-list.ensures)) ∙ sym c.at_row.ensures ∙ c.in_err-cost.was)
+    (subst (λ n. Gives c.whole_cost.result (λ a. a ≡ cost_made n rows.objective)) k c.whole_cost.ensures.made))
 
 pub returns-clause-whole : goal.returns-clause-whole
 returns-clause-whole c =
@@ -54,8 +54,8 @@ returns-clause-whole c =
     let k : length c.as_slice-kinds.result.now ≡ length rows.kinds = ap length c.as_slice-kinds.ensures in
     record {
       sparse = subst (All (λ (r : Row Frac). IsSparseForm r.form)) c.as_slice-list.ensures c.in_ok-made.ensures.sparse;
-      sparse_cost = c.made_cost.ensures.sparse;
+      sparse_cost = c.whole_cost.ensures.sparse;
       are = sym (c.in_ok-made.ensures.rows ∙ ap₂ (λ n rs. map (row_made n) rs) k c.as_slice-list.ensures);
-      cost = ap (λ n. cost_made n rows.objective) (sym k) ∙ gives_so _ c.made_cost.result c.in_ok-cost.cost (cost_made (length c.as_slice-kinds.result.now) rows.objective)
-          (sym c.at_row.ensures ∙ c.in_ok-cost.was) c.made_cost.ensures.made;
+      cost = ap (λ n. cost_made n rows.objective) (sym k) ∙ gives_so _ c.whole_cost.result c.in_ok-cost.cost (cost_made (length c.as_slice-kinds.result.now) rows.objective)
+          (sym c.at_row.ensures ∙ c.in_ok-cost.was) c.whole_cost.ensures.made;
     }

@@ -1,9 +1,12 @@
--- The numerators so far, followed by those of the rest, are all.
-use Rattle.std.proofs.Common.{◌≡◌, map, drop}
-use Rattle.dcx_frac.specs.Results.{product_of}
-use Rattle.dcx_linear.proofs.Formed.{after}
-use Rattle.dcx_std.specs.WholeRows.{numerators}
+-- In the place of each unknown stands the product with the coefficient that the terms so far tell.
+use Rattle.std.proofs.Common.{◌≡◌, ℕ, ◌<◌, length, take}
+use Rattle.dcx_tab.specs.Rows.{entry}
+use Rattle.dcx_std.specs.WholeRows.{product_with}
+use Rattle.dcx_std.proofs.Products.{IsNumerator}
 use Rattle.dcx_std.proofs.whole.products.Given as goal
 
-abbrev pub invariant-numbers : goal.invariant-numbers
-invariant-numbers l = after l.products.items (numerators (map (product_of l.by) (drop l.number-index l.numbers))) ≡ numerators (map (product_of l.by) l.numbers)
+abbrev pub invariant-terms : goal.invariant-terms
+invariant-terms l = record {
+  count : length l.products.items ≡ l.count;
+  told : (u : ℕ) → u < l.count → IsNumerator (product_with l.by l.is_turned (take l.term-index l.terms) u) (entry l.products.items u);
+}
