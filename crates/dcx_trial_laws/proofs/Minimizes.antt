@@ -155,7 +155,7 @@ unfolding trial_tree
 asks size =
     then-line IsLed AsksToMinimize (import_line Cvxpy (codes "cp") 1) (from_numpy size) start (import-gives IsLed Cvxpy (codes "cp") 1 start ([], refl)) (λ s1 h1.
     then-line IsLed AsksToMinimize (import_line Numpy (codes "np") 2) (from_t size) s1 (import-gives IsLed Numpy (codes "np") 2 s1
-        (led-behind (stepped s1) (codes "np") (library Numpy) refl h1)) (λ s2 h2.
+    (led-behind (stepped s1) (codes "np") (library Numpy) refl h1)) (λ s2 h2.
     then-line IsLed AsksToMinimize (array_line (codes "t") 3 (places size)) (from_b size) s2 (led-line (named_at (codes "t") 3 1) (array_of 3 (places size)) s2 refl h2) (λ s3 h3.
     then-line IsLed AsksToMinimize (array_line (codes "b") 4 (heights size)) from_s s3 (led-line (named_at (codes "b") 4 1) (array_of 4 (heights size)) s3 refl h3) (λ s4 h4.
     then-line IsLed AsksToMinimize (variable_line (codes "s") 5) from_a s4 (led-line (named_at (codes "s") 5 1) (variable_of 5) s4 refl h4) (λ s5 h5.
