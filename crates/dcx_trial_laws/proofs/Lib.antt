@@ -1,4 +1,13 @@
--- What comes of the lines of the made-up script, one after the other.
+-- The lemmas by which the script is read piece by piece, and by which its lines are carried out, one after the other.
+pub mod Numbers
+pub mod Pieces
+pub mod Tests
+pub mod Steps
+pub mod Arrives
+pub mod Script
+pub mod Lists
+pub mod Parsed
+pub mod Accepted
 mod Acts
 mod Calls
 mod Minimizes

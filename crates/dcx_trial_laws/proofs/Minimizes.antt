@@ -1,5 +1,5 @@
 -- What a trial asks at its end: something to be minimized.
-use Rattle.std.proofs.Common.{◌≡◌, ℕ, nat_eq, Bool, true, false, cond, codes, List, [], ◌∷◌, Option, Some, None, is_none, Result, Ok, Err, refl, ap, subst, sym, ◌∙◌}
+use Rattle.std.proofs.Common.{◌≡◌, ℕ, nat_eq, true, false, cond, codes, List, [], ◌∷◌, Option, Some, None, is_none, Result, Ok, Err, refl, ap, subst, sym, ◌∙◌}
 use Rattle.std.specs.Map.{lookup}
 use Rattle.std.proofs.lemmas.Option.{same_Some}
 use Rattle.indexmap.specs.IndexMap.{insert_entry}
@@ -9,6 +9,7 @@ use Rattle.dcx_point.specs.Pairs.{same_name}
 use Rattle.dcx_tree.specs.declared.constraint.Sense.TheVariants.{Minimize}
 use Rattle.dcx_syntax.specs.declared.tree.Module.TheVariants.{Cvxpy, Numpy}
 use Rattle.dcx_syntax.specs.declared.tree.Named.{Named}
+use Rattle.dcx_syntax.specs.declared.tree.Script.{Script}
 use Rattle.dcx_syntax.specs.Expressions.{Expr, Postfix, postfix, no_trailer, no_args, args, args_end, by_name, truth_at}
 use Rattle.dcx_syntax.specs.Statements.{Line, assign, Lines, lines, no_lines}
 use Rattle.dcx_syntax.specs.View.{script_view}
@@ -21,6 +22,7 @@ use Rattle.dcx_signature.specs.declared.table.Function.TheVariants as functions
 use Rattle.dcx_signature.specs.Table.{row, e_word}
 use Rattle.dcx_signature.specs.Arguments.{Given, Bound, matched, bound_of}
 use Rattle.dcx_functions.specs.Calls.{operand_for, objective_of, problem_of, function_called}
+use Rattle.dcx_elab.specs.declared.work.Work.{Work}
 use Rattle.dcx_elab.specs.Expressions.{expr_means, args_mean}
 use Rattle.dcx_elab.specs.Statements.{line_means, lines_mean}
 use Rattle.dcx_elab.specs.Meaning.{ended_with, ended, Elaborates}
@@ -40,7 +42,6 @@ use Rattle.dcx_trial_laws.specs.Tree.{
   problem_line,
   trial_tree,
 }
-use Rattle.dcx_trial_laws.specs.Meaning.{TrialsMinimize}
 use Rattle.dcx_trial_laws.proofs.Acts.{Gives, Anything, ok-gives, any-gives, then-gives, unless-then}
 use Rattle.dcx_trial_laws.proofs.Calls.{function-gives, call-gives, given_of, OneGiven, one_arg-gives, expr_of-gives, stepped, with_name, import-gives, assign-gives, names-gives}
 
@@ -181,7 +182,8 @@ carried_out (Ok x) s q h = let (same, own) = by x.1.asked refl h in (ap (λ u. O
     by None is k = absurd cc
     by (Some p) is k = let same = ap state_of k in (same, ap (λ (u : State). u.asked) (sym same) ∙ is ∙ ap Some (ap asked_in k))
 
-pub trials_minimize : TrialsMinimize
+-- a problem that a script of this tree stands for minimizes
+pub trials_minimize : (size : ℕ) (script : Script) → script_view script ≡ trial_tree size → (work : Work) → Elaborates (Ok work) script → work.problem.sense ≡ Minimize
 trials_minimize size script is work (s, (q, (means, from))) =
     let (ran, own) = carried_out (lines_mean (script_view script) start) s q means in
     let (p, asked, least) = (asks size).at tt s (ap (λ ls. lines_mean ls start) (sym is) ∙ ran) in

@@ -1,12 +1,12 @@
--- What the made-up script stands for, where it is carried out.
+-- What the made-up script stands for, where it is read and carried out.
 use Rattle.std.specs.Prelude.{◌≡◌, ℕ, Ok}
 use Rattle.dcx_tree.specs.declared.constraint.Sense.TheVariants.{Minimize}
 use Rattle.dcx_syntax.specs.declared.tree.Script.{Script}
-use Rattle.dcx_syntax.specs.View.{script_view}
+use Rattle.dcx_read.specs.Parses.{IsReading}
 use Rattle.dcx_elab.specs.declared.work.Work.{Work}
 use Rattle.dcx_elab.specs.Meaning.{Elaborates}
-use Rattle.dcx_trial_laws.specs.Tree.{trial_tree}
+use Rattle.dcx_trial.specs.Trial.{trial_text}
 
--- a problem that a script of this tree stands for minimizes
-abbrev pub TrialsMinimize : Type 0
-TrialsMinimize = (size : ℕ) (script : Script) → script_view script ≡ trial_tree size → (work : Work) → Elaborates (Ok work) script → work.problem.sense ≡ Minimize
+-- a problem that the script of a size stands for minimizes
+abbrev pub TrialMinimizes : Type 0
+TrialMinimizes = (size : ℕ) (script : Script) → IsReading (trial_text size) (Ok script) → (work : Work) → Elaborates (Ok work) script → work.problem.sense ≡ Minimize

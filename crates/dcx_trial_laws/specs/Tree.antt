@@ -3,7 +3,6 @@ use Rattle.std.specs.Prelude.{ℕ, ◌+◌, true, pos, codes, decimal, List, [],
 use Rattle.dcx_math.specs.Rational.{whole}
 use Rattle.dcx_atom.specs.Formed.{frac_at}
 use Rattle.dcx_shape.specs.declared.place.Place.{Place}
-use Rattle.dcx_syntax.specs.declared.tree.Import.{Import}
 use Rattle.dcx_syntax.specs.declared.tree.Module.{Module}
 use Rattle.dcx_syntax.specs.declared.tree.Module.TheVariants.{Cvxpy, Numpy}
 use Rattle.dcx_syntax.specs.declared.tree.Named.{Named}
