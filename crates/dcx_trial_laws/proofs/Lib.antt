@@ -11,3 +11,10 @@ pub mod Accepted
 mod Acts
 mod Calls
 mod Minimizes
+mod Judged
+mod Grades
+mod Later
+mod Graded
+mod Declared
+mod Objective
+mod Dpp

@@ -80,7 +80,7 @@ minimize-gives place bound s =
     (then-gives Anything IsToMinimize (pushed place x t) _ (any-gives (pushed place x t)) (λ i u _. ok-gives IsToMinimize (objective_value Minimize i place) u (i, place, refl))))
 
 -- `Problem(..)` of what is to be minimized
-abbrev asked_of : ℕ → Place → Asked
+abbrev pub asked_of : ℕ → Place → Asked
 asked_of i p = record { sense = Minimize; objective = i; objective_place = p; constraints = [] }
 
 problem-gives : (place : Place) (i : ℕ) (p : Place) (x : Expr) (s : State)
@@ -90,7 +90,7 @@ problem-gives place i p x s =
     (unless-then (λ _ t. AsksToMinimize t) (TwoProblems place) (is_none s.asked) s _
     (ok-gives (λ _ t. AsksToMinimize t) problem (record s { asked = Some (asked_of i p) }) (asked_of i p, refl, refl)))
 
-abbrev minimized : Expr
+abbrev pub minimized : Expr
 minimized = expr_of (called_at (codes "cp") (codes "Minimize") 8 19 30 (one_arg objective))
 
 minimized-gives : (s : State) → IsLed s → Gives IsToMinimize (expr_means minimized s)
@@ -116,39 +116,39 @@ problem_line-gives s h =
         (problem-gives (place_at 8 8) i place minimized t)))
 
 -- ---- all lines
-then-line : (P Q : State → Type 0) (x : Line) (rest : Lines) (s : State) → Gives (λ _ t. P t) (line_means x s) → ((t : State) → P t → Gives (λ _ u. Q u) (lines_mean rest t))
+pub then-line : (P Q : State → Type 0) (x : Line) (rest : Lines) (s : State) → Gives (λ _ t. P t) (line_means x s) → ((t : State) → P t → Gives (λ _ u. Q u) (lines_mean rest t))
     → Gives (λ _ u. Q u) (lines_mean (lines x rest) s)
 then-line P Q x rest s g h = then-gives (λ _ t. P t) (λ _ u. Q u) (line_means x s) (λ _. lines_mean rest) g (λ _ t p. h t p)
 
 -- the lines from one on
-abbrev from_problem : Lines
+abbrev pub from_problem : Lines
 from_problem = lines problem_line no_lines
 
-abbrev from_q : Lines
+abbrev pub from_q : Lines
 from_q = lines parameter_line from_problem
 
-abbrev from_a : Lines
+abbrev pub from_a : Lines
 from_a = lines (variable_line (codes "a") 6) from_q
 
-abbrev from_s : Lines
+abbrev pub from_s : Lines
 from_s = lines (variable_line (codes "s") 5) from_a
 
-abbrev from_b : ℕ → Lines
+abbrev pub from_b : ℕ → Lines
 from_b size = lines (array_line (codes "b") 4 (heights size)) from_s
 
-abbrev from_t : ℕ → Lines
+abbrev pub from_t : ℕ → Lines
 from_t size = lines (array_line (codes "t") 3 (places size)) (from_b size)
 
-abbrev from_numpy : ℕ → Lines
+abbrev pub from_numpy : ℕ → Lines
 from_numpy size = lines (import_line Numpy (codes "np") 2) (from_t size)
 
-abbrev array_of : (line : ℕ) → List ℕ → Postfix
+abbrev pub array_of : (line : ℕ) → List ℕ → Postfix
 array_of line numbers = called_at (codes "np") (codes "array") line 5 13 (one_arg (expr_of (postfix (numbers_list line numbers) no_trailer)))
 
-abbrev variable_of : (line : ℕ) → Postfix
+abbrev pub variable_of : (line : ℕ) → Postfix
 variable_of line = called_at (codes "cp") (codes "Variable") line 5 16 no_args
 
-abbrev parameter_of : Postfix
+abbrev pub parameter_of : Postfix
 parameter_of = called_at (codes "cp") (codes "Parameter") 7 5 17 (args (by_name (named_at (codes "nonneg") 7 18) (expr_of (postfix (truth_at true (place_at 7 25)) no_trailer))) args_end)
 
 asks : (size : ℕ) → Gives (λ _ t. AsksToMinimize t) (lines_mean (trial_tree size) start)
@@ -166,7 +166,7 @@ asks size =
 
 -- ---- the law
 -- a script that has a meaning has been carried out to its end
-carried_out : (r : Result (Unit {0} × State) ElabFault) (s : State) (q : Asked) → ended r ≡ Ok (s, q) → (r ≡ Ok (tt, s)) × (s.asked ≡ Some q)
+pub carried_out : (r : Result (Unit {0} × State) ElabFault) (s : State) (q : Asked) → ended r ≡ Ok (s, q) → (r ≡ Ok (tt, s)) × (s.asked ≡ Some q)
 carried_out (Err e) s q h = absurd cc
 carried_out (Ok x) s q h = let (same, own) = by x.1.asked refl h in (ap (λ u. Ok (tt, u)) same, own)
   where

@@ -1,6 +1,7 @@
 -- What the made-up script stands for, where it is read and carried out.
 use Rattle.std.specs.Prelude.{◌≡◌, ℕ, Ok}
 use Rattle.dcx_tree.specs.declared.constraint.Sense.TheVariants.{Minimize}
+use Rattle.dcx_tree.specs.Meaning.{IsDpp}
 use Rattle.dcx_syntax.specs.declared.tree.Script.{Script}
 use Rattle.dcx_read.specs.Parses.{IsReading}
 use Rattle.dcx_elab.specs.declared.work.Work.{Work}
@@ -10,3 +11,7 @@ use Rattle.dcx_trial.specs.Trial.{trial_text}
 -- a problem that the script of a size stands for minimizes
 abbrev pub TrialMinimizes : Type 0
 TrialMinimizes = (size : ℕ) (script : Script) → IsReading (trial_text size) (Ok script) → (work : Work) → Elaborates (Ok work) script → work.problem.sense ≡ Minimize
+
+-- the rules accept a problem that the script of a size stands for, also where parameters are affine
+abbrev pub TrialIsAccepted : Type 0
+TrialIsAccepted = (size : ℕ) (script : Script) → IsReading (trial_text size) (Ok script) → (work : Work) → Elaborates (Ok work) script → IsDpp work.problem
