@@ -105,14 +105,15 @@ module _ (p : Problem) (setting : Pairs) (marks : List Bool) (old : List (Option
     pub stays : StaysKept old arrays
     pub some : (k : ℕ) → k < i → IsMarked marks k → IsSome (array_at arrays k)
     pub passed : (k : ℕ) → k < i → (divisor_step p setting k).passes
+    pub only : (j : ℕ) → IsSome (array_at arrays j) → IsBelowDivisor p j ⊎ IsSome (array_at old j)
 
   pub passed_none : AreKeptValues p setting [] old → HavePassed 0 old
-  passed_none h = record { values = h; stays = stays_same old; some = λ k b m. absurd (omega (arith, b)); passed = λ k b. absurd (omega (arith, b)) }
+  passed_none h = record { values = h; stays = stays_same old; some = λ k b m. absurd (omega (arith, b)); passed = λ k b. absurd (omega (arith, b)); only = λ j s. inr s }
 
   module _ (below : AreBelowDivisors) (i : ℕ) (arrays : List (Option Array)) (h : HavePassed i arrays) where
     pub passed_more : (now : List (Option Array)) → AreKeptValues p setting [] now → StaysKept arrays now → (IsMarked marks i → IsSome (array_at now i)) → (divisor_step p setting i).passes
-        → HavePassed (i + 1) now
-    passed_more now values stays here passes = record {
+        → ((j : ℕ) → IsSome (array_at now j) → IsBelowDivisor p j ⊎ IsSome (array_at arrays j)) → HavePassed (i + 1) now
+    passed_more now values stays here passes only = record {
       values = values;
       stays = stays_on old arrays now h.stays stays;
       some = λ k b m. elim (cases_eq k i) [
@@ -123,6 +124,7 @@ module _ (p : Problem) (setting : Pairs) (marks : List Bool) (old : List (Option
         | inl z ↦ subst (λ j. (divisor_step p setting j).passes) (sym z) passes
         | inr other ↦ h.passed k (omega (arith, b, other))
       ];
+      only = λ j s. elim (only j s) [ inl b ↦ inl b | inr was ↦ h.only j was ];
     }
 
     kept_or_marked : (a : ℕ) → a < i → IsMarked marks a ⊎ IsSome (array_at old a) → IsSome (array_at arrays a)

@@ -55,6 +55,14 @@ module _ (arrays : List (Option Array)) (i : ℕ) (v : Array) (lt : i < length a
   set_was : (k : ℕ) → (k ≡ i → ⊥) → IsSome (array_at (set arrays i (Some v)) k) → IsSome (array_at arrays k)
   set_was k other s = subst IsSome (set_there k other) s
 
+  pub set_only : (k : ℕ) → IsSome (array_at (set arrays i (Some v)) k) → (k ≡ i) ⊎ IsSome (array_at arrays k)
+  set_only k s = elim (cases_eq k i) [ inl z ↦ inl z | inr other ↦ inr (set_was k other s) ]
+
+-- what is kept is marked or was kept, with one more node that is marked
+pub only_more : (marks : List Bool) (old arrays now : List (Option Array)) (n : ℕ) → IsMarked marks n → ((j : ℕ) → IsSome (array_at arrays j) → IsMarked marks j ⊎ IsSome (array_at old j))
+    → ((j : ℕ) → IsSome (array_at now j) → (j ≡ n) ⊎ IsSome (array_at arrays j)) → (j : ℕ) → IsSome (array_at now j) → IsMarked marks j ⊎ IsSome (array_at old j)
+only_more marks old arrays now n m before more j s = elim (more j s) [ inl e ↦ inl (subst (IsMarked marks) (sym e) m) | inr was ↦ before j was ]
+
 module _ (p : Problem) (setting point : Pairs) where
   pub values_none : (arrays : List (Option Array)) → length arrays ≡ length p.tree → ((i : ℕ) → array_at arrays i ≡ None) → AreKeptValues p setting point arrays
   values_none arrays count none = record {
@@ -103,6 +111,7 @@ module _ (p : Problem) (setting point : Pairs) where
     pub values : AreKeptValues p setting point arrays
     pub stays : StaysKept old arrays
     pub some : (k : ℕ) → k < n → IsMarked marks k → IsSome (array_at arrays k)
+    pub only : (j : ℕ) → IsSome (array_at arrays j) → IsMarked marks j ⊎ IsSome (array_at old j)
 
   module _ (marks : List Bool) (old : List (Option Array)) where
     -- the arguments of a marked node are kept

@@ -8,3 +8,5 @@ pub mod Nonzero
 pub mod Comparing
 pub mod Weaker
 pub mod Dividing
+pub mod Anywhere
+pub mod Left

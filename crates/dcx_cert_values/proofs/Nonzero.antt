@@ -8,7 +8,6 @@ use Rattle.dcx_affine.specs.declared.pairing.Pairing.TheVariants.{Over}
 use Rattle.dcx_point.specs.Pairs.{Pairs}
 use Rattle.dcx_arena.specs.Nodes as arena
 use Rattle.dcx_arena.specs.Nodes.{IsNode}
-use Rattle.dcx_convex.specs.Nodes as nodes
 use Rattle.dcx_convex.specs.Nodes.{Numbers, Point, zeros, arguments}
 use Rattle.dcx_convex.specs.Rules.{Plain}
 use Rattle.dcx_convex.proofs.Signs.{value_fixed}

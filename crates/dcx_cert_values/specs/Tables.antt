@@ -1,5 +1,5 @@
 -- Values of nodes that are kept in a table with a place for each node.
-use Rattle.std.specs.Prelude.{◌≡◌, ℕ, ◌<◌, true, Bool, List, length, Option, Some, IsSome}
+use Rattle.std.specs.Prelude.{◌≡◌, ℕ, ◌<◌, true, false, Bool, List, length, Option, Some, None, IsSome}
 use Rattle.dcx_atom.specs.declared.array.Array.{Array}
 use Rattle.dcx_point.specs.Pairs.{Pairs}
 use Rattle.dcx_arena.specs.Nodes.{args_at}
@@ -30,3 +30,12 @@ AreKeptWhere marks arrays = (i : ℕ) → IsMarked marks i → IsSome (array_at 
 -- the value of each node that reaches no variable is kept
 abbrev pub AreKeptFixed : Problem → List (Option Array) → Type 0
 AreKeptFixed p arrays = (i : ℕ) → i < length p.tree → IsFixedNode p i → IsSome (array_at arrays i)
+
+-- nothing is kept but values of nodes that reach no variable
+abbrev pub AreOnlyFixed : Problem → List (Option Array) → Type 0
+AreOnlyFixed p arrays = (i : ℕ) → IsSome (array_at arrays i) → IsFixedNode p i
+
+-- a value where it is wanted
+abbrev pub kept_if : Bool → Option Array → Option Array
+kept_if true value = value
+kept_if false value = None

@@ -10,6 +10,7 @@
 //! | what is kept is the value of its node, and the values below it are kept | `AreKeptValues` of `specs/Tables.antt` |
 //! | the nodes that roots reach are formed and kept, or the first that isn't formed stops the check; what was kept stays | `Values::form` |
 //! | the same of the nodes that reach no variable | `Values::form_fixed` |
+//! | values of marked nodes alone are left | `Values::keep` |
 //! | the same of the divisors of quotients, none of whose entries is 0 | `divisors` |
 //! | where the divisors of an accepted problem pass, nothing is divided by 0 at any point | `laws::divisors_are_not_zero` |
 //! | none of these checks both passes and fails, and one that fails has one fault | `laws::checks_are_settled` |

@@ -5,16 +5,24 @@ ghost use Rattle.dcx_arena.specs.Gather.{has};
 ghost use Rattle.dcx_call.specs.Calls.{shape_of};
 ghost use Rattle.dcx_tree.specs.Values.{IsMarked, array_at};
 ghost use Rattle.dcx_cert_values.specs.Marks.{AreWithin, AreWanted, AreMarkedFrom, LiesBelow};
+ghost use Rattle.dcx_cert_values.specs.Tables.{kept_if};
 
 use dcx_atom::Array;
 use dcx_tree::{NodeId, Tree};
 use std::alloc::{AllocError, Global};
 
+/// What is marked at a place, and nothing past the last mark.
+fn mark_at(marks: &[bool], place: usize) -> bool
+    ensures { result ≡ slice_index_or marks.now place false }
+{
+    marks.get(place).copied().unwrap_or(false)
+}
+
 /// What is marked at a node, and nothing past the last mark.
 pub(crate) fn is_marked(marks: &[bool], node: NodeId) -> bool
     ensures { result ≡ slice_index_or marks.now node.0 false }
 {
-    marks.get(node.0 as usize).copied().unwrap_or(false)
+    mark_at(marks, node.0 as usize)
 }
 
 /// Whether the value of a node is kept.
@@ -25,6 +33,18 @@ pub(crate) fn is_kept(arrays: &[Option<Array>], node: NodeId) -> bool
     match arrays.get(node.0 as usize) {
         Some(Some(_)) => true,
         _ => false,
+    }
+}
+
+/// Keeps the values of the marked nodes alone.
+pub(crate) fn keep_marked(arrays: &mut Vec<Option<Array>>, marks: &[bool])
+    ensures count { length arrays.new.items ≡ length arrays.old.items }
+    ensures each { (i : ℕ) → array_at arrays.new.items i ≡ kept_if (slice_index_or marks.now i false) (array_at arrays.old.items i) }
+{
+    for i in 0..arrays.len() {
+        if !mark_at(marks, i) {
+            arrays[i] = None;
+        }
     }
 }
 

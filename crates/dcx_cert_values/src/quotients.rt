@@ -9,7 +9,7 @@ ghost use Rattle.dcx_tree.specs.Meaning.{IsAccepted};
 ghost use Rattle.dcx_tree.specs.Values.{array_at, IsMarked};
 ghost use Rattle.dcx_cert_sections.specs.Checks.{Checked, each_below};
 ghost use Rattle.dcx_cert_values.specs.Forming.{GivesParameters, IsBelowDivisor, divisor_in, forming_at, nonzero, dividing_at, divisor_step, divisors};
-ghost use Rattle.dcx_cert_values.specs.Tables.{AreKeptValues, StaysKept};
+ghost use Rattle.dcx_cert_values.specs.Tables.{AreKeptValues, StaysKept, AreOnlyFixed};
 ghost use Rattle.dcx_cert_values.specs.Marks.{IsDivisor, AreClosed};
 
 use crate::marks::{is_marked, mark_reached};
@@ -94,6 +94,7 @@ fn form_below(
     ensures kept { OnOk result (is_below ≡ true → IsSome (array_at values.new node.0)) }
     ensures values { AreKeptValues problem.now setting.now [] values.new }
     ensures stays { StaysKept values.old values.new }
+    ensures only { (j : ℕ) → IsSome (array_at values.new j) → IsBelowDivisor problem.now j ⊎ IsSome (array_at values.old j) }
 {
     if !is_below {
         return Ok(());
@@ -144,6 +145,7 @@ fn step(
     ensures kept { OnOk result (is_below ≡ true → IsSome (array_at values.new node.0)) }
     ensures values { AreKeptValues problem.now setting.now [] values.new }
     ensures stays { StaysKept values.old values.new }
+    ensures only { (j : ℕ) → IsSome (array_at values.new j) → IsBelowDivisor problem.now j ⊎ IsSome (array_at values.old j) }
 {
     form_below(alloc, problem, node, is_below, setting, values)?;
     test_quotient(problem, node, setting, values)
@@ -165,6 +167,7 @@ pub fn divisors(
     ensures checked { Checked (divisors problem.now setting.now) result }
     ensures values { AreKeptValues problem.now setting.now [] values.new }
     ensures stays { StaysKept values.old values.new }
+    ensures only { AreOnlyFixed problem.now values.old → AreOnlyFixed problem.now values.new }
 {
     let marks = below_divisors(alloc, problem, values.as_slice())?;
     for i in 0..problem.tree.nodes() {

@@ -11,10 +11,10 @@ ghost use Rattle.dcx_tree.specs.Values.{array_at, IsMarked};
 ghost use Rattle.dcx_answer.specs.declared.cert_fault.CertFault.TheVariants.{Memory};
 ghost use Rattle.dcx_cert_sections.specs.Checks.{Checked};
 ghost use Rattle.dcx_cert_values.specs.Forming.{GivesParameters, GivesVariables, IsUnformedAt, forming_where, forming, forming_fixed};
-ghost use Rattle.dcx_cert_values.specs.Tables.{AreKeptValues, StaysKept, AreKeptBelow, AreKeptWhere, AreKeptFixed};
+ghost use Rattle.dcx_cert_values.specs.Tables.{AreKeptValues, StaysKept, AreKeptBelow, AreKeptWhere, AreKeptFixed, AreOnlyFixed, kept_if};
 ghost use Rattle.dcx_cert_values.specs.Marks.{AreWithin, AreClosed};
 
-use crate::marks::{end_of, is_kept, is_marked, wanted};
+use crate::marks::{end_of, is_kept, is_marked, keep_marked, wanted};
 use crate::node::fault_of;
 use dcx_answer::CertFault;
 use dcx_atom::Array;
@@ -112,10 +112,19 @@ impl Values {
         ensures kept { OnOk result (AreKeptFixed problem.now self.new) }
         ensures values { AreKeptValues problem.now setting.now [] self.new }
         ensures stays { StaysKept self.old self.new }
+        ensures only { AreOnlyFixed problem.now self.old → AreOnlyFixed problem.now self.new }
     {
         let point = Point::empty(alloc);
         let end = problem.tree.nodes();
         self.form_marked(alloc, problem, fixed, 0, end, &point, setting)
+    }
+
+    /// Keeps the values of the marked nodes alone.
+    pub fn keep(&mut self, marks: &[bool])
+        ensures count { length self.new ≡ length self.old }
+        ensures each { (i : ℕ) → array_at self.new i ≡ kept_if (slice_index_or marks.now i false) (array_at self.old i) }
+    {
+        keep_marked(&mut self.arrays, marks);
     }
 
     /// Forms the values of the marked nodes, but for those that are kept. All marks stand from `low` on and before `end`.
@@ -138,6 +147,7 @@ impl Values {
         ensures kept { OnOk result (AreKeptWhere marks.now self.new) }
         ensures values { AreKeptValues problem.now setting.now point.now self.new }
         ensures stays { StaysKept self.old self.new }
+        ensures only { (j : ℕ) → IsSome (array_at self.new j) → IsMarked marks.now j ⊎ IsSome (array_at self.old j) }
     {
         for i in low..end {
             if is_marked(marks, NodeId(i)) {
@@ -164,6 +174,7 @@ impl Values {
         ensures fault { IfErr result (λ f. (f ≡ Memory) ⊎ IsUnformedAt problem.now setting.now point.now node.0 f) }
         ensures values { AreKeptValues problem.now setting.now point.now self.new }
         ensures stays { StaysKept self.old self.new }
+        ensures only { (j : ℕ) → IsSome (array_at self.new j) → (j ≡ node.0) ⊎ IsSome (array_at self.old j) }
     {
         if is_kept(&self.arrays, node) {
             return Ok(());

@@ -66,8 +66,23 @@ loop-i-preserved c =
       below = c.loop-i.invariant.below;
       passed = passed_more c.args.problem.now c.args.setting.now c.in_ok-marks.marks.items c.args.values.now c.loop-i.invariant.below i c.loop-i.values c.loop-i.invariant.passed c.step.new.values
           c.step.ensures.values c.step.ensures.stays
-          (λ m. c.in_ok-step.ensures.kept (c.is_marked-is_below.ensures ∙ ap (λ (xs : List Bool). get_or xs i false) c.deref.ensures.value ∙ m)) c.in_ok-step.ensures.checked;
+          (λ m. c.in_ok-step.ensures.kept (c.is_marked-is_below.ensures ∙ ap (λ (xs : List Bool). get_or xs i false) c.deref.ensures.value ∙ m)) c.in_ok-step.ensures.checked
+          c.step.ensures.only;
     }
 
 pub returns-clause-checked : goal.returns-clause-checked
 returns-clause-checked c = λ k lt. c.loop-i.invariant.passed.passed k (omega (arith, lt, c.loop-i-test.false, c.nodes-i-end.ensures.count))
+
+pub returns-in_err-step-clause-only : goal.returns-in_err-step-clause-only
+returns-in_err-step-clause-only c = λ only j s.
+    let below = below_fixed c.args.problem.now c.requires.accepted in
+    elim (c.step.ensures.only j s) [
+      | inl b ↦ below j b
+      | inr was ↦ elim (c.loop-i.invariant.passed.only j was) [ inl b ↦ below j b | inr first ↦ only j first ]
+    ]
+
+pub returns-clause-only : goal.returns-clause-only
+returns-clause-only c = λ only j s. elim (c.loop-i.invariant.passed.only j s) [
+  | inl b ↦ below_fixed c.args.problem.now c.requires.accepted j b
+  | inr was ↦ only j was
+]

@@ -2,7 +2,7 @@
 use Rattle.std.proofs.Common.{◌≡◌, ◌⊎◌, inl, inr, [], IfErr, sym, subst, ◌∙◌, true≢false}
 use Rattle.dcx_point.specs.Pairs.{Pairs}
 use Rattle.dcx_answer.specs.declared.cert_fault.CertFault.TheVariants.{Memory}
-use Rattle.dcx_cert_values.specs.Forming.{IsUnformedAt}
+use Rattle.dcx_cert_values.specs.Forming.{IsUnformedAt, IsBelowDivisor}
 use Rattle.dcx_cert_values.specs.Tables.{AreKeptValues}
 use Rattle.dcx_cert_values.proofs.Keeping.{kept_formed}
 use Rattle.dcx_cert_values.proofs.Dividing.{below_checked}
@@ -22,3 +22,9 @@ returns-clause-checked c =
     below_checked p s i c.form_node.result c.form_node.new.self
     (subst (λ (x : Pairs). AreKeptValues p s x c.form_node.new.self) c.empty-point.ensures c.form_node.ensures.values) c.form_node.ensures.kept
     (subst (λ (x : Pairs). IfErr c.form_node.result (λ f. (f ≡ Memory) ⊎ IsUnformedAt p s x i f)) c.empty-point.ensures c.form_node.ensures.fault) (c.requires.below c.if-not-is_below.false)
+
+pub returns-clause-only : goal.returns-clause-only
+returns-clause-only c = λ j s. elim (c.form_node.ensures.only j s) [
+  | inl e ↦ inl (subst (IsBelowDivisor c.args.problem.now) (sym e) (c.requires.below c.if-not-is_below.false))
+  | inr was ↦ inr was
+]

@@ -1,5 +1,5 @@
 -- The marks are those of the nodes that reach no variable.
-use Rattle.std.proofs.Common.{inl, ℕ, ◌<◌, [], length, sym, subst, ◌∙◌, arith}
+use Rattle.std.proofs.Common.{inl, inr, ℕ, ◌<◌, [], length, sym, subst, ◌∙◌, arith}
 use Rattle.dcx_point.specs.Pairs.{Pairs}
 use Rattle.dcx_arena.proofs.Orders.{arg_below}
 use Rattle.dcx_call.specs.Calls.{shape_of}
@@ -38,3 +38,12 @@ returns-clause-checked c =
     checked_weaker (forming_where p s [] (IsMarked marks)) (forming_fixed p s) c.form_marked.result
     (passes_where p s [] marks c.args.self.now (IsFixedNode p) c.requires.values sound (λ i lt q. inl (c.requires.fixed i lt ∙ q)))
     (fails_where p s [] marks c.args.self.now (IsFixedNode p) c.requires.values sound (λ i lt q. inl (c.requires.fixed i lt ∙ q))) checked
+
+pub returns-clause-only : goal.returns-clause-only
+returns-clause-only c = λ only j s.
+    let p = c.args.problem.now in
+    let marks = c.args.fixed.now in
+    elim (c.form_marked.ensures.only j s) [
+      | inl m ↦ let b = marked_within marks j m in sym (c.requires.fixed j (omega (arith, b, c.requires.count))) ∙ m
+      | inr was ↦ only j was
+    ]

@@ -1,7 +1,7 @@
 -- One more node is formed, or it is the first that isn't.
 use Rattle.std.proofs.Common.{sym, ◌∙◌, arith}
 use Rattle.std.proofs.lemmas.Result.{err_from_is_err_and}
-use Rattle.dcx_cert_values.proofs.Keeping.{args_kept, first_unformed, all_formed}
+use Rattle.dcx_cert_values.proofs.Keeping.{args_kept, only_more, first_unformed, all_formed}
 use Rattle.dcx_cert_values.proofs.table.Values.form_marked.Goals as goal
 
 pub form_node-requires-clause-args : goal.form_node-requires-clause-args
@@ -21,3 +21,7 @@ pub returns-clause-checked : goal.returns-clause-checked
 returns-clause-checked c =
     all_formed c.args.problem.now c.args.setting.now c.args.point.now c.args.marks.now c.args.self.now c.loop-i.i c.loop-i.self c.loop-i.invariant
     (λ k m. let b = (c.requires.within k m).1 in omega (arith, b, c.loop-i-test.false))
+
+pub returns-in_err-form_node-clause-only : goal.returns-in_err-form_node-clause-only
+returns-in_err-form_node-clause-only c =
+    only_more c.args.marks.now c.args.self.now c.loop-i.self c.form_node.new.self c.loop-i.i (sym c.is_marked.ensures ∙ c.if-is_marked.true) c.loop-i.invariant.only c.form_node.ensures.only

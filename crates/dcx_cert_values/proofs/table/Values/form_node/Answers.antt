@@ -1,5 +1,5 @@
 -- One more value is kept, or the node isn't formed.
-use Rattle.std.proofs.Common.{◌≡◌, ◌⊎◌, All, List, Option, None, IsSome, sym, subst}
+use Rattle.std.proofs.Common.{◌≡◌, ◌⊎◌, ◌<◌, All, List, length, Option, None, IsSome, sym, ap, subst, arith}
 use Rattle.dcx_atom.specs.declared.array.Array.{Array}
 use Rattle.dcx_arena.specs.Nodes.{args_at}
 use Rattle.dcx_tree.specs.Values.{array_at}
@@ -7,7 +7,7 @@ use Rattle.dcx_answer.specs.declared.cert_fault.CertFault.{CertFault}
 use Rattle.dcx_answer.specs.declared.cert_fault.CertFault.TheVariants.{Memory}
 use Rattle.dcx_cert_values.specs.Forming.{IsUnformedAt}
 use Rattle.dcx_cert_values.specs.Tables.{AreKeptValues}
-use Rattle.dcx_cert_values.proofs.Keeping.{values_more, unformed}
+use Rattle.dcx_cert_values.proofs.Keeping.{values_more, set_only, unformed}
 use Rattle.dcx_cert_values.proofs.table.Values.form_node.Goals as goal
 
 pub returns-in-Ok-clause-values : goal.returns-in-Ok-clause-values
@@ -28,3 +28,11 @@ returns-in-Err-clause-fault c =
     let i = c.args.node.0 in
     subst (λ (f : CertFault). (f ≡ Memory) ⊎ IsUnformedAt p c.args.setting.now c.args.point.now i f) (sym c.fault_of.ensures)
     (unformed p c.args.setting.now c.args.point.now i c.requires.there _ c.in-Err.ensures.stop)
+
+pub returns-in-Ok-clause-only : goal.returns-in-Ok-clause-only
+returns-in-Ok-clause-only c =
+    let i = c.args.node.0 in
+    let arrays = c.self.inside.arrays.items in
+    let view : arrays ≡ c.args.self.now = c.self.view_is in
+    let within : i < length arrays = omega (arith, c.requires.there, ap length view, c.requires.values.sized) in
+    λ j s. subst (λ (xs : List (Option Array)). (j ≡ i) ⊎ IsSome (array_at xs j)) view (set_only arrays i c.in-Ok.array within j s)
