@@ -14,11 +14,11 @@ use Rattle.dcx_lp_answer.specs.Right.{IsRight}
 use Rattle.dcx_std.specs.IntegerRows.{IsMade}
 use Rattle.dcx_lp_solve.specs.declared.solving.Solved.{Solved}
 use Rattle.dcx_lp_solve.specs.Solved.{IsSolved}
-use Rattle.dcx_lp_solve.proofs.Counts.{counts_of}
+use Rattle.dcx_lp_solve.proofs.Counts.{HasCounts, counts_of}
 use Rattle.dcx_lp_solve.proofs.Right.{answers_are_right as solved_right}
 use Rattle.dcx_graph.specs.Program.{Program}
 use Rattle.dcx_graph.specs.Reduced.{Reduction}
-use Rattle.dcx_graph.specs.Answers.{rows_of, HasParts, IsAnswered}
+use Rattle.dcx_graph.specs.Answers.{rows_of, IsAnswered}
 use Rattle.dcx_graph.proofs.Correct.{numbers_are_reductions, affine_are_reductions, affine_are_known}
 use Rattle.dcx_graph.proofs.AtSetting.{fixed_are_reductions}
 use Rattle.dcx_graph.proofs.Mapped.{read_right}
@@ -54,15 +54,19 @@ module _ (p : Problem) (setting : Pairs) (ok : IsAccepted p) (fits : FitsParamet
         };
       }
 
-  -- an answer of its rows can be read that has the parts and is right
-  pub answered_by : (q : Program Frac) (i : tab.Program) (a : LpAnswer) → SessionGives p setting (Ok q) → IsMade (rows_of q) i → HasParts i a → IsRight i a → IsAnswered p (setting_of p setting) q a
-  answered_by q i a g made parts right = record { reduced = (sound q g).reduced; integer = i; made = made; parts = parts; right = right }
+  -- an answer of its rows can be read that has a number of each column and a note of each row, and is right
+  pub answered_by : (q : Program Frac) (i : tab.Program) (a : LpAnswer) → SessionGives p setting (Ok q) → IsMade (rows_of q) i → HasCounts i a → IsRight i a → IsAnswered p (setting_of p setting) q a
+  answered_by q i a g made counts right = record {
+    reduced = (sound q g).reduced;
+    integer = i;
+    made = made;
+    parts = record { columns = counts.columns; ray = counts.ray; notes = counts.rows };
+    right = right;
+  }
 
   -- so can the answer of the run
   pub is_answered : (limit : ℕ) (q : Program Frac) (s : Solved) → SessionGives p setting (Ok q) → IsSolved limit (rows_of q) s → IsAnswered p (setting_of p setting) q s.answer
-  is_answered limit q s g h =
-      let counts = counts_of s.program _ h.solved.end s.answer h.solved.read in
-      answered_by q s.program s.answer g h.made (record { columns = counts.columns; ray = counts.ray; notes = counts.rows }) (solved_right limit (rows_of q) s h)
+  is_answered limit q s g h = answered_by q s.program s.answer g h.made (counts_of s.program _ h.solved.end s.answer h.solved.read) (solved_right limit (rows_of q) s h)
 
   -- and the setting fits
   pub is_fitting : (q : Program Frac) → SessionGives p setting (Ok q) → IsFitting p setting

@@ -19,7 +19,8 @@ use Rattle.dcx_tab.specs.First.{first_tableau}
 use Rattle.dcx_graph.specs.Answers.{IsSameAnswer}
 use Rattle.dcx_lp_solve.specs.declared.solving.Solved.{Solved}
 use Rattle.dcx_lp_solve.specs.Solved.{IsRunSolved}
-use Rattle.dcx_cache.specs.Columns.{basic_columns, columns_after, kept_or, AreApart, HoldsApart}
+use Rattle.dcx_warm.specs.Install.{AreApart}
+use Rattle.dcx_cache.specs.Columns.{basic_columns, columns_after, kept_or, HoldsApart}
 
 -- ---- none stands twice
 at_most : (n : ℕ) (columns : List ℕ) → length (take n columns) ≤ n

@@ -27,7 +27,6 @@ use Rattle.dcx_call.specs.Calls.{shape_of, sides_of_two}
 use Rattle.dcx_call.specs.Forming.{divided, or_passes}
 use Rattle.dcx_call.specs.Values.{given_by, entry_formed}
 use Rattle.dcx_convex.specs.Calls as convex_calls
-use Rattle.dcx_convex.specs.Nodes as nodes
 use Rattle.dcx_convex.specs.Nodes.{Setting, Point, arguments}
 use Rattle.dcx_convex.specs.Rules.{Rules, Judgement, argument, is_constant, bends, judgement_by, judgement_at}
 use Rattle.dcx_convex.specs.Problems.{accepted_by}

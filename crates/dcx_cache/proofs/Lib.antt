@@ -4,6 +4,7 @@ pub mod Maps
 pub mod Kept
 pub mod Answered
 pub mod Stopped
+pub mod ScaledRows
 pub mod OneEnd
 pub mod Agreeing
 pub mod Basics

@@ -6,10 +6,13 @@ use Rattle.dcx_tree.specs.declared.problem.Problem.{Problem}
 use Rattle.dcx_answer.specs.declared.stop.Stop.{Stop}
 use Rattle.dcx_answer.specs.declared.stop.Stop.TheVariants as why
 use Rattle.dcx_fit.specs.Fit.{FitsParameters, IsFirstMisfit}
+use Rattle.dcx_std.specs.declared.stop.RowStop.{RowStop}
+use Rattle.dcx_std.specs.IntegerRows.{IsStopOf}
 use Rattle.dcx_lp_solve.specs.declared.solving.Solved.{Solved}
 use Rattle.dcx_lp_solve.specs.declared.stop.SolveStop.{SolveStop}
 use Rattle.dcx_lp_solve.specs.declared.stop.SolveStop.TheVariants as solves
-use Rattle.dcx_lp_solve.specs.Solved.{IsSolved, Stops as RowsStop}
+use Rattle.dcx_lp_solve.specs.Solved.{IsSolved, rows_stop, Stops as RowsStop}
+use Rattle.dcx_lp_solve.proofs.Ends.{row_stops}
 use Rattle.dcx_graph.specs.declared.stop.ReduceStop.{ReduceStop}
 use Rattle.dcx_graph.specs.declared.stop.ReduceStop.TheVariants as reduces
 use Rattle.dcx_graph.specs.declared.reading.AnswerStop.{AnswerStop}
@@ -64,6 +67,10 @@ module _ (p : Problem) (setting : Pairs) (limit : ℕ) where
       run_stops (solves.Wide site) h = record { fits = fits; stops = at_run q g (solves.Wide site) (λ d. cc) h refl }
       run_stops (solves.PivotLimit count) h = record { fits = fits; stops = at_run q g (solves.PivotLimit count) (λ d. cc) h refl }
       run_stops solves.Memory h = tt
+
+      -- also before it, where the rows have no scaled program
+      pub rows_stops : (e : RowStop) → IsStopOf (rows_of q) e → Stops p setting limit (run_stop (rows_stop e))
+      rows_stops e h = run_stops (rows_stop e) (row_stops limit (rows_of q) e h)
 
       pub reading_stops : (s : Solved) → IsSolved limit (rows_of q) s → (e : AnswerStop) → StopsReading p s.answer e → Stops p setting limit (reading_stop e)
       reading_stops s h (reads.Wide site) k = record { fits = fits; stops = at_reading q g s h (reads.Wide site) (λ d. cc) k refl }

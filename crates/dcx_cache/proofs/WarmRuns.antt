@@ -1,6 +1,5 @@
 -- What is read at the end of a warm run is right for the problem, and it is one answer.
-use Rattle.std.proofs.Common.{◌≡◌, ◌≢◌, ◌↔◌, ℕ, ◌<◌, IsTrue, Bool, true, false, List, [], ◌∷◌, length, get_or, Option, Some}
-use Rattle.std.proofs.Common.{None, Result, Ok, Err, IfOk, IfErr, refl, sym, ap, ◌∙◌, subst, ◌⊎◌, inl, inr}
+use Rattle.std.proofs.Common.{◌≡◌, ◌≢◌, ℕ, Bool, true, false, List, [], ◌∷◌, Option, Some, None, Result, Ok, Err, IfOk, IfErr, refl, sym, ap, ◌∙◌, subst, ◌⊎◌, inl, inr}
 use Rattle.dcx_frac.specs.declared.fraction.Frac.{Frac}
 use Rattle.dcx_point.specs.Pairs.{Pairs}
 use Rattle.dcx_tree.specs.declared.problem.Problem.{Problem}
@@ -11,113 +10,49 @@ use Rattle.dcx_answer.specs.declared.stop.Stop.{Stop}
 use Rattle.dcx_answer.specs.declared.stop.Stop.TheVariants as why
 use Rattle.dcx_fit.specs.Fit.{FitsParameters, IsFirstMisfit}
 use Rattle.dcx_tab.specs.declared.program.Program as tab
-use Rattle.dcx_tab.specs.First.{first_tableau}
-use Rattle.dcx_tab.specs.Table.{Table}
 use Rattle.dcx_chained.specs.Tables.{table_of}
 use Rattle.dcx_lp_answer.specs.declared.answer.LpAnswer.{LpAnswer}
-use Rattle.dcx_lp_answer.specs.declared.answer.LpStatus.TheVariants as status
-use Rattle.dcx_simplex.specs.declared.run.LpEnd.TheVariants as ends
 use Rattle.dcx_simplex.specs.Readable.{IsReadable}
-use Rattle.dcx_simplex.specs.Reading.{IsReading}
-use Rattle.dcx_warm.specs.Install.{IsColumnList}
-use Rattle.dcx_warm.specs.Warm.{WarmEnds, IsOptimalAt}
-use Rattle.dcx_warm.proofs.Ending.{ends_optimal, is_right, is_readable, one_end, sound_first}
 use Rattle.dcx_std.specs.declared.stop.RowStop.{RowStop}
 use Rattle.dcx_std.specs.declared.stop.RowStop.TheVariants as rows
-use Rattle.dcx_std.specs.GivenRows.{GivenRows}
-use Rattle.dcx_std.specs.IntegerRows.{IsMade, IsStopOf}
-use Rattle.dcx_std.specs.Solutions.{HasKinds}
-use Rattle.dcx_std.proofs.OneProgram as programs
+use Rattle.dcx_std.specs.IntegerRows.{IsStopOf}
 use Rattle.dcx_lp_solve.specs.declared.solving.Solved.{Solved}
-use Rattle.dcx_lp_solve.specs.OneSolution.{IsSameSolution}
-use Rattle.dcx_lp_solve.proofs.OneReading.{one_reading}
+use Rattle.dcx_lp_solve.specs.declared.warming.WarmEnd.{WarmEnd}
+use Rattle.dcx_lp_solve.specs.Solved.{rows_stop}
+use Rattle.dcx_lp_solve.specs.Stops.{run_stop}
+use Rattle.dcx_lp_solve.specs.Warm.{IsWarmRun, RunsWarm, IsWarmSolved, with_end}
 use Rattle.dcx_lp_solve.proofs.OneSolution.{answers_are_one}
+use Rattle.dcx_lp_solve.proofs.WarmRuns.{warm_readable, never_run, never_made, one_solution, warm_counts, warm_right as rows_right}
 use Rattle.dcx_graph.specs.declared.stop.ReduceStop.{ReduceStop}
 use Rattle.dcx_graph.specs.declared.stop.ReduceStop.TheVariants as reduces
 use Rattle.dcx_graph.specs.Program.{Program}
 use Rattle.dcx_graph.specs.Reduced.{Reduction}
-use Rattle.dcx_graph.specs.Answers.{rows_of, HasParts, IsAnswered, IsRead, PassesAt, IsSameAnswer}
+use Rattle.dcx_graph.specs.Answers.{rows_of, IsAnswered, IsRead, PassesAt, IsSameAnswer}
 use Rattle.dcx_right.specs.Answers.{IsRightFor}
 use Rattle.dcx_graph.proofs.Mapped.{read_right}
 use Rattle.dcx_graph.proofs.OneReading.{readings_are_one}
 use Rattle.dcx_cache.specs.declared.rewarming.Warmed.{Warmed}
 use Rattle.dcx_cache.specs.declared.session.Last.{Last}
-use Rattle.dcx_cache.specs.Programs.{SessionGives, HasMap, ProgramStops}
+use Rattle.dcx_cache.specs.Programs.{SessionGives, HasMap, IsScaledAt, ProgramStops}
 use Rattle.dcx_cache.specs.Answers.{IsAnswerOf, Answers}
-use Rattle.dcx_cache.specs.Columns.{AreApart}
-use Rattle.dcx_cache.specs.Warm.{IsWarmRun, IsWarmSolved, IsWarmAnswer, IsWarm, NeverWarm, IsAnsweredBy, WarmAnswers, WarmAnswersAll, RunsWarm, SolvesWarm, ReadsBack, ReadsWarm}
+use Rattle.dcx_cache.specs.Warm.{IsWarmAnswer, IsWarm, NeverWarm, IsAnsweredBy, WarmAnswers, WarmAnswersAll, ReadsBack, ReadsWarm}
 use Rattle.dcx_cache.specs.Laws.{WarmAnswersAreRight, WarmAnswersAgree, AnsweredStaysAnswered, HasOneWarmEnd, HaveOneWarmEnds}
 use Rattle.dcx_cache.proofs.Answered.{answered_by, is_fitting, answers_are_right}
 use Rattle.dcx_cache.proofs.OneEnd.{same_program, program_apart, same_answer, solved_by, unfit, memory_or, has_one_end}
 use Rattle.dcx_cache.proofs.Agreeing.{right_answers_agree}
 use Rattle.dcx_cache.proofs.Basics.{solved_readable, one_after}
 
--- ---- the columns
--- different columns that are no artificials can start a run
-list_of : (plain : ℕ) (columns : List ℕ) → AreApart columns → ((k : ℕ) → k < length columns → get_or columns k 0 < plain) → IsColumnList plain columns
-list_of plain columns apart low = record { below = λ c l. subst (λ x. x < plain) l.2 (low l.0 l.1); apart = apart }
-
--- a test tells whether these columns can
-pub starts : (b : Bool) (plain bound : ℕ) (columns listed : List ℕ) → AreApart columns → bound ≡ plain → listed ≡ columns → (IsTrue b ↔ ((k : ℕ) → k < length listed → get_or listed k 0 < bound)) →
-    IsTrue b ↔ IsColumnList plain columns
-starts b plain bound columns listed apart same are test =
-    let test_at = subst (λ n. IsTrue b ↔ ((k : ℕ) → k < length columns → get_or columns k 0 < n)) same
-    (subst (λ (xs : List ℕ). IsTrue b ↔ ((k : ℕ) → k < length xs → get_or xs k 0 < bound)) are test) in
-    (λ h. list_of plain columns apart (test_at.0 h), λ list. test_at.1 (λ k h. list.below (get_or columns k 0) (k, h, refl)))
-
--- ---- the run
-module _ (limit : ℕ) (columns : List ℕ) where
-  pub optimal_at : (program : tab.Program) (s : Solved) → IsWarmRun limit columns program s → IsOptimalAt program (table_of s.tableau)
-  optimal_at program s h = ends_optimal program limit columns (table_of s.tableau) h.pivots h.list h.run
-
-  pub warm_readable : (s : Solved) → IsWarmRun limit columns s.program s → IsReadable (table_of s.tableau)
-  warm_readable s h = is_readable s.program (table_of s.tableau) (optimal_at s.program s h)
-
-  warm_parts : (s : Solved) → IsWarmRun limit columns s.program s → HasParts s.program s.answer
-  warm_parts s h = record { columns = h.numbers.columns; ray = λ e. absurd (let d = sym h.numbers.status ∙ e in cc); notes = h.numbers.notes }
-
-  -- ---- rows
-  -- the run on the program of rows solves them, or nothing does
-  solves_some : (given : GivenRows) (program : tab.Program) (s : Solved) → IsMade given program → IsWarmRun limit columns program s → IsWarmSolved limit columns given s
-  solves_some given program s made h = record { made = subst (λ p. IsMade given p) (sym h.same) made; solved = subst (λ p. IsWarmRun limit columns p s) (sym h.same) h }
-
-  pub solves : (given : GivenRows) (program : tab.Program) (o : Option Solved) → IsMade given program → RunsWarm limit columns program o → SolvesWarm limit columns given o
-  solves given program (Some s) made h = solves_some given program s made h
-  solves given program None made none = λ s h.
-      let same : s.program ≡ program = programs.programs_are_one given s.program program h.made made in
-      none (subst (λ (p : tab.Program). IsColumnList (first_tableau p).plain columns) same h.solved.list) (table_of s.tableau) h.solved.pivots
-      (subst (λ (p : tab.Program). WarmEnds limit columns (first_tableau p) (table_of s.tableau) h.solved.pivots) same h.solved.run)
-
-  pub solves_result : {E : Type 0} (given : GivenRows) (program : tab.Program) (r : Result (Option Solved) E) → IsMade given program → IfOk r (RunsWarm limit columns program)
-      → IfOk r (SolvesWarm limit columns given)
-  solves_result given program (Ok o) made h = solves given program o made h
-  solves_result given program (Err e) made h = tt
-
-  pub never_made : (given : GivenRows) (e : RowStop) → e ≢ rows.Memory → IsStopOf given e → SolvesWarm limit columns given None
-  never_made given e n is = λ s h. n (programs.made_or_stopped given s.program e h.made is)
-
-  -- one program, one tableau at the end, and one answer
-  pub one_solution : (given : GivenRows) (s t : Solved) → IsWarmSolved limit columns given s → IsWarmSolved limit columns given t → IsSameSolution s t
-  one_solution given s t h k =
-      let program : s.program ≡ t.program = programs.programs_are_one given s.program t.program h.made k.made in
-      let run = subst (λ (p : tab.Program). WarmEnds limit columns (first_tableau p) (table_of t.tableau) k.solved.pivots) (sym program) k.solved.run in
-      let start = sound_first (first_tableau s.program) (s.program, refl) in
-      let end = one_end limit columns (first_tableau s.program) (table_of s.tableau) (table_of t.tableau) h.solved.pivots k.solved.pivots start h.solved.run run in
-      let at_program = subst (λ (p : tab.Program). IsReading p.rows p.columns (table_of t.tableau) status.Optimal t.answer) (sym program) k.solved.numbers in
-      let numbers = subst (λ (u : Table). IsReading s.program.rows s.program.columns u status.Optimal t.answer) (sym end.0) at_program in
-      record {
-        program = program;
-        table = end.0;
-        answer = one_reading s.program (table_of s.tableau) s.answer t.answer (ends.Optimal 0) (h.solved.numbers, h.solved.no_ray) (numbers, k.solved.no_ray);
-      }
-
 -- ---- the answer to the problem
 module _ (p : Problem) (setting : Pairs) (limit : ℕ) (columns : List ℕ) where
   pub warm_is_answered : (q : Program Frac) (s : Solved) → IsAccepted p → FitsParameters p.parameters setting → SessionGives p setting (Ok q) → IsWarmSolved limit columns (rows_of q) s →
       IsAnswered p (setting_of p setting) q s.answer
   warm_is_answered q s ok fits g h =
-      answered_by p setting ok fits q s.program s.answer g h.made (warm_parts limit columns s h.solved)
-      (is_right s.program (table_of s.tableau) (optimal_at limit columns s.program s h.solved) s.answer h.solved.numbers)
+      answered_by p setting ok fits q s.program s.answer g h.made (warm_counts limit columns (rows_of q) s h) (rows_right limit columns (rows_of q) s h)
+
+  -- so is what the run on the scaled program ends with
+  pub end_is_answered : (q : Program Frac) (i : tab.Program) (e : WarmEnd) → IsAccepted p → IsScaledAt p setting q i → IsWarmRun limit columns i (table_of e.tableau) e.answer →
+      IsAnswered p (setting_of p setting) q e.answer
+  end_is_answered q i e ok at h = warm_is_answered q (with_end i e) ok at.fits at.gives (record { made = at.made; solved = h })
 
   warm_right : (q : Program Frac) (s : Solved) (a : Answer) → IsAccepted p → IsWarmAnswer p setting limit columns q s a → IsFitting p setting × IsRightFor p (setting_of p setting) a
   warm_right q s a ok h =
@@ -128,11 +63,15 @@ module _ (p : Problem) (setting : Pairs) (limit : ℕ) (columns : List ℕ) wher
   solved_at q r s e h = subst (λ (z : Program Frac). IsWarmSolved limit columns (rows_of z) s) (sym e) h
 
   -- the rows of the program are never solved so
-  pub never_solved : (q : Program Frac) → SessionGives p setting (Ok q) → SolvesWarm limit columns (rows_of q) None → NeverWarm p setting limit (Some columns)
+  pub never_solved : (q : Program Frac) → SessionGives p setting (Ok q) → ((s : Solved) → ¬ (IsWarmSolved limit columns (rows_of q) s)) → NeverWarm p setting limit (Some columns)
   never_solved q g none r s a h = none s (solved_at q r s (same_program p setting limit q r g h.program) h.is_solved)
 
+  -- as where the run on their scaled program gives nothing
+  pub never_ends : (q : Program Frac) (i : tab.Program) → IsScaledAt p setting q i → RunsWarm limit columns i None → NeverWarm p setting limit (Some columns)
+  never_ends q i at none = never_solved q at.gives (never_run limit columns (rows_of q) i at.made none)
+
   -- or a multiplier passes
-  pub never_read : (q : Program Frac) (s : Solved) (site : Site) → SessionGives p setting (Ok q) → IsWarmSolved limit columns (rows_of q) s → PassesAt p s.answer site
+  never_read : (q : Program Frac) (s : Solved) (site : Site) → SessionGives p setting (Ok q) → IsWarmSolved limit columns (rows_of q) s → PassesAt p s.answer site
       → NeverWarm p setting limit (Some columns)
   never_read q s site g h passes r t a x =
       let same = same_program p setting limit q r g x.program in
@@ -140,23 +79,24 @@ module _ (p : Problem) (setting : Pairs) (limit : ℕ) (columns : List ℕ) wher
       (readings_are_one p r.kinds s.answer).never_both a site (subst (λ (z : LpAnswer). IsRead p r.kinds z a) (sym answer) x.read) passes
 
   -- what is read back is the answer, or there is none
-  pub reads : (q : Program Frac) (s : Solved) → HasMap p → FitsParameters p.parameters setting → SessionGives p setting (Ok q) → HasKinds (rows_of q) → IsWarmSolved limit columns (rows_of q) s →
-      (o : Option (Answer × Solved)) → ReadsBack p q s o → ReadsWarm p setting limit columns q o
-  reads q s mapped fits g known h (Some (a, t)) (same, read) = record {
-    mapped = mapped;
-    fits = fits;
-    program = g;
-    known = known;
-    is_solved = subst (IsWarmSolved limit columns (rows_of q)) (sym same) h;
-    read = subst (λ (z : Solved). IsRead p q.kinds z.answer a) (sym same) read;
-  }
-  reads q s mapped fits g known h None (site, passes) = never_read q s site g h passes
+  reads : (q : Program Frac) (i : tab.Program) (e : WarmEnd) → HasMap p → IsScaledAt p setting q i → IsWarmRun limit columns i (table_of e.tableau) e.answer → (o : Option (Answer × WarmEnd)) →
+      ReadsBack p q e o → ReadsWarm p setting limit columns q i o
+  reads q i e mapped at h (Some (a, f)) (same, read) =
+      let answer : IsWarmAnswer p setting limit columns q (with_end i e) a = record {
+        mapped = mapped;
+        fits = at.fits;
+        program = at.gives;
+        known = at.known;
+        is_solved = record { made = at.made; solved = h };
+        read = read;
+      } in
+      subst (λ (z : WarmEnd). IsWarmAnswer p setting limit columns q (with_end i z) a) (sym same) answer
+  reads q i e mapped at h None (site, passes) = never_read q (with_end i e) site at.gives (record { made = at.made; solved = h }) passes
 
-  pub reads_result : {E : Type 0} (q : Program Frac) (s : Solved) → HasMap p → FitsParameters p.parameters setting → SessionGives p setting (Ok q) → HasKinds (rows_of q)
-      → IsWarmSolved limit columns (rows_of q) s
-      → (r : Result (Option (Answer × Solved)) E) → IfOk r (ReadsBack p q s) → IfOk r (ReadsWarm p setting limit columns q)
-  reads_result q s mapped fits g known h (Ok o) back = reads q s mapped fits g known h o back
-  reads_result q s mapped fits g known h (Err e) back = tt
+  pub reads_result : {E : Type 0} (q : Program Frac) (i : tab.Program) (e : WarmEnd) → HasMap p → IsScaledAt p setting q i → IsWarmRun limit columns i (table_of e.tableau) e.answer →
+      (r : Result (Option (Answer × WarmEnd)) E) → IfOk r (ReadsBack p q e) → IfOk r (ReadsWarm p setting limit columns q i)
+  reads_result q i e mapped at h (Ok o) back = reads q i e mapped at h o back
+  reads_result q i e mapped at h (Err f) back = tt
 
   -- ---- one answer
   record IsSameWarm (a b : Answer) (s t : Solved) : Type 0 where
@@ -213,7 +153,7 @@ module _ (p : Problem) (setting : Pairs) (limit : ℕ) (before : Option (List �
 -- ---- the tableau of an answer can be read
 readable_from : (p : Problem) (setting : Pairs) (limit : ℕ) (before : Option (List ℕ)) (q : Program Frac) (s : Solved) (a : Answer) → IsWarm p setting limit before q s a
     → IsReadable (table_of s.tableau)
-readable_from p setting limit (Some columns) q s a h = warm_readable limit columns s h.is_solved.solved
+readable_from p setting limit (Some columns) q s a h = warm_readable limit columns s.program (table_of s.tableau) s.answer h.is_solved.solved
 readable_from p setting limit None q s a h = absurd h
 
 pub readable_by : (p : Problem) (setting : Pairs) (limit : ℕ) (before : Option (List ℕ)) (kept : Bool) (q : Program Frac) (s : Solved) (a : Answer) → IsAnsweredBy p setting limit before kept q s a
@@ -251,6 +191,15 @@ module _ (p : Problem) (setting : Pairs) (limit : ℕ) where
   pub never_formed : (before : Option (List ℕ)) (e : Stop) → ProgramStops p setting e → e ≢ why.Memory → NeverWarm p setting limit before
   never_formed (Some columns) e h n = never_by columns e (unformed e n h)
   never_formed None e h n = never_empty
+
+  -- without a scaled program
+  unscaled : (columns : List ℕ) (q : Program Frac) → SessionGives p setting (Ok q) → (e : RowStop) → e ≢ rows.Memory → IsStopOf (rows_of q) e → NeverWarm p setting limit (Some columns)
+  unscaled columns q g e n is = never_solved p setting limit columns q g (never_made limit columns (rows_of q) e n is)
+
+  pub never_scaled : (before : Option (List ℕ)) (q : Program Frac) → SessionGives p setting (Ok q) → (e : RowStop) → IsStopOf (rows_of q) e → (f : Stop) → f ≡ run_stop (rows_stop e) → f ≢ why.Memory →
+      NeverWarm p setting limit before
+  never_scaled (Some columns) q g e is f same n = unscaled columns q g e (λ d. n (same ∙ ap (λ (r : RowStop). run_stop (rows_stop r)) d)) is
+  never_scaled None q g e is f same n = never_empty
 
   -- ---- answers without columns
   module _ (before : Option (List ℕ)) (never : NeverWarm p setting limit before) where

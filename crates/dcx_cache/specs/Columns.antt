@@ -1,7 +1,8 @@
 -- The columns that a session keeps from setting to setting: the basic columns of its last optimal answer.
-use Rattle.std.specs.Prelude.{◌≡◌, ⊤, ℕ, ◌-◌, ◌<◌, List, length, take, get_or, Option, Some, None, Result, Ok, Err}
+use Rattle.std.specs.Prelude.{◌≡◌, ⊤, ℕ, ◌-◌, List, length, take, Option, Some, None, Result, Ok, Err}
 use Rattle.dcx_tab.specs.Table.{Table}
 use Rattle.dcx_chained.specs.Tables.{table_of}
+use Rattle.dcx_warm.specs.Install.{AreApart}
 use Rattle.dcx_answer.specs.declared.answer.Answer.{Answer}
 use Rattle.dcx_answer.specs.declared.answer.Answer.TheVariants.{Optimal, Infeasible, Unbounded}
 use Rattle.dcx_answer.specs.declared.stop.Stop.{Stop}
@@ -29,9 +30,6 @@ Keeps before (Ok a) None after = ⊥
 Keeps before (Err stop) last after = after ≡ before
 
 -- no column stands twice
-abbrev pub AreApart : List ℕ → Type 0
-AreApart columns = (i k : ℕ) → i < length columns → k < length columns → get_or columns i 0 ≡ get_or columns k 0 → i ≡ k
-
 abbrev pub HoldsApart : Option (List ℕ) → Type 0
 HoldsApart (Some columns) = AreApart columns
 HoldsApart None = ⊤

@@ -11,8 +11,11 @@ use Rattle.dcx_answer.specs.declared.site.Site.TheVariants as sites
 use Rattle.dcx_linear.specs.declared.param_form.ParamForm.{ParamForm}
 use Rattle.dcx_graph.specs.declared.stop.ReduceStop.{ReduceStop}
 use Rattle.dcx_graph.specs.declared.stop.ReduceStop.TheVariants as stops
+use Rattle.dcx_tab.specs.declared.program.Program as tab
+use Rattle.dcx_std.specs.IntegerRows.{IsMade}
+use Rattle.dcx_std.specs.Solutions.{HasKinds}
 use Rattle.dcx_graph.specs.Program.{Program}
-use Rattle.dcx_graph.specs.Answers.{IsReducedAt}
+use Rattle.dcx_graph.specs.Answers.{rows_of, IsReducedAt}
 use Rattle.dcx_graph.specs.Fixing.{FixGives}
 use Rattle.dcx_graph.specs.Correct.{ReducesNumbers, ReducesAffine}
 
@@ -43,6 +46,14 @@ Fixes setting q (Err stops.Memory) = ⊥
 pub data SessionGives (p : Problem) (setting : Pairs) (r : Result (Program Frac) ReduceStop) : Type 0 where
   mapped : (q : Program ParamForm) → IsMapOf p q → Fixes setting q r → SessionGives p setting r
   anew : ¬ HasMap p → ReducesNumbers p setting r → SessionGives p setting r
+
+-- the setting fits the parameters, this is the session's program there, which names unknowns of its own alone, and this is the scaled
+-- program of its rows
+pub record IsScaledAt (p : Problem) (setting : Pairs) (q : Program Frac) (i : tab.Program) : Type 0 where
+  pub fits : FitsParameters p.parameters setting
+  pub gives : SessionGives p setting (Ok q)
+  pub known : HasKinds (rows_of q)
+  pub made : IsMade (rows_of q) i
 
 -- ---- what it is for the problem
 -- the setting fits, and the program is a reduced program of the problem there

@@ -10,17 +10,11 @@ use Rattle.dcx_answer.specs.declared.stop.Stop.{Stop}
 use Rattle.dcx_answer.specs.declared.stop.Stop.TheVariants as why
 use Rattle.dcx_fit.specs.Fit.{FitsParameters}
 use Rattle.dcx_tab.specs.declared.program.Program as tab
-use Rattle.dcx_tab.specs.First.{first_tableau}
-use Rattle.dcx_tab.specs.Table.{Table}
 use Rattle.dcx_chained.specs.Tables.{table_of}
-use Rattle.dcx_lp_answer.specs.declared.answer.LpStatus.TheVariants as status
-use Rattle.dcx_simplex.specs.Reading.{IsReading, HasNoRay}
-use Rattle.dcx_warm.specs.Install.{IsColumnList}
-use Rattle.dcx_warm.specs.Warm.{WarmEnds}
-use Rattle.dcx_std.specs.GivenRows.{GivenRows}
-use Rattle.dcx_std.specs.IntegerRows.{IsMade}
 use Rattle.dcx_std.specs.Solutions.{HasKinds}
 use Rattle.dcx_lp_solve.specs.declared.solving.Solved.{Solved}
+use Rattle.dcx_lp_solve.specs.declared.warming.WarmEnd.{WarmEnd}
+use Rattle.dcx_lp_solve.specs.Warm.{IsWarmSolved, with_end}
 use Rattle.dcx_graph.specs.Program.{Program}
 use Rattle.dcx_graph.specs.Answers.{rows_of, IsRead, PassesAt}
 use Rattle.dcx_cache.specs.declared.session.Last.{Last}
@@ -29,25 +23,9 @@ use Rattle.dcx_cache.specs.Programs.{HasMap, SessionGives}
 use Rattle.dcx_cache.specs.Answers.{IsAnswerOf, Stops}
 use Rattle.dcx_cache.specs.Columns.{columns_after}
 
--- ---- rows
--- the columns are different ones of the scaled program and none is an artificial, the warm run from its first basis, with at most so
--- many pivots, ends optimal at the tableau, and the answer has the numbers that the tableau shows
-pub record IsWarmRun (limit : ℕ) (columns : List ℕ) (program : tab.Program) (s : Solved) : Type 0 where
-  pub same : s.program ≡ program
-  pub list : IsColumnList (first_tableau program).plain columns
-  pub pivots : ℕ
-  pub run : WarmEnds limit columns (first_tableau program) (table_of s.tableau) pivots
-  pub numbers : IsReading program.rows program.columns (table_of s.tableau) status.Optimal s.answer
-  pub no_ray : HasNoRay s.answer
-
--- the rows have a scaled program, which is solved so
-pub record IsWarmSolved (limit : ℕ) (columns : List ℕ) (given : GivenRows) (s : Solved) : Type 0 where
-  pub made : IsMade given s.program
-  pub solved : IsWarmRun limit columns s.program s
-
 -- ---- one setting
 -- the problem has a map, the setting fits the parameters, this is the session's program there, which names unknowns of its own alone,
--- its rows are solved so from these columns, and the answer is read from that
+-- its rows are solved by the warm run from these columns, with at most so many pivots, and the answer is read from that
 pub record IsWarmAnswer (p : Problem) (setting : Pairs) (limit : ℕ) (columns : List ℕ) (q : Program Frac) (s : Solved) (a : Answer) : Type 0 where
   pub mapped : HasMap p
   pub fits : FitsParameters p.parameters setting
@@ -104,22 +82,12 @@ WarmAnswersAll p limit before [] (r ∷ rs) = ⊥
 WarmAnswersAll p limit before (s ∷ ss) [] = ⊥
 
 -- ---- parts of the way
--- how the warm run on a scaled program ends
-abbrev pub RunsWarm : ℕ → List ℕ → tab.Program → Option Solved → Type 0
-RunsWarm limit columns program (Some s) = IsWarmRun limit columns program s
-RunsWarm limit columns program None = IsColumnList (first_tableau program).plain columns → (t : Table) (n : ℕ) → ¬ (WarmEnds limit columns (first_tableau program) t n)
+-- what is read back from the end of the warm run: an answer, or a multiplier passes
+abbrev pub ReadsBack : Problem → Program Frac → WarmEnd → Option (Answer × WarmEnd) → Type 0
+ReadsBack p q e (Some (a, f)) = (f ≡ e) × IsRead p q.kinds e.answer a
+ReadsBack p q e None = (site : Site) × PassesAt p e.answer site
 
--- how rows end
-abbrev pub SolvesWarm : ℕ → List ℕ → GivenRows → Option Solved → Type 0
-SolvesWarm limit columns given (Some s) = IsWarmSolved limit columns given s
-SolvesWarm limit columns given None = (s : Solved) → ¬ (IsWarmSolved limit columns given s)
-
--- what is read back from rows that are solved: an answer, or a multiplier passes
-abbrev pub ReadsBack : Problem → Program Frac → Solved → Option (Answer × Solved) → Type 0
-ReadsBack p q s (Some (a, t)) = (t ≡ s) × IsRead p q.kinds s.answer a
-ReadsBack p q s None = (site : Site) × PassesAt p s.answer site
-
--- how a setting ends whose program is known
-abbrev pub ReadsWarm : Problem → Pairs → ℕ → List ℕ → Program Frac → Option (Answer × Solved) → Type 0
-ReadsWarm p setting limit columns q (Some (a, s)) = IsWarmAnswer p setting limit columns q s a
-ReadsWarm p setting limit columns q None = NeverWarm p setting limit (Some columns)
+-- how a setting ends whose program, and the scaled program of whose rows, is known
+abbrev pub ReadsWarm : Problem → Pairs → ℕ → List ℕ → Program Frac → tab.Program → Option (Answer × WarmEnd) → Type 0
+ReadsWarm p setting limit columns q i (Some (a, e)) = IsWarmAnswer p setting limit columns q (with_end i e) a
+ReadsWarm p setting limit columns q i None = NeverWarm p setting limit (Some columns)

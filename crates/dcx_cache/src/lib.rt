@@ -3,8 +3,8 @@
 //! A setting is asked first whether it fits the parameters. Then the session's program is put at the setting: where the rules
 //! accept the problem also with parameters affine, and the program with affine coefficients can be built, that one is kept from
 //! the start and only its coefficients are put at the setting; else the problem is reduced anew. The rows are solved by Bland's
-//! rule over the linked tableau, and the answer is read back to the problem. A session
-//! can also start from the basic columns of its last optimal answer, and go on by the dual simplex.
+//! rule over the linked tableau, and the answer is read back to the problem. A session can also start from the basic columns of its
+//! last optimal answer, and go on by the dual simplex; the scaled program of the rows is made once for both.
 //!
 //! | what must hold | where |
 //! |---|---|
@@ -34,6 +34,7 @@ mod columns;
 pub mod laws;
 mod program;
 mod rewarming;
+mod scaled;
 mod session;
 mod stops;
 

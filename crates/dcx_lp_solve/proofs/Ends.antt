@@ -22,7 +22,7 @@ use Rattle.dcx_std.specs.IntegerRows.{IsMade, IsStopOf, IsFirstPassing, passing_
 use Rattle.dcx_lp_solve.specs.declared.solving.Solved.{Solved}
 use Rattle.dcx_lp_solve.specs.declared.stop.SolveStop.{SolveStop}
 use Rattle.dcx_lp_solve.specs.declared.stop.SolveStop.TheVariants as stops
-use Rattle.dcx_lp_solve.specs.Solved.{IsRunSolved, RunStops, rows_stop, Stops}
+use Rattle.dcx_lp_solve.specs.Solved.{IsRunSolved, RunStops, IsSolved, rows_stop, Stops}
 
 -- ---- the first operation that passes stands at a row
 abbrev IsRowSite : Site → Type 0
@@ -43,7 +43,14 @@ pub memory_stops : {A : Type 0} (P : SolveStop → Type 0) → P stops.Memory �
 memory_stops P h (Ok x) is = tt
 memory_stops P h (Err e) is = subst P (sym is) h
 
--- what stops the run on the scaled program of rows, stops the rows
+-- what solves the scaled program of rows, solves the rows
+pub run_solves : (limit : ℕ) (given : GivenRows) (program : Program) → IsMade given program → (s : Solved) → IsRunSolved limit program s → IsSolved limit given s
+run_solves limit given program made s h = record {
+  made = subst (λ p. IsMade given p) (sym h.same) made;
+  solved = subst (λ p. IsRunSolved limit p s) (sym h.same) h;
+}
+
+-- what stops the run on it, stops them
 pub run_stops : (limit : ℕ) (given : GivenRows) (program : Program) → IsMade given program → (e : SolveStop) → RunStops limit program e → Stops limit given e
 run_stops limit given program made (stops.TooLarge r c) h = absurd h
 run_stops limit given program made (stops.Wide (sites.Pivot n r c)) h = record { program = program; made = made; stops = h }

@@ -1,5 +1,5 @@
 -- Rows have one solution under a limit, or one stop and no solution. Want of memory is free.
-use Rattle.std.specs.Prelude.{◌≡◌, ◌≢◌, ℕ, ◌+◌, ◌^◌, ◌<◌, length}
+use Rattle.std.specs.Prelude.{◌≡◌, ◌≢◌, ℕ, ◌+◌, ◌^◌, ◌<◌, List, length}
 use Rattle.dcx_tab.specs.declared.program.Program.{Program}
 use Rattle.dcx_chained.specs.Tables.{table_of}
 use Rattle.dcx_std.specs.GivenRows.{GivenRows}
@@ -8,6 +8,7 @@ use Rattle.dcx_lp_solve.specs.declared.solving.Solved.{Solved}
 use Rattle.dcx_lp_solve.specs.declared.stop.SolveStop.{SolveStop}
 use Rattle.dcx_lp_solve.specs.declared.stop.SolveStop.TheVariants as stops
 use Rattle.dcx_lp_solve.specs.Solved.{IsSolved, Stops}
+use Rattle.dcx_lp_solve.specs.Warm.{IsWarmSolved}
 
 -- the same program, the same tableau at the end, and the same answer
 pub record IsSameSolution (s t : Solved) : Type 0 where
@@ -18,6 +19,10 @@ pub record IsSameSolution (s t : Solved) : Type 0 where
 -- rows have one solution
 abbrev pub AnswersAreOne : Type 0
 AnswersAreOne = (limit : ℕ) (given : GivenRows) (s t : Solved) → IsSolved limit given s → IsSolved limit given t → IsSameSolution s t
+
+-- and one by a warm run from the same columns
+abbrev pub WarmAnswersAreOne : Type 0
+WarmAnswersAreOne = (limit : ℕ) (columns : List ℕ) (given : GivenRows) (s t : Solved) → IsWarmSolved limit columns given s → IsWarmSolved limit columns given t → IsSameSolution s t
 
 -- rows that are solved have no stop but want of memory
 abbrev pub SolvedOrStopped : Type 0

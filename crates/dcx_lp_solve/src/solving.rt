@@ -1,4 +1,4 @@
-//! An answer of rows.
+//! An answer of rows, by the run of Bland's rule on their scaled program.
 ghost use Rattle.std.specs.Prelude.{◌≡◌, IfOk, IfErr};
 ghost use Rattle.dcx_chained.specs.Tables.{table_of};
 ghost use Rattle.dcx_lp_answer.specs.Right.{IsRight};
@@ -51,9 +51,13 @@ fn read(alloc: Global, program: Program, tableau: Chained, end: &LpEnd) -> Resul
     }
 }
 
-/// The run on a scaled program, of at most `limit` pivots.
-fn run(alloc: Global, program: Program, limit: u64) -> Result<Solved, SolveStop>
+/// Solves a scaled program with at most `limit` pivots: its tableau at the last basis of the run of Bland's rule, and the answer
+/// that is read there, which is right.
+///
+/// `Wide` with the site of a pivot, and `PivotLimit`, exactly where the run ends so. `Memory` where there is none.
+pub fn solve_program(alloc: Global, program: Program, limit: u64) -> Result<Solved, SolveStop>
     ensures solved { IfOk result (IsRunSolved limit program) }
+    ensures right { IfOk result (λ s. IsRight s.program s.answer) }
     ensures stops { IfErr result (RunStops limit program) }
 {
     let mut tableau = match Chained::build(alloc, &program) {
@@ -90,15 +94,15 @@ fn run(alloc: Global, program: Program, limit: u64) -> Result<Solved, SolveStop>
 /// Solves rows with at most `limit` pivots: their scaled program, its tableau at the last basis, and the answer that is read
 /// there, which is right.
 ///
-/// `TooLarge` and `Wide` with the site of a row where the rows have no scaled program, as `integer_rows` has it; then `Wide` with
-/// the site of a pivot, and `PivotLimit`, exactly where the run of Bland's rule ends so. `Memory` where there is none.
+/// `TooLarge` and `Wide` with the site of a row where the rows have no scaled program, as `integer_rows` has it; then the stops
+/// of `solve_program`.
 pub fn solve_rows(alloc: Global, rows: &Rows<Frac>, limit: u64) -> Result<Solved, SolveStop>
     ensures solved { IfOk result (IsSolved limit (given rows.now.kinds rows.now.rows rows.now.objective)) }
     ensures right { IfOk result (λ s. IsRight s.program s.answer) }
     ensures stops { IfErr result (Stops limit (given rows.now.kinds rows.now.rows rows.now.objective)) }
 {
     match integer_rows(alloc, rows) {
-        Ok(program) => run(alloc, program, limit),
+        Ok(program) => solve_program(alloc, program, limit),
         Err(stop) => Err(rows_stop(stop)),
     }
 }

@@ -44,8 +44,8 @@ impl From<AllocError> for SolveStop {
     }
 }
 
-/// Why rows have no scaled program.
-pub(crate) fn rows_stop(stop: RowStop) -> SolveStop
+/// The stop of rows that have no scaled program.
+pub fn rows_stop(stop: RowStop) -> SolveStop
     ensures { result ≡ rows_stop stop }
 {
     match stop {

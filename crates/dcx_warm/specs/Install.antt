@@ -13,10 +13,14 @@ IsSound t = IsTableau (t.columns + 3) t.basis t.rows
 abbrev pub IsListed : List ℕ → ℕ → Type 0
 IsListed columns c = (k : ℕ) × (k < length columns) × (get_or columns k 0 ≡ c)
 
+-- no column stands twice in the list
+abbrev pub AreApart : List ℕ → Type 0
+AreApart columns = (i k : ℕ) → i < length columns → k < length columns → get_or columns i 0 ≡ get_or columns k 0 → i ≡ k
+
 -- different columns that aren't artificial, where the first `plain` columns are those
 pub record IsColumnList (plain : ℕ) (columns : List ℕ) : Type 0 where
   pub below : (c : ℕ) → IsListed columns c → c < plain
-  pub apart : (i k : ℕ) → i < length columns → k < length columns → get_or columns i 0 ≡ get_or columns k 0 → i ≡ k
+  pub apart : AreApart columns
 
 -- of the listed columns that aren't basic, the least
 pub record IsTaken (columns : List ℕ) (t : Table) (c : ℕ) : Type 0 where

@@ -12,4 +12,4 @@ returns-in-Err-clause-stops g c = setting_stops c.args.problem.now c.args.settin
 
 pub returns-in-Ok-clause-answer : goal.returns-in-Ok-clause-answer
 returns-in-Ok-clause-answer g c =
-    at_last c.args.problem.now c.args.setting.now c.args.limit (option_copied c.args.columns) c.in-Ok.reduced c.from_kept.result c.from_kept.ensures.same c.from_kept.ensures.answer
+    at_last c.args.problem.now c.args.setting.now c.args.limit (option_copied c.args.columns) c.in-Ok.reduced c.from_rows.result c.from_rows.ensures.same c.from_rows.ensures.answer

@@ -1,21 +1,22 @@
--- A stop of the run, or of making the program, is a stop of the rows.
+-- What solves the program solves the rows. A stop of the run, or of making the program, is a stop of the rows.
 use Rattle.std.proofs.Common.{sym, subst}
 use Rattle.std.proofs.lemmas.Result.{IfOk-weaker}
-use Rattle.dcx_lp_answer.specs.Right.{IsRight}
 use Rattle.dcx_std.specs.GivenRows.{given}
-use Rattle.dcx_lp_solve.specs.Solved.{IsRunSolved, Stops}
-use Rattle.dcx_lp_solve.proofs.Right.{run_right}
-use Rattle.dcx_lp_solve.proofs.Ends.{result_stops, row_stops}
+use Rattle.dcx_lp_solve.specs.Solved.{IsRunSolved, IsSolved, Stops}
+use Rattle.dcx_lp_solve.proofs.Ends.{run_solves, result_stops, row_stops}
 use Rattle.dcx_lp_solve.proofs.solving.solve_rows.Goals as goal
 
-pub returns-in-Ok-clause-right : goal.returns-in-Ok-clause-right
-returns-in-Ok-clause-right c =
-    IfOk-weaker c.run.result (IsRunSolved c.args.limit c.in-Ok.program) (λ s. IsRight s.program s.answer) (run_right c.args.limit c.in-Ok.program) c.run.ensures.solved
+pub returns-in-Ok-clause-solved : goal.returns-in-Ok-clause-solved
+returns-in-Ok-clause-solved c =
+    let rows = given c.args.rows.now.kinds c.args.rows.now.rows c.args.rows.now.objective in
+    let program = c.in-Ok.program in
+    IfOk-weaker c.solve_program.result (IsRunSolved c.args.limit program) (IsSolved c.args.limit rows) (run_solves c.args.limit rows program (c.in-Ok.ensures {u = tt}).made)
+    c.solve_program.ensures.solved
 
 pub returns-in-Ok-clause-stops : goal.returns-in-Ok-clause-stops
 returns-in-Ok-clause-stops c =
     let rows = given c.args.rows.now.kinds c.args.rows.now.rows c.args.rows.now.objective in
-    result_stops c.args.limit rows c.in-Ok.program (c.in-Ok.ensures {u = tt}).made c.run.result c.run.ensures.stops
+    result_stops c.args.limit rows c.in-Ok.program (c.in-Ok.ensures {u = tt}).made c.solve_program.result c.solve_program.ensures.stops
 
 pub returns-in-Err-clause-stops : goal.returns-in-Err-clause-stops
 returns-in-Err-clause-stops c =

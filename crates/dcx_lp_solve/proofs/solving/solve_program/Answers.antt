@@ -1,11 +1,14 @@
 -- The run starts from the tableau of the program: so its end is one that is read, or the stop of the program.
 use Rattle.std.proofs.Common.{refl, subst}
+use Rattle.std.proofs.lemmas.Result.{IfOk-weaker}
 use Rattle.dcx_chained.specs.Tables.{table_of}
+use Rattle.dcx_lp_answer.specs.Right.{IsRight}
 use Rattle.dcx_simplex.specs.Whole.{RunEnds}
 use Rattle.dcx_simplex.specs.declared.run.LpEnd.TheVariants as ends
-use Rattle.dcx_lp_solve.specs.Solved.{RunStops}
+use Rattle.dcx_lp_solve.specs.Solved.{IsRunSolved, RunStops}
 use Rattle.dcx_lp_solve.proofs.Ends.{memory_stops, finished, read_solved}
-use Rattle.dcx_lp_solve.proofs.solving.run.Goals as goal
+use Rattle.dcx_lp_solve.proofs.Right.{run_right}
+use Rattle.dcx_lp_solve.proofs.solving.solve_program.Goals as goal
 
 pub read-requires : goal.read-requires
 read-requires c =
@@ -15,10 +18,12 @@ read-requires c =
 pub returns-in-Optimal : goal.returns-in-Optimal
 returns-in-Optimal c =
     let u = table_of c.solve-end.new.tableau in
+    let solved = read_solved c.args.limit c.args.program c.solve-end.new.tableau c.solve-end.result
+    (subst (λ t. RunEnds c.args.limit t u c.solve-end.result) (c.in-Ok.ensures {u = tt}) c.solve-end.ensures.run)
+    c.read.result c.read.ensures.program c.read.ensures.tableau c.read.ensures.read in
     record {
-      solved = read_solved c.args.limit c.args.program c.solve-end.new.tableau c.solve-end.result
-          (subst (λ t. RunEnds c.args.limit t u c.solve-end.result) (c.in-Ok.ensures {u = tt}) c.solve-end.ensures.run)
-          c.read.result c.read.ensures.program c.read.ensures.tableau c.read.ensures.read;
+      solved = solved;
+      right = IfOk-weaker c.read.result (IsRunSolved c.args.limit c.args.program) (λ s. IsRight s.program s.answer) (run_right c.args.limit c.args.program) solved;
       stops = memory_stops (RunStops c.args.limit c.args.program) tt c.read.result c.read.ensures.stops;
     }
 
