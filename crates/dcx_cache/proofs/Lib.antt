@@ -2,6 +2,8 @@
 pub mod Arrays
 pub mod Maps
 pub mod Kept
+pub mod Counting
+pub mod InTurn
 pub mod Answered
 pub mod Stopped
 pub mod ScaledRows

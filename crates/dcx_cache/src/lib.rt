@@ -18,6 +18,9 @@
 //! | the program, the answer of the rows and the tableau of the last answer are shown, and none after a stop | `Session::last`, `Session::tableau`, `Session::solve` |
 //! | a stop changes nothing for the next setting: the problem, its map and the kept columns stay | `Session::solve`: `same`, `columns` |
 //! | a session with a map counts no step at a setting, another one at most one for each node | `Session::solve` |
+//! | a session begins, or its problem and its verdict are dropped, where memory is wanting | `begin` |
+//! | what is done at settings is done in order, each from the columns and the tally that the one before it left | `session_outcomes`, `problem_outcomes`, `specs/InTurn.antt`: `EndInTurn` |
+//! | a problem that has a map is reduced once for all settings, another one at most once more at each | `problem_outcomes`, `specs/Counts.antt`: `Counts` |
 //! | the basic columns of the last optimal answer are kept, and no other answer and no stop changes them | `Session::solve`, `Session::solve_warm`, `specs/Columns.antt`: `Keeps` |
 //! | a setting is answered by the warm run from these columns exactly where that is told, and else as without them | `Session::solve_warm`, `specs/Warm.antt`: `WarmAnswers` |
 //! | a warm answer is right, and has the status and value of a fresh one | `laws::warm_answers_are_right`, `laws::warm_answers_agree` |
@@ -30,7 +33,9 @@
 #![tactic(auto)]
 
 mod answering;
+mod beginning;
 mod columns;
+mod each_setting;
 pub mod laws;
 mod program;
 mod rewarming;
@@ -38,5 +43,7 @@ mod scaled;
 mod session;
 mod stops;
 
+pub use beginning::begin;
+pub use each_setting::{EachSetting, problem_outcomes, session_outcomes};
 pub use rewarming::Warmed;
 pub use session::Session;
