@@ -13,3 +13,4 @@ pub mod Listings
 pub mod Lines
 pub mod Agreements
 pub mod NarrowRows
+pub mod Sizes

@@ -1,9 +1,7 @@
--- Narrow rows: what keeps a row narrow, and why no pivot on such rows is wide.
-use Rattle.std.proofs.Common.{◌≡◌, ℕ, ◌+◌, ◌<◌, ◌≤◌, ◌^◌, length, Bool, true, false, ◌&&◌, ℤ, pos, negsuc, ◌-ℤ◌, ◌*ℤ◌, unsigned_abs, arith, refl, sym, ap, subst, inl, inr}
-use Rattle.std.proofs.lemmas.Bool.{cases_lt}
+-- Why no pivot on narrow rows is wide.
+use Rattle.std.proofs.Common.{ℕ, ◌+◌, ◌<◌, ◌≤◌, ◌^◌, ℤ, pos, negsuc, ◌-ℤ◌, ◌*ℤ◌, unsigned_abs, arith, sym, ap, subst}
 use Rattle.std.proofs.lemmas.Int.{ints}
 use Rattle.std.proofs.lemmas.Nat.{mul-lt}
-use Rattle.std.proofs.lemmas.List.{get_or_past}
 use native.Mathlib.Nat.{div-le_self}
 use Rattle.dcx_math.specs.Divisors.{divided}
 use Rattle.dcx_math.proofs.Divisors.{unsigned_abs-divided}
@@ -13,17 +11,8 @@ use Rattle.dcx_tab.specs.Pivot.{turned, turned_by, shared, IsFormed, IsRowFormed
 use Rattle.dcx_tab.proofs.RowLaws.{entry-scaled}
 use Rattle.dcx_chained.specs.Narrow.{IsNarrow}
 
-pub both_left : (a b : Bool) → (a && b) ≡ true → a ≡ true
-both_left true b e = refl
-both_left false b e = e
-
-pub both_right : (a b : Bool) → (a && b) ≡ true → b ≡ true
-both_right true b e = e
-both_right false true e = refl
-both_right false false e = e
-
 -- ---- numbers
-abs-less : (a b : ℤ) → unsigned_abs (a -ℤ b) ≤ unsigned_abs a + unsigned_abs b
+pub abs-less : (a b : ℤ) → unsigned_abs (a -ℤ b) ≤ unsigned_abs a + unsigned_abs b
 abs-less (pos m) (pos n) = omega (arith, ints)
 abs-less (pos m) (negsuc n) = omega (arith, ints)
 abs-less (negsuc m) (pos n) = omega (arith, ints)
@@ -48,7 +37,7 @@ narrow_by_sign : (z : ℤ) (row : Row) → IsNarrow row → IsNarrow (turned_by 
 narrow_by_sign (pos n) row h = h
 narrow_by_sign (negsuc n) row h = λ j. let e = ap unsigned_abs (entry-scaled (negsuc 0) row j) in let f = unsigned_abs-*ℤ (negsuc 0) (entry row j) in let k = h j in omega arith
 
-pub narrow-turned : (c : ℕ) (row : Row) → IsNarrow row → IsNarrow (turned c row)
+narrow-turned : (c : ℕ) (row : Row) → IsNarrow row → IsNarrow (turned c row)
 narrow-turned c row h = narrow_by_sign (entry row c) row h
 
 -- nothing that a pivot forms in a narrow row passes
@@ -58,9 +47,3 @@ narrow_formed c pivot row a b = λ met j lt.
     let h = narrow-turned c pivot a in
     let g = shared c by row in
     four_narrow (divided g (entry by c)) (entry row j) (divided g (entry row c)) (entry by j) (narrow_quotient g (entry by c) (h c)) (b j) (narrow_quotient g (entry row c) (b c)) (h j)
-
-pub narrow_where : (row : Row) → ((j : ℕ) → j < length row → unsigned_abs (entry row j) < 2 ^ 62) → IsNarrow row
-narrow_where row h = λ j. elim (cases_lt j (length row)) [
-  | inl lt ↦ h j lt
-  | inr past ↦ let z = ap unsigned_abs (get_or_past row j (pos 0) past) in omega (arith, z)
-]

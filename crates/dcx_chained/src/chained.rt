@@ -4,22 +4,23 @@ ghost use Rattle.dcx_tab.specs.Rows.{entry, AllSmall};
 ghost use Rattle.dcx_tab.specs.Pivot.{turned, IsFirstWideAt, AllFormedAt};
 ghost use Rattle.dcx_links.specs.Matrix.{row_of};
 ghost use Rattle.dcx_chained.specs.Rows.{rows_of};
-ghost use Rattle.dcx_chained.specs.Narrow.{IsNarrow};
+ghost use Rattle.dcx_chained.specs.Narrow.{AreSized};
 
 use crate::build::{put_line, put_rows};
 use crate::clear::{clear_rows, turn_row};
 use crate::cost::first_positive;
-use crate::narrow::are_rows_narrow;
+use crate::narrow::note_sizes;
 use crate::wide::first_wide;
 use dcx_links::{Entry, Links};
 use dcx_tab::{Program, Tableau, WideAt, first_basis, plain_of};
 use std::alloc::{AllocError, Global};
 
-/// A tableau in linked cells: only numbers other than 0 are met.
+/// A tableau in linked cells: only numbers other than 0 are met. While it is narrow, each row has a size that no number of it passes.
 #[derive(Drop)]
 pub struct Chained {
     links: Links,
     entries: Vec<Entry>,
+    sizes: Vec<u64>,
     basis: Vec<u32>,
     rows: u32,
     columns: u32,
@@ -28,12 +29,13 @@ pub struct Chained {
     ghost height: { links.height ≡ rows + 2 },
     ghost width: { links.width ≡ columns + 3 },
     ghost room: { length entries.items ≡ columns + 3 },
+    ghost sizes_size: { length sizes.items ≡ rows + 2 },
     ghost basis_size: { length basis.items ≡ rows + 2 },
     ghost row_count: { rows + 2 < 2 ^ 32 },
     ghost column_count: { columns + 3 < 2 ^ 32 },
     ghost plain_below: { plain ≤ columns },
     ghost small: { (i : ℕ) → i < rows + 2 → AllSmall (row_of links i) },
-    ghost narrow_rows: { narrow ≡ true → (i : ℕ) → i < rows + 2 → IsNarrow (row_of links i) },
+    ghost narrow_rows: { narrow ≡ true → AreSized (rows + 2) sizes.items links },
 }
 
 impl Chained {
@@ -51,6 +53,7 @@ impl Chained {
         let columns = kinds.len() as u32;
         let mut links = Links::reserve(alloc, count + 2, columns + 3)?;
         let entries = vec![in alloc; Entry { at: 0, value: 0 }; kinds.len() + 3]?;
+        let mut sizes = vec![in alloc; 0u64; rows.len() + 2]?;
         let basis = first_basis(alloc, program)?;
         put_rows(&mut links, rows);
         let objective = &program.objective;
@@ -71,10 +74,11 @@ impl Chained {
             phase.lead,
             phase.right,
         );
-        let narrow = are_rows_narrow(&links, count + 2);
+        let narrow = note_sizes(&links, count + 2, &mut sizes);
         Ok(Chained {
             links,
             entries,
+            sizes,
             basis,
             rows: count,
             columns,
@@ -136,10 +140,17 @@ impl Tableau for Chained {
         if let Some(at) = self.wide_at(row, column) {
             return Err(at);
         }
-        let are_narrow = clear_rows(&mut self.links, row, column, &mut self.entries);
+        let are_narrow = clear_rows(
+            &mut self.links,
+            row,
+            column,
+            &mut self.entries,
+            &mut self.sizes,
+            self.narrow,
+        );
         turn_row(&mut self.links, row, column);
         self.basis[row as usize] = column;
-        self.narrow &= are_narrow;
+        self.narrow = are_narrow;
         Ok(())
     }
 }

@@ -5,7 +5,8 @@
 //!
 //! A pivot at row r and column c walks c's chain and, row by row, tests every number that it would form: the row's chain and
 //! that of r are passed together, once. Only then it writes. While all numbers have at most 62 bits no such number is too great,
-//! and none is tested.
+//! and none is tested. Whether they still have is told by a size that is kept for each row, at least the magnitude of each of its
+//! numbers: where a row is cleared its size is formed anew from the factors, and only where that has more bits the row is looked through.
 //!
 //! The numbers of r are listed once, and the rows that c's chain leads to are cleared in rising order, each in its cells: it is
 //! multiplied where its factor isn't 1, a multiple of each listed number is taken from it, and it is divided by its common

@@ -7,6 +7,7 @@ use Rattle.dcx_tab.proofs.LineSteps.{eliminated_some, small_where}
 use Rattle.dcx_links.specs.Matrix.{row_of}
 use Rattle.dcx_chained.proofs.RowReads.{length-row_of, entry-row_of, row_same}
 use Rattle.dcx_chained.proofs.Listings.{cleared_row}
+use Rattle.dcx_chained.proofs.Sizes.{mixed_bounds}
 use Rattle.dcx_chained.proofs.clear.clear_row.Goals as goal
 
 pub mix_row-requires-clause-formed : goal.mix_row-requires-clause-formed
@@ -35,3 +36,6 @@ returns-clause-row c =
 
 pub returns-clause-same : goal.returns-clause-same
 returns-clause-same c = λ k other. row_same c.args.links.now c.reduce_row.new.links k (c.reduce_row.ensures.width ∙ c.mix_row.ensures.width) (λ j. c.reduce_row.ensures.same k j other ∙ c.mix_row.ensures.same k j other)
+
+pub returns-clause-bounded : goal.returns-clause-bounded
+returns-clause-bounded c = mixed_bounds c.args.links.now c.mix_row.new.links c.reduce_row.new.links c.args.i c.args.r c.args.factors.row c.args.factors.by c.mix_row.ensures.width c.reduce_row.ensures.row c.mix_row.ensures.mixed

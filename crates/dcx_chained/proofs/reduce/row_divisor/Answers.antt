@@ -33,8 +33,8 @@ returns-then-found-eq1 c =
     let fx : SFits w128 x.value = search rules in
     let a : c.unsigned_abs.result ≡ unsigned_abs x.value = simp to_z-of_z at c.unsigned_abs.ensures.value in
     let next = subst (λ (ns : Row). ComesNext (record { numbers = ns; from = c.numbers.walk.from }) x) v.numbers c.in-Some.ensures.steps.0 in
-    let g : c.gcd-found.result ≡ gcd (unsigned_abs x.value) c.numbers.found = c.gcd-found.ensures ∙ ap (λ n. gcd n c.numbers.found) a in
-    divides_one row (x.at + 1) c.gcd-found.result (subst (DividesBefore row (x.at + 1)) (sym g) (divides_next row c.numbers.walk.from c.numbers.found v.found x next)) c.if-found-eq1.true
+    let g : c.shared_with-found.result ≡ gcd (unsigned_abs x.value) c.numbers.found = c.shared_with-found.ensures ∙ ap (λ n. gcd n c.numbers.found) a in
+    divides_one row (x.at + 1) c.shared_with-found.result (subst (DividesBefore row (x.at + 1)) (sym g) (divides_next row c.numbers.walk.from c.numbers.found v.found x next)) c.if-found-eq1.true
 
 pub numbers-preserved : goal.numbers-preserved
 numbers-preserved c =
@@ -45,11 +45,11 @@ numbers-preserved c =
     let fx : SFits w128 x.value = search rules in
     let a : c.unsigned_abs.result ≡ unsigned_abs x.value = simp to_z-of_z at c.unsigned_abs.ensures.value in
     let next = subst (λ (ns : Row). ComesNext (record { numbers = ns; from = c.numbers.walk.from }) x) v.numbers s.0 in
-    let g : c.gcd-found.result ≡ gcd (unsigned_abs x.value) c.numbers.found = c.gcd-found.ensures ∙ ap (λ n. gcd n c.numbers.found) a in
+    let g : c.shared_with-found.result ≡ gcd (unsigned_abs x.value) c.numbers.found = c.shared_with-found.ensures ∙ ap (λ n. gcd n c.numbers.found) a in
     let f : c.next.new.self.from ≡ x.at + 1 = ap (λ (w : Walk). w.from) s.1 in
     record {
       numbers = ap (λ (y : Walk). y.numbers) s.1 ∙ v.numbers;
-      found = subst (λ n. DividesBefore row n c.gcd-found.result) (sym f) (subst (DividesBefore row (x.at + 1)) (sym g) (divides_next row c.numbers.walk.from c.numbers.found v.found x next));
+      found = subst (λ n. DividesBefore row n c.shared_with-found.result) (sym f) (subst (DividesBefore row (x.at + 1)) (sym g) (divides_next row c.numbers.walk.from c.numbers.found v.found x next));
     }
 
 pub returns : goal.returns

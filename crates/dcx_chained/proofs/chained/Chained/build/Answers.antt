@@ -1,10 +1,12 @@
 -- The cells have the rows of the first tableau.
-use Rattle.std.proofs.Common.{rules, arith, ◌≡◌, ℕ, ◌+◌, ◌<◌, ◌∷◌, ◌++◌, [], length, map, pos, refl, sym, ap, ◌∙◌, to_z-of_z, SFits}
+use Rattle.std.proofs.Common.{rules, arith, ◌≡◌, ℕ, ◌+◌, ◌<◌, List, ◌∷◌, ◌++◌, [], length, take, drop, map, pos, refl, sym, ap, ◌∙◌, subst, to_z-of_z, SFits}
 use Rattle.std.specs.Int.{w128}
+use Rattle.std.proofs.lemmas.List.{take_at}
 use Rattle.dcx_tab.specs.Rows.{Row, entry, row_at}
 use Rattle.dcx_tab.specs.Program.{plain_count, tableau_row, objective_row, phase_row}
 use Rattle.dcx_tab.proofs.Programs.{few_in_all, length_basis, plain_count_le, same_table}
 use Rattle.dcx_links.specs.Matrix.{row_of}
+use Rattle.dcx_chained.specs.Narrow.{AreSized}
 use Rattle.dcx_chained.proofs.Lines.{first_rows, first_small, row_width}
 use Rattle.dcx_chained.proofs.RowReads.{zeros-row_of}
 use Rattle.dcx_chained.proofs.chained.Chained.build.Goals as goal
@@ -23,6 +25,9 @@ overflow_add-columns c = let p = c.args.program.now in let f = few_in_all p.rows
 
 pub overflow_add-kinds : goal.overflow_add-kinds
 overflow_add-kinds c = let p = c.args.program.now in let f = few_in_all p.rows p.columns p.objective p.phase p.form in let l = ap length c.as_slice-kinds.ensures in record { fits = omega (arith, f, l) }
+
+pub overflow_add-rows : goal.overflow_add-rows
+overflow_add-rows c = let p = c.args.program.now in let f = p.form.few_rows in let l = ap length c.as_slice-rows.ensures in record { fits = omega (arith, f, l) }
 
 pub same-links : goal.same-links
 same-links c = refl
@@ -124,25 +129,35 @@ invariant_of-result c =
     let at_phase : row_of m (length p.rows + 1) ≡ phase_row p.phase =
     ap (λ n. row_of m (n + 1)) (sym er) ∙ (simp to_z-of_z at c.put_line-2.ensures.row) ∙ ap (λ (xs : Row). xs ++ pos 0 ∷ p.phase.lead ∷ p.phase.right ∷ []) c.as_slice-2.ensures in
     let few = few_in_all p.rows p.columns p.objective p.phase p.form in
+    let sizes = c.note_sizes-narrow.new.sizes in
+    let sized : take c.in_ok-sizes.sizes.len (sizes ++ drop (length sizes) c.in_ok-sizes.sizes.items) ≡ sizes = take_at sizes _ c.in_ok-sizes.sizes.len (c.note_sizes-narrow.auto.sizes ∙ c.deref_mut.ensures.len) in
     record {
       height = high ∙ ap (λ n. n + 2) (sym er);
       width = c.put_line-2.ensures.width ∙ c.put_line.ensures.width ∙ c.put_rows.ensures.width ∙ c.in_ok-links.ensures.width;
       room = (let s = c.in_ok-entries.entries.ok in let e = c.in_ok-entries.ensures.len in omega (arith, s, e));
+      sizes_size = (let q = ap length sized in let a = c.note_sizes-narrow.auto.sizes in let d = c.deref_mut.ensures.len in let s = c.in_ok-sizes.sizes.ok in let e = c.in_ok-sizes.ensures.len in omega (arith, q, a, d, s, e));
       basis_size = ap length c.in_ok-basis.ensures ∙ length_basis p.rows p.columns p.objective p.phase p.form ∙ ap (λ n. n + 2) (sym er);
       row_count = (let g = p.form.few_rows in omega (arith, er, g));
       column_count = omega (arith, kinds, few);
       plain_below = (let l = plain_count_le p.columns in let e = c.plain_of.ensures ∙ ap plain_count c.as_slice-kinds.ensures in omega (arith, l, e, kinds));
       small = λ i lt. first_small p.rows p.columns p.objective p.phase p.form m high put at_objective at_phase i (omega (arith, lt, er));
-      narrow_rows = λ t i lt. c.are_rows_narrow-narrow.ensures t i lt;
+      narrow_rows = λ t. subst (λ (ss : List ℕ). AreSized (length rs + 2) ss m) (sym sized) (c.note_sizes-narrow.ensures t);
     }
 
-pub are_rows_narrow-narrow-requires : goal.are_rows_narrow-narrow-requires
-are_rows_narrow-narrow-requires c =
+pub note_sizes-narrow-requires-clause-rows : goal.note_sizes-narrow-requires-clause-rows
+note_sizes-narrow-requires-clause-rows c =
     let a = c.put_rows.ensures.height in
     let b = c.put_line.ensures.height in
     let d = c.put_line-2.ensures.height in
     let h = c.in_ok-links.ensures.height in
     omega (arith, a, b, d, h)
+
+pub note_sizes-narrow-requires-clause-room : goal.note_sizes-narrow-requires-clause-room
+note_sizes-narrow-requires-clause-room c =
+    let d = c.deref_mut.ensures.len in
+    let s = c.in_ok-sizes.sizes.ok in
+    let e = c.in_ok-sizes.ensures.len in
+    omega (arith, d, s, e)
 
 pub returns : goal.returns
 returns c =

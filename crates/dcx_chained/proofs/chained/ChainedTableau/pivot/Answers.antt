@@ -1,8 +1,8 @@
 -- The rows are those of the pivot.
-use Rattle.std.proofs.Common.{arith, ◌≢◌, ◌+◌, ◌<◌, set, pos, refl, sym, ap, ◌∙◌, subst, inl, inr}
+use Rattle.std.proofs.Common.{arith, ◌≡◌, ◌≢◌, ℕ, ◌+◌, ◌<◌, List, ◌++◌, length, take, drop, set, pos, refl, sym, ap, ◌∙◌, subst, inl, inr}
 use Rattle.std.specs.Vec.{with_items}
 use Rattle.std.proofs.lemmas.Bool.{cases_eq}
-use Rattle.std.proofs.lemmas.List.{length-set}
+use Rattle.std.proofs.lemmas.List.{length-set, take_at}
 use Rattle.dcx_tab.specs.Rows.{Row, entry, AllSmall, IsTableauOf}
 use Rattle.dcx_tab.specs.Pivot.{turned}
 use Rattle.dcx_tab.proofs.LineSteps.{small-turned}
@@ -10,8 +10,8 @@ use Rattle.dcx_tab.proofs.Pivots.{IsTableauOf-pivoted, turns}
 use Rattle.dcx_tab.proofs.Programs.{same_table}
 use Rattle.dcx_links.specs.Matrix.{row_of}
 use Rattle.dcx_chained.specs.Rows.{rows_of}
-use Rattle.dcx_chained.specs.Narrow.{IsNarrow}
-use Rattle.dcx_chained.proofs.NarrowRows.{both_left, both_right, narrow-turned}
+use Rattle.dcx_chained.specs.Narrow.{IsSized, size_at}
+use Rattle.dcx_chained.proofs.Sizes.{sized-turned}
 use Rattle.dcx_chained.proofs.RowReads.{length-row_of, length-rows_of, row_at-rows_of}
 use Rattle.dcx_chained.proofs.Cleared.{small-eliminated}
 use Rattle.dcx_chained.proofs.Pivoted.{rows_pivoted, all_formed, rows_formed, first_wide_of}
@@ -46,6 +46,19 @@ clear_rows-are_narrow-requires-clause-some c =
 
 pub clear_rows-are_narrow-requires-clause-small : goal.clear_rows-are_narrow-requires-clause-small
 clear_rows-are_narrow-requires-clause-small c = λ k lt. let h = c.args.self.now.height in c.args.self.now.small k (omega (arith, lt, h))
+
+pub clear_rows-are_narrow-requires-clause-sizes : goal.clear_rows-are_narrow-requires-clause-sizes
+clear_rows-are_narrow-requires-clause-sizes c =
+    let h = c.args.self.now.height in
+    let s = c.args.self.now.sizes_size in
+    let v = ap length c.deref_mut-2.ensures.value in
+    omega (arith, h, s, v)
+
+pub clear_rows-are_narrow-requires-clause-narrow : goal.clear_rows-are_narrow-requires-clause-narrow
+clear_rows-are_narrow-requires-clause-narrow c = λ t i lt.
+    let s = c.args.self.now in
+    let h = s.height in
+    subst (λ (sizes : List ℕ). IsSized (size_at sizes i) (row_of s.links i)) (sym c.deref_mut-2.ensures.value) (s.narrow_rows t i (omega (arith, lt, h)))
 
 pub clear_rows-are_narrow-requires-clause-formed : goal.clear_rows-are_narrow-requires-clause-formed
 clear_rows-are_narrow-requires-clause-formed c =
@@ -120,6 +133,7 @@ invariant_of-self c =
       height = c.turn_row.ensures.height ∙ c.clear_rows-are_narrow.ensures.height ∙ s.height;
       width = c.turn_row.ensures.width ∙ c.clear_rows-are_narrow.ensures.width ∙ s.width;
       room = (let w = with_items s.entries c.clear_rows-are_narrow.new.entries in sym w.ok.0 ∙ s.entries.ok.0 ∙ s.room);
+      sizes_size = (let w = with_items s.sizes c.clear_rows-are_narrow.new.sizes in sym w.ok.0 ∙ s.sizes.ok.0 ∙ s.sizes_size);
       basis_size = length-set s.basis.items row column ∙ s.basis_size;
       row_count = s.row_count;
       column_count = s.column_count;
@@ -131,15 +145,15 @@ invariant_of-self c =
             (rows_formed m row column (turned column (row_of m row)) c.in_default.ensures.none i i_in d))
       ];
       narrow_rows = λ t i lt.
-          let i_in : i < m.height = omega (arith, lt, h) in
-          let was = s.narrow_rows (both_left s.narrow c.clear_rows-are_narrow.result t) in
-          elim (cases_eq i row) [
-            | inl e ↦ subst IsNarrow (sym (ap (row_of n) e ∙ c.turn_row.ensures.row ∙ ap (turned column) c.clear_rows-are_narrow.ensures.same)) (narrow-turned column (row_of m row) (was row (omega (arith, in_row, h))))
-            | inr d ↦ subst IsNarrow (sym (c.turn_row.ensures.same i d)) (elim (c.clear_rows-are_narrow.ensures.narrow (both_right s.narrow c.clear_rows-are_narrow.result t) i i_in) [
-              | inl stays ↦ subst IsNarrow (sym stays) (was i lt)
-              | inr small ↦ small
-            ])
-          ];
+          let mid = c.clear_rows-are_narrow.new.links in
+          let sizes = c.clear_rows-are_narrow.new.sizes in
+          let e : take s.sizes.len (sizes ++ drop (length sizes) s.sizes.items) ≡ sizes = take_at sizes _ s.sizes.len (c.clear_rows-are_narrow.auto.sizes ∙ c.deref_mut-2.ensures.len) in
+          let now = c.clear_rows-are_narrow.ensures.narrow t in
+          let there : IsSized (size_at sizes i) (row_of n i) = elim (cases_eq i row) [
+            | inl q ↦ subst (λ k. IsSized (size_at sizes k) (row_of n k)) (sym q) (subst (λ (w : Row). IsSized (size_at sizes row) w) (sym c.turn_row.ensures.row) (sized-turned column (size_at sizes row) (row_of mid row) (now row in_row)))
+            | inr d ↦ subst (λ (w : Row). IsSized (size_at sizes i) w) (sym (c.turn_row.ensures.same i d)) (now i (omega (arith, lt, h)))
+          ] in
+          subst (λ (ss : List ℕ). IsSized (size_at ss i) (row_of n i)) (sym e) there;
     }
 
 pub clear_rows-are_narrow-requires-clause-pivot_row : goal.clear_rows-are_narrow-requires-clause-pivot_row
