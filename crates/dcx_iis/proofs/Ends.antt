@@ -1,4 +1,4 @@
--- The laws: the filter's set is minimal and one, programs tell of their sets, and the filter has one end.
+-- The laws: programs tell of their sets, and the filter has one end.
 use Rattle.std.proofs.Common.{◌≡◌, ◌≢◌, ◌⊎◌, ℕ, zero, suc, ◌<◌, ◌≤◌, arith, List, length, inl, inr, refl, sym, ap, ◌∙◌, subst}
 use Rattle.std.proofs.lemmas.Bool.{cases_order}
 use Rattle.std.proofs.lemmas.Option.{none-some, same_Some}
@@ -10,6 +10,9 @@ use Rattle.dcx_convex.specs.Nodes.{Setting}
 use Rattle.dcx_tree.specs.declared.constraint.Constraint.{Constraint}
 use Rattle.dcx_tree.specs.declared.problem.Problem.{Problem}
 use Rattle.dcx_tree.specs.Meaning.{point_of}
+use Rattle.dcx_right.specs.ConstraintSets.{ConstraintSet, every_constraint, set_of, KeepsSet, StayBelow, IsFilterSet}
+use Rattle.dcx_right.specs.Filters.{IsFeasiblePoint}
+use Rattle.dcx_right.proofs.ConstraintSets.{beside_same, one_filter_set, same_below}
 use Rattle.dcx_lp_answer.specs.declared.answer.LpStatus.TheVariants as status
 use Rattle.dcx_lp_answer.specs.declared.answer.LpAnswer.{LpAnswer}
 use Rattle.dcx_lp_answer.specs.Multipliers.{passing_from}
@@ -26,21 +29,13 @@ use Rattle.dcx_lp_solve.specs.Stops.{run_stop}
 use Rattle.dcx_lp_solve.proofs.OneSolution as one
 use Rattle.dcx_graph.specs.Program.{Program}
 use Rattle.dcx_answer.specs.declared.filtered.Filtered.TheVariants as filtered
-use Rattle.dcx_iis.specs.Sets.{ConstraintSet, every_constraint, set_of, KeepsSet, StayBelow, IsFilterSet}
 use Rattle.dcx_iis.specs.Steps.{kept_of, program_of_set, step_set, HasAnswer, IsLastImpossible, StopsInStep, StopsAtMultiplier, StopsAt, in_step, at_multiplier}
-use Rattle.dcx_iis.specs.Found.{IsFeasiblePoint, IsPossible, AreFound}
-use Rattle.dcx_iis.specs.Laws.{FilterSetsAreMinimal, FilterSetsAreOne, ProgramsTell, FoundOrStopped, StopsAreOne}
-use Rattle.dcx_iis.proofs.Sets.{beside_same, filter_set_is_minimal, one_filter_set, same_below}
+use Rattle.dcx_iis.specs.Found.{IsPossible, AreFound}
+use Rattle.dcx_iis.specs.Laws.{ProgramsTell, FoundOrStopped, StopsAreOne}
 use Rattle.dcx_iis.proofs.Kept.{kept_same}
 use Rattle.dcx_iis.proofs.Right.{answers_before, found_is_right}
 use Rattle.dcx_iis.proofs.Telling.{only, solution_keeps, infeasible_only, only_impossible, program_same}
 use Rattle.dcx_postsolve.specs.Programs.{multipliers_of}
-
-pub filter_sets_are_minimal : FilterSetsAreMinimal
-filter_sets_are_minimal p s set f = filter_set_is_minimal p s set f
-
-pub filter_sets_are_one : FilterSetsAreOne
-filter_sets_are_one p s a b f g k l = one_filter_set p s a b f g k l
 
 pub programs_tell : ProgramsTell
 programs_tell p s q set is = record {

@@ -21,6 +21,9 @@ use Rattle.dcx_unknowns.specs.Layout.{constraint_rows}
 use Rattle.dcx_postsolve.specs.Programs.{gap_rows, bound_row}
 use Rattle.dcx_postsolve.specs.Duals.{all_multipliers, AreDuals}
 use Rattle.dcx_right.specs.Answers.{multipliers_in}
+use Rattle.dcx_right.specs.ConstraintSets.{ConstraintSet, every_constraint, set_of, left_beside}
+use Rattle.dcx_right.specs.Filters.{HasShapeOf}
+use Rattle.dcx_right.proofs.ConstraintSets.{beside_same}
 use Rattle.dcx_lp_solve.specs.Solved.{IsSolved}
 use Rattle.dcx_graph.specs.Program.{Program}
 use Rattle.dcx_graph.proofs.Slacks.{gaps_length}
@@ -30,13 +33,11 @@ use Rattle.dcx_answer.specs.declared.filtered.Filtered.{Filtered}
 use Rattle.dcx_answer.specs.declared.filtered.Filtered.TheVariants as filtered
 use Rattle.dcx_iis.specs.declared.trying.Tried.TheVariants as tried
 use Rattle.dcx_iis.specs.declared.left.Left.{Left}
-use Rattle.dcx_iis.specs.Sets.{ConstraintSet, every_constraint, set_of, flagged, left_beside}
-use Rattle.dcx_iis.specs.Steps.{kept_of, IsStep, IsShownImpossible, HasAnswer, IsReadAt, in_step, at_multiplier, StopsFilter}
+use Rattle.dcx_iis.specs.Steps.{flagged, kept_of, IsStep, IsShownImpossible, HasAnswer, IsReadAt, in_step, at_multiplier, StopsFilter}
 use Rattle.dcx_graph.specs.Answers.{IsReducedAt}
 use Rattle.dcx_iis.specs.Found.{IsPossible, AreFound, IsFound}
-use Rattle.dcx_iis.specs.Multipliers.{HasShapeOf, AreSpread}
+use Rattle.dcx_iis.specs.Multipliers.{AreSpread}
 use Rattle.dcx_iis.specs.Runs.{IsTried, numbers_from, IsLeft, IsEnd, StopsTrying, StopsRun}
-use Rattle.dcx_iis.proofs.Sets.{beside_same}
 use Rattle.dcx_iis.proofs.Kept.{kept_same}
 use Rattle.dcx_iis.proofs.Telling.{program_same}
 use Rattle.dcx_iis.proofs.Shown.{zip_length, rows_noted, rows_few}

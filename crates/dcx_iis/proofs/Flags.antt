@@ -8,9 +8,10 @@ use Rattle.std.proofs.lemmas.Bool.{eq-eqb, ne_eqb}
 use Rattle.std.proofs.lemmas.List.{get_or_default, set-set, set-get_or, take-set-le, length-set}
 use Rattle.std.proofs.lemmas.List.Elements.{All-nil, All-cons, All-head, All-tail}
 use Rattle.dcx_math.specs.Rising.{IsRising}
-use Rattle.dcx_iis.specs.Sets.{every_constraint, set_of, flagged, left_beside}
+use Rattle.dcx_right.specs.ConstraintSets.{every_constraint, set_of, left_beside}
+use Rattle.dcx_right.proofs.ConstraintSets.{beside_is}
+use Rattle.dcx_iis.specs.Steps.{flagged}
 use Rattle.dcx_iis.specs.Runs.{numbers_from}
-use Rattle.dcx_iis.proofs.Sets.{beside_is}
 
 -- ---- sets that flags tell
 all_flags : (n k : ℕ) → flagged (replicate n true) k ≡ true

@@ -6,6 +6,7 @@ use Rattle.dcx_frac.specs.Frac.{value}
 use Rattle.dcx_atom.proofs.FormedSums.{zero_frac-unique}
 use Rattle.dcx_tree.specs.declared.constraint.Constraint.{Constraint}
 use Rattle.dcx_tree.specs.declared.problem.Problem.{Problem}
+use Rattle.dcx_right.specs.ConstraintSets.{ConstraintSet}
 use Rattle.dcx_linear.specs.declared.form.Form.{Form}
 use Rattle.dcx_linear.specs.declared.row.Row.{Row}
 use Rattle.dcx_linear.specs.declared.row.UnknownKind.{UnknownKind}
@@ -14,7 +15,6 @@ use Rattle.dcx_linear.specs.Widths.{form_width, rows_width}
 use Rattle.dcx_std.specs.GivenRows.{GivenRows, given}
 use Rattle.dcx_std.specs.Solutions.{HasKinds}
 use Rattle.dcx_graph.specs.Program.{Program}
-use Rattle.dcx_iis.specs.Sets.{ConstraintSet}
 use Rattle.dcx_iis.specs.Steps.{rows_from, program_of_set}
 use Rattle.dcx_iis.proofs.Kept.{rows_within}
 

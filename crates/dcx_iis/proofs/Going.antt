@@ -9,6 +9,8 @@ use Rattle.dcx_point.specs.Pairs.{Pairs}
 use Rattle.dcx_tree.specs.declared.problem.Problem.{Problem}
 use Rattle.dcx_answer.specs.declared.site.Site.TheVariants as sites
 use Rattle.dcx_answer.specs.declared.stop.Stop.TheVariants as stops
+use Rattle.dcx_right.specs.ConstraintSets.{ConstraintSet, every_constraint, left_beside}
+use Rattle.dcx_right.proofs.ConstraintSets.{beside_same, beside_itself, beside_behind}
 use Rattle.dcx_lp_answer.specs.declared.answer.LpStatus.{LpStatus}
 use Rattle.dcx_lp_answer.specs.declared.answer.LpAnswer.{LpAnswer}
 use Rattle.dcx_lp_answer.specs.declared.stop.MultiplierStop.{MultiplierStop}
@@ -23,10 +25,8 @@ use Rattle.dcx_answer.specs.declared.filter_stop.FilterStop.{FilterStop}
 use Rattle.dcx_answer.specs.declared.filter_stop.FilterStop.TheVariants as filter
 use Rattle.dcx_iis.specs.declared.trying.Tried.TheVariants as tried
 use Rattle.dcx_iis.specs.declared.left.Left.{Left}
-use Rattle.dcx_iis.specs.Sets.{ConstraintSet, every_constraint, flagged, left_beside}
-use Rattle.dcx_iis.specs.Steps.{kept_of, program_of_set, step_set, IsStep, IsShownImpossible, IsDecided, IsReadAt}
+use Rattle.dcx_iis.specs.Steps.{flagged, kept_of, program_of_set, step_set, IsStep, IsShownImpossible, IsDecided, IsReadAt}
 use Rattle.dcx_iis.specs.Runs.{IsTried, step_stop, StopsTry, numbers_from, IsLeft, StopsRun}
-use Rattle.dcx_iis.proofs.Sets.{beside_same, beside_itself, beside_behind}
 use Rattle.dcx_iis.proofs.Flags.{flagged_all, flagged_cleared, flags_restored, numbers_stay, numbers_cleared, numbers_below, zip_push, zip_weaker}
 
 -- the stop at a multiplier

@@ -9,12 +9,12 @@ use Rattle.dcx_convex.specs.Nodes.{Numbers}
 use Rattle.dcx_convex.specs.Reductions.{Unknowns}
 use Rattle.dcx_tree.specs.declared.constraint.Constraint.{Constraint}
 use Rattle.dcx_tree.specs.Meaning.{convex_constraint}
+use Rattle.dcx_right.specs.ConstraintSets.{ConstraintSet}
 use Rattle.dcx_linear.specs.declared.row.Row.{Row}
 use Rattle.dcx_linear.specs.Widths.{rows_width}
 use Rattle.dcx_linear.specs.Rows.{RowAt}
 use Rattle.dcx_unknowns.specs.Layout.{constraint_rows}
 use Rattle.dcx_postsolve.specs.Programs.{gap_row, gap_rows}
-use Rattle.dcx_iis.specs.Sets.{ConstraintSet}
 use Rattle.dcx_iis.specs.Steps.{kept_from, rows_from}
 
 -- ---- the items of a set

@@ -1,5 +1,4 @@
--- The lemmas by which the filter's set is impossible, minimal and one, and its multipliers show it.
-pub mod Sets
+-- The lemmas by which what the filter finds is right and one: the programs of its steps tell which sets are impossible, and multipliers show it.
 pub mod Kept
 pub mod Telling
 pub mod Spread

@@ -15,9 +15,10 @@ use Rattle.dcx_linear.specs.declared.row.Row.{Row}
 use Rattle.dcx_linear.proofs.Formed.{drop_at}
 use Rattle.dcx_unknowns.specs.Layout.{constraint_rows}
 use Rattle.dcx_right.specs.Answers.{multipliers_in}
-use Rattle.dcx_iis.specs.Sets.{ConstraintSet}
+use Rattle.dcx_right.specs.ConstraintSets.{ConstraintSet}
+use Rattle.dcx_right.specs.Filters.{HasShapeOf}
 use Rattle.dcx_iis.specs.Steps.{kept_from, kept_of, rows_from}
-use Rattle.dcx_iis.specs.Multipliers.{HasShapeOf, AreZeros, TakesNext, AreSpread}
+use Rattle.dcx_iis.specs.Multipliers.{AreZeros, TakesNext, AreSpread}
 use Rattle.dcx_iis.specs.Runs.{numbers_from}
 use Rattle.dcx_iis.proofs.Kept.{one_if, kept_push}
 use Rattle.dcx_iis.proofs.Flags.{zip_push}

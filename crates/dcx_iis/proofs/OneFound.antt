@@ -17,6 +17,9 @@ use Rattle.dcx_tree.specs.declared.problem.Problem.{Problem}
 use Rattle.dcx_tree.specs.Meaning.{point_of}
 use Rattle.dcx_postsolve.specs.Duals.{AreDuals}
 use Rattle.dcx_right.specs.Answers.{multipliers_in}
+use Rattle.dcx_right.specs.ConstraintSets.{ConstraintSet, every_constraint, set_of}
+use Rattle.dcx_right.specs.Filters.{HasShapeOf, IsFeasiblePoint, IsIrreducible, IsRightFor}
+use Rattle.dcx_right.proofs.ConstraintSets.{one_filter_set}
 use Rattle.dcx_postsolve.proofs.DualLaws.{are_one}
 use Rattle.dcx_lp_answer.specs.declared.answer.LpStatus.TheVariants as status
 use Rattle.dcx_lp_answer.specs.declared.answer.LpAnswer.{LpAnswer}
@@ -26,12 +29,9 @@ use Rattle.dcx_graph.specs.Answers.{IsPointRead, IsSamePoint}
 use Rattle.dcx_graph.proofs.OneReading.{same_point}
 use Rattle.dcx_answer.specs.declared.filtered.Filtered.{Filtered}
 use Rattle.dcx_answer.specs.declared.filtered.Filtered.TheVariants as filtered
-use Rattle.dcx_iis.specs.Sets.{ConstraintSet, every_constraint, set_of}
-use Rattle.dcx_iis.specs.Multipliers.{HasShapeOf}
 use Rattle.dcx_iis.specs.Steps.{kept_from, kept_of, program_of_set, step_set, IsReadIn, IsReadAt}
-use Rattle.dcx_iis.specs.Found.{IsFeasiblePoint, IsIrreducible, IsRight, IsPossible, AreFound, IsFound}
+use Rattle.dcx_iis.specs.Found.{IsPossible, AreFound, IsFound}
 use Rattle.dcx_iis.specs.Laws.{IsSameFiltered, FoundIsOne}
-use Rattle.dcx_iis.proofs.Sets.{one_filter_set}
 use Rattle.dcx_iis.proofs.Kept.{one_if, map-one}
 use Rattle.dcx_iis.proofs.Right.{found_is_right}
 
@@ -185,7 +185,7 @@ module _ (p : Problem) (s : Setting) (q : Program Frac) (limit : ℕ) where
   read_first : (x : Pairs) → IsPossible p q limit x → IsReadIn p q limit every_constraint 0 x
   read_first x h = record { solved = h.solved; is_solved = h.is_step.is_solved; read = h.read }
 
-  one_found : (a b : Filtered) → IsRight p s a → IsRight p s b → IsFound p q limit a → IsFound p q limit b → IsSameFiltered p a b
+  one_found : (a b : Filtered) → IsRightFor p s a → IsRightFor p s b → IsFound p q limit a → IsFound p q limit b → IsSameFiltered p a b
   one_found (filtered.Feasible x) (filtered.Feasible y) h g f k = one_read p q limit every_constraint 0 x y (read_first x f) (read_first y k)
   one_found (filtered.Feasible x) (filtered.Infeasible ms ds g xs) h r f k = apart x ms ds g xs h r
   one_found (filtered.Infeasible ms ds g xs) (filtered.Feasible y) h r f k = apart y ms ds g xs r h

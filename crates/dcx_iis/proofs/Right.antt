@@ -15,15 +15,16 @@ use Rattle.dcx_lp_answer.specs.declared.answer.LpStatus.TheVariants as status
 use Rattle.dcx_lp_answer.specs.declared.answer.LpAnswer.{LpAnswer}
 use Rattle.dcx_postsolve.specs.Duals.{AreDuals}
 use Rattle.dcx_right.specs.Answers.{multipliers_in}
+use Rattle.dcx_right.specs.ConstraintSets.{ConstraintSet, every_constraint, set_of, IsImpossible, left_beside, IsFilterSet}
+use Rattle.dcx_right.specs.Filters.{IsFeasiblePoint, KeepsOthers, IsIrreducible}
+use Rattle.dcx_right.proofs.ConstraintSets.{within_beside}
 use Rattle.dcx_graph.specs.Program.{Program}
 use Rattle.dcx_graph.specs.Answers.{IsReducedAt}
 use Rattle.dcx_answer.specs.declared.filtered.Filtered.TheVariants as filtered
-use Rattle.dcx_iis.specs.Sets.{ConstraintSet, every_constraint, set_of, IsImpossible, left_beside, IsFilterSet}
 use Rattle.dcx_iis.specs.Steps.{kept_of, IsStep, IsShownImpossible, IsDecided, HasAnswer, IsReadAt}
 use Rattle.dcx_iis.specs.Multipliers.{AreSpread}
-use Rattle.dcx_iis.specs.Found.{IsFeasiblePoint, KeepsOthers, IsIrreducible, IsPossible, AreFound}
+use Rattle.dcx_iis.specs.Found.{IsPossible, AreFound}
 use Rattle.dcx_iis.specs.Laws.{FoundIsRight}
-use Rattle.dcx_iis.proofs.Sets.{within_beside}
 use Rattle.dcx_iis.proofs.Shown.{not_impossible, point_domain, point_keeps, shown_impossible, duals_show}
 use Rattle.dcx_iis.proofs.Flags.{zip_weaker}
 

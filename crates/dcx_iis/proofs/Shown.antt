@@ -32,6 +32,8 @@ use Rattle.dcx_postsolve.specs.Programs.{bound_row, multipliers_of}
 use Rattle.dcx_postsolve.specs.Points.{numbered, IsPointOf}
 use Rattle.dcx_postsolve.specs.Duals.{AreDuals}
 use Rattle.dcx_right.specs.Answers.{multipliers_in}
+use Rattle.dcx_right.specs.ConstraintSets.{ConstraintSet, KeepsSet, IsImpossible}
+use Rattle.dcx_right.specs.Filters.{HasShapeOf}
 use Rattle.dcx_postsolve.specs.Laws.{ColumnsTellUnknowns}
 use Rattle.dcx_postsolve.proofs.ColumnParts.{columns_tell}
 use Rattle.dcx_postsolve.proofs.DualLaws.{right_multiplier}
@@ -44,9 +46,8 @@ use Rattle.dcx_graph.specs.Program.{Program}
 use Rattle.dcx_graph.specs.Answers.{HasParts, TellUnknowns, IsPointRead, IsReducedAt}
 use Rattle.dcx_graph.proofs.Mapped.{numbered_same}
 use Rattle.dcx_graph.proofs.Slacks.{rows_enough, have_slacks, multiplier_is}
-use Rattle.dcx_iis.specs.Sets.{ConstraintSet, KeepsSet, IsImpossible}
 use Rattle.dcx_iis.specs.Steps.{kept_of, program_of_set, IsStep}
-use Rattle.dcx_iis.specs.Multipliers.{HasShapeOf, AreSpread}
+use Rattle.dcx_iis.specs.Multipliers.{AreSpread}
 use Rattle.dcx_iis.proofs.Telling.{only, set_rows, solution_keeps, infeasible_only, only_impossible}
 use Rattle.dcx_iis.proofs.Spread.{spread_infeasible}
 

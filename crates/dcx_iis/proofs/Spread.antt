@@ -18,7 +18,7 @@ use Rattle.dcx_tree.specs.declared.problem.Problem.{Problem}
 use Rattle.dcx_tree.specs.Meaning.{convex_problem, convex_constraint, IsInfeasible}
 use Rattle.dcx_unknowns.specs.Layout.{constraint_rows}
 use Rattle.dcx_right.specs.Answers.{multipliers_in}
-use Rattle.dcx_iis.specs.Sets.{ConstraintSet}
+use Rattle.dcx_right.specs.ConstraintSets.{ConstraintSet}
 use Rattle.dcx_iis.specs.Steps.{kept_of, kept_from}
 use Rattle.dcx_iis.proofs.Kept.{one_if}
 use Rattle.dcx_iis.proofs.Telling.{only}

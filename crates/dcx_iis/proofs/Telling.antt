@@ -18,6 +18,7 @@ use Rattle.dcx_convex.proofs.OneAnswer.{none_feasible}
 use Rattle.dcx_tree.specs.declared.problem.Problem.{Problem}
 use Rattle.dcx_tree.specs.Meaning.{names_in, convex_problem, convex_constraint}
 use Rattle.dcx_tree.proofs.Lawful.{mapped, tree_lawful}
+use Rattle.dcx_right.specs.ConstraintSets.{ConstraintSet, KeepsSet, IsImpossible}
 use Rattle.dcx_linear.specs.Rows.{LinearProgram, StandsTo, IsSolution, IsInfeasible}
 use Rattle.dcx_unknowns.specs.Unknowns.{point_at}
 use Rattle.dcx_postsolve.specs.Programs.{gap_rows, bound_row, IsProgramOf, multipliers_of}
@@ -29,7 +30,6 @@ use Rattle.dcx_std.specs.GivenRows.{given}
 use Rattle.dcx_std.specs.Solutions.{row_at, linear_program}
 use Rattle.dcx_graph.specs.Program.{Program}
 use Rattle.dcx_graph.proofs.Backward.{well_formed}
-use Rattle.dcx_iis.specs.Sets.{ConstraintSet, KeepsSet, IsImpossible}
 use Rattle.dcx_iis.specs.Steps.{kept_of, kept_from, rows_from, program_of_set}
 use Rattle.dcx_graph.specs.Answers.{IsReducedAt}
 use Rattle.dcx_iis.proofs.Kept.{one_if, kept_at, kept_is, map-rows, rows_gaps, rows_same}

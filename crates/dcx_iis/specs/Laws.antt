@@ -1,5 +1,5 @@
--- What holds of all sets of constraints, and of all ends of the filter.
-use Rattle.std.specs.Prelude.{◌≡◌, ◌&&◌, not, ℕ, ◌<◌, IsTrue, nat_eq, length}
+-- What holds of the programs of all sets of constraints, and of all ends of the filter.
+use Rattle.std.specs.Prelude.{◌≡◌, ℕ}
 use Rattle.std.specs.List.{AllZip}
 use Rattle.dcx_math.specs.Rational.{ℚ}
 use Rattle.dcx_frac.specs.declared.fraction.Frac.{Frac}
@@ -15,26 +15,10 @@ use Rattle.dcx_graph.specs.Answers.{IsReducedAt, IsSamePoint}
 use Rattle.dcx_answer.specs.declared.filtered.Filtered.{Filtered}
 use Rattle.dcx_answer.specs.declared.filtered.Filtered.TheVariants as filtered
 use Rattle.dcx_right.specs.Answers.{multipliers_in}
-use Rattle.dcx_iis.specs.Sets.{ConstraintSet, KeepsSet, IsImpossible, IsFilterSet}
+use Rattle.dcx_right.specs.ConstraintSets.{ConstraintSet, KeepsSet, IsImpossible}
+use Rattle.dcx_right.specs.Filters.{IsRightFor}
 use Rattle.dcx_iis.specs.Steps.{program_of_set, StopsAt}
-use Rattle.dcx_iis.specs.Found.{IsRight, IsFound}
-
--- ---- sets
--- the set without constraint k
-abbrev pub without : ConstraintSet → ℕ → ConstraintSet
-without set k i = set i && not (nat_eq i k)
-
--- the filter's set is impossible, and is not without any one of its constraints
-pub record IsMinimal (p : Problem) (s : Setting) (set : ConstraintSet) : Type 0 where
-  pub impossible : IsImpossible p s set
-  pub needed : (k : ℕ) → k < length p.constraints → IsTrue (set k) → ¬ IsImpossible p s (without set k)
-
-abbrev pub FilterSetsAreMinimal : Type 0
-FilterSetsAreMinimal = (p : Problem) (s : Setting) (set : ConstraintSet) → IsFilterSet p s set → IsMinimal p s set
-
--- a problem has one filter's set at a setting
-abbrev pub FilterSetsAreOne : Type 0
-FilterSetsAreOne = (p : Problem) (s : Setting) (a b : ConstraintSet) → IsFilterSet p s a → IsFilterSet p s b → (k : ℕ) → k < length p.constraints → a k ≡ b k
+use Rattle.dcx_iis.specs.Found.{IsFound}
 
 -- ---- programs
 -- solutions of the program of a set are points that keep it, and multipliers that show that it has none show that the set is impossible
@@ -48,7 +32,7 @@ ProgramsTell = (p : Problem) (s : Setting) (q : Program Frac) (set : ConstraintS
 -- ---- ends
 -- whatever the steps over a reduced program of a problem at a setting find is right for the problem there
 abbrev pub FoundIsRight : Type 0
-FoundIsRight = (p : Problem) (s : Setting) (q : Program Frac) (limit : ℕ) (found : Filtered) → IsReducedAt p s q → IsFound p q limit found → IsRight p s found
+FoundIsRight = (p : Problem) (s : Setting) (q : Program Frac) (limit : ℕ) (found : Filtered) → IsReducedAt p s q → IsFound p q limit found → IsRightFor p s found
 
 -- where something is found, no step stops and no multiplier passes
 abbrev pub FoundOrStopped : Type 0

@@ -1,5 +1,4 @@
--- What contracts cite: sets of constraints, the steps of the filter, and what it finds.
-pub mod Sets
+-- What contracts cite: the steps of the filter, and what it finds.
 pub mod Steps
 pub mod Multipliers
 pub mod Found

@@ -2,17 +2,13 @@
 use Rattle.std.specs.Prelude.{◌≡◌, ⊤, ℕ, Bool, true, false, IsTrue, List, [], ◌∷◌, pos}
 use Rattle.std.specs.List.{AllZip}
 use Rattle.dcx_math.specs.Rational.{whole}
-use Rattle.dcx_shape.specs.Shape.{sides_of}
 use Rattle.dcx_atom.specs.declared.array.Array.{Array}
 use Rattle.dcx_atom.specs.Arrays.{number_at}
 use Rattle.dcx_tree.specs.declared.constraint.Constraint.{Constraint}
 use Rattle.dcx_right.specs.Answers.{multipliers_in}
-use Rattle.dcx_iis.specs.Sets.{ConstraintSet}
+use Rattle.dcx_right.specs.ConstraintSets.{ConstraintSet}
+use Rattle.dcx_right.specs.Filters.{HasShapeOf}
 use Rattle.dcx_iis.specs.Steps.{kept_of}
-
--- an array in the shape of a constraint
-abbrev pub HasShapeOf : Constraint → Array → Type 0
-HasShapeOf c x = sides_of x.shape ≡ sides_of c.shape
 
 -- zeros in the shape of a constraint
 pub record AreZeros (c : Constraint) (x : Array) : Type 0 where

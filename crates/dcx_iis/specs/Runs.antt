@@ -4,6 +4,7 @@ use Rattle.std.specs.List.{AllZip}
 use Rattle.dcx_frac.specs.declared.fraction.Frac.{Frac}
 use Rattle.dcx_frac.specs.declared.fraction.Passes.{Passes}
 use Rattle.dcx_tree.specs.declared.problem.Problem.{Problem}
+use Rattle.dcx_right.specs.ConstraintSets.{ConstraintSet, every_constraint}
 use Rattle.dcx_lp_answer.specs.declared.answer.LpStatus.TheVariants as status
 use Rattle.dcx_lp_answer.specs.declared.answer.LpAnswer.{LpAnswer}
 use Rattle.dcx_lp_answer.specs.Multipliers.{passing_from}
@@ -26,9 +27,8 @@ use Rattle.dcx_answer.specs.declared.filtered.Filtered.TheVariants as filtered
 use Rattle.dcx_iis.specs.declared.trying.Tried.{Tried}
 use Rattle.dcx_iis.specs.declared.trying.Tried.TheVariants as tried
 use Rattle.dcx_iis.specs.declared.left.Left.{Left}
-use Rattle.dcx_iis.specs.Sets.{ConstraintSet, every_constraint, flagged}
 use Rattle.dcx_iis.specs.Multipliers.{AreSpread}
-use Rattle.dcx_iis.specs.Steps.{kept_of, program_of_set, step_set, IsStep, IsShownImpossible, IsDecided, IsReadAt, IsLastImpossible}
+use Rattle.dcx_iis.specs.Steps.{flagged, kept_of, program_of_set, step_set, IsStep, IsShownImpossible, IsDecided, IsReadAt, IsLastImpossible}
 
 -- ---- one step
 -- what an answer shows: the point of its unknowns, or that there is none

@@ -1,5 +1,5 @@
 -- The programs that the filter solves, one in each step, and what stops it.
-use Rattle.std.specs.Prelude.{◌≡◌, ◌≢◌, ⊤, ℕ, zero, suc, ◌<◌, ◌≤◌, ◌↔◌, IsTrue, if◌then◌else◌, List, [], ◌∷◌, ◌++◌, length, take, drop, Some}
+use Rattle.std.specs.Prelude.{◌≡◌, ◌≢◌, ⊤, ℕ, zero, suc, ◌<◌, ◌≤◌, ◌↔◌, Bool, true, IsTrue, if◌then◌else◌, List, [], ◌∷◌, ◌++◌, length, take, drop, slice_index_or, Some}
 use Rattle.dcx_frac.specs.declared.fraction.Frac.{Frac}
 use Rattle.dcx_frac.specs.declared.fraction.Passes.{Passes}
 use Rattle.dcx_atom.specs.Formed.{zero_frac}
@@ -7,6 +7,7 @@ use Rattle.dcx_point.specs.Pairs.{Pairs}
 use Rattle.dcx_convex.specs.Nodes.{Setting}
 use Rattle.dcx_tree.specs.declared.constraint.Constraint.{Constraint}
 use Rattle.dcx_tree.specs.declared.problem.Problem.{Problem}
+use Rattle.dcx_right.specs.ConstraintSets.{ConstraintSet, every_constraint, left_beside, IsImpossible, StayBelow, IsFilterSet}
 use Rattle.dcx_linear.specs.Forms.{is_constant}
 use Rattle.dcx_unknowns.specs.Layout.{constraint_rows}
 use Rattle.dcx_lp_answer.specs.declared.answer.LpStatus.TheVariants as status
@@ -27,9 +28,12 @@ use Rattle.dcx_graph.specs.Program.{Program}
 use Rattle.dcx_graph.specs.Answers.{IsPointRead}
 use Rattle.dcx_answer.specs.declared.filter_stop.FilterStop.{FilterStop}
 use Rattle.dcx_answer.specs.declared.filter_stop.FilterStop.TheVariants as filter
-use Rattle.dcx_iis.specs.Sets.{ConstraintSet, every_constraint, left_beside, IsImpossible, StayBelow, IsFilterSet}
 
 -- ---- programs
+-- the constraints whose flags are set, and all beyond the flags
+abbrev pub flagged : List Bool → ConstraintSet
+flagged flags k = slice_index_or flags k true
+
 -- the constraints that step i solves: in step 0 all, and then those that are left beside the constraint that it tries
 abbrev pub step_set : ConstraintSet → ℕ → ConstraintSet
 step_set set zero = every_constraint

@@ -3,12 +3,12 @@ ghost use Rattle.std.specs.Prelude.{◌≡◌, ◌<◌, ◌≤◌, ◌^◌, ◌+
 ghost use Rattle.std.specs.List.{AllZip};
 ghost use Rattle.std.specs.Vec.Iter.{into_iter_items};
 ghost use Rattle.dcx_atom.specs.declared.array.Array.{Array as ArrayOf};
+ghost use Rattle.dcx_right.specs.Filters.{HasShapeOf};
 ghost use Rattle.dcx_lp_answer.specs.Multipliers.{passing_from, StopsAt};
 ghost use Rattle.dcx_unknowns.specs.Layout.{constraint_rows};
 ghost use Rattle.dcx_postsolve.specs.Duals.{all_multipliers, AreDuals};
-ghost use Rattle.dcx_iis.specs.Sets.{flagged};
-ghost use Rattle.dcx_iis.specs.Steps.{kept_of};
-ghost use Rattle.dcx_iis.specs.Multipliers.{HasShapeOf, AreZeros, TakesNext, AreSpread};
+ghost use Rattle.dcx_iis.specs.Steps.{flagged, kept_of};
+ghost use Rattle.dcx_iis.specs.Multipliers.{AreZeros, TakesNext, AreSpread};
 
 use dcx_answer::Duals;
 use dcx_atom::Array;

@@ -2,11 +2,11 @@
 ghost use Rattle.std.specs.Prelude.{◌≡◌, ◌<◌, ◌≤◌, ◌^◌, ℕ, length, sum_by, IfOk, IfErr, OnOk};
 ghost use Rattle.dcx_unknowns.specs.Layout.{constraint_rows};
 ghost use Rattle.dcx_tree.specs.Meaning.{setting_of};
+ghost use Rattle.dcx_right.specs.Filters.{IsRightFor};
 ghost use Rattle.dcx_graph.specs.Program.{Program};
-ghost use Rattle.dcx_iis.specs.Sets.{flagged};
-ghost use Rattle.dcx_iis.specs.Steps.{kept_of, StopsFilter};
+ghost use Rattle.dcx_iis.specs.Steps.{flagged, kept_of, StopsFilter};
 ghost use Rattle.dcx_graph.specs.Answers.{IsReducedAt};
-ghost use Rattle.dcx_iis.specs.Found.{IsRight, IsFound};
+ghost use Rattle.dcx_iis.specs.Found.{IsFound};
 ghost use Rattle.dcx_iis.specs.Runs.{numbers_from, AreDualsOf, IsLeft, IsEnd, StopsRun};
 
 use crate::duals::duals_kept;
@@ -143,7 +143,7 @@ pub fn filter(
     limit: u64,
 ) -> Result<Filtered, FilterStop>
     requires reduced { IsReducedAt problem.now (setting_of problem.now setting.now) reduced.now.program }
-    ensures right { IfOk result (IsRight problem.now (setting_of problem.now setting.now)) }
+    ensures right { IfOk result (IsRightFor problem.now (setting_of problem.now setting.now)) }
     ensures found { IfOk result (IsFound problem.now reduced.now.program limit) }
     ensures stops { IfErr result (StopsFilter problem.now (setting_of problem.now setting.now) reduced.now.program limit) }
 {

@@ -1,16 +1,6 @@
 //! The laws above the definitions of `specs/`. There is no code: each clause is a statement about all problems, settings and sets
 //! of constraints.
-ghost use Rattle.dcx_iis.specs.Laws.{FilterSetsAreMinimal, FilterSetsAreOne, ProgramsTell, FoundIsRight, FoundOrStopped, StopsAreOne, FoundIsOne};
-
-/// The filter's set is impossible, and is not without any one of its constraints.
-pub fn filter_sets_are_minimal()
-    ensures { FilterSetsAreMinimal }
-{}
-
-/// A problem has one filter's set at a setting.
-pub fn filter_sets_are_one()
-    ensures { FilterSetsAreOne }
-{}
+ghost use Rattle.dcx_iis.specs.Laws.{ProgramsTell, FoundIsRight, FoundOrStopped, StopsAreOne, FoundIsOne};
 
 /// A solution of the program of a set is a point that keeps the set, and where multipliers show that the program has none the set
 /// is impossible.

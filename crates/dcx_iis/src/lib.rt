@@ -2,19 +2,14 @@
 //! some point keeps all but any one of them. The deletion filter finds it.
 //!
 //! All constraints are tried first. Where no point of the domain keeps them all, they are gone through in order, and each is left
-//! out for good where those that are left are still impossible together. What stays is the filter's set; it is defined by points
-//! alone. A program is solved in each step: the rows of the problem's reduced program without those of the constraints that are
-//! left out, with nothing that is to be small. The rows of atoms stay.
+//! out for good where those that are left are still impossible together. What stays is the filter's set; `dcx_right` defines it by
+//! points alone, and says when what is found is right. A program is solved in each step: the rows of the problem's reduced program
+//! without those of the constraints that are left out, with nothing that is to be small. The rows of atoms stay.
 //!
 //! | what must hold | where |
 //! |---|---|
 //! | what is found is what the steps give: a point of the program of all constraints, or the constraints that stay, with the numbers of their programs' answers | `filter`, `specs/Found.antt`: `IsFound` |
-//! | what is found so is right for the problem | `laws::found_is_right`, `filter` |
-//! | a point is found exactly where one is feasible, and it is one | `specs/Found.antt`: `IsRight` |
-//! | the members are the filter's set, rising | `IsIrreducible`, `specs/Sets.antt`: `IsFilterSet` |
-//! | the filter's set is one, it is impossible, and it is not without any one of its constraints | `laws::filter_sets_are_one`, `laws::filter_sets_are_minimal` |
-//! | the multipliers and the gap show that no point keeps the members together; they are 0 for all other constraints | `specs/Found.antt`: `IsIrreducible` |
-//! | each member has a point that keeps all others | `IsIrreducible` |
+//! | what is found so is right for the problem: `IsRightFor` of `dcx_right` | `laws::found_is_right`, `filter` |
 //! | a set is impossible where its program can't be solved, and a solution is a point that keeps it | `laws::programs_tell` |
 //! | a step stops exactly where its program is the first to stop, and then where a multiplier of the last step that was impossible passes 128 bits | `filter`, `specs/Steps.antt`: `StopsFilter` |
 //! | where something is found nothing stops, and there is one stop at most | `laws::found_or_stopped`, `laws::stops_are_one` |

@@ -4,8 +4,7 @@ ghost use Rattle.dcx_unknowns.specs.Layout.{constraint_rows};
 ghost use Rattle.dcx_std.specs.GivenRows.{given};
 ghost use Rattle.dcx_std.specs.Solutions.{HasKinds};
 ghost use Rattle.dcx_lp_solve.specs.Solved.{IsSolved, Stops};
-ghost use Rattle.dcx_iis.specs.Sets.{flagged};
-ghost use Rattle.dcx_iis.specs.Steps.{rows_from, program_of_set};
+ghost use Rattle.dcx_iis.specs.Steps.{flagged, rows_from, program_of_set};
 
 use dcx_frac::Frac;
 use dcx_graph::Reduced;

@@ -2,7 +2,7 @@
 ghost use Rattle.std.specs.Prelude.{◌≡◌, ◌≤◌, length, map, sum_by, IfOk, IfErr};
 ghost use Rattle.dcx_unknowns.specs.Layout.{constraint_rows};
 ghost use Rattle.dcx_graph.specs.Answers.{TellUnknowns};
-ghost use Rattle.dcx_iis.specs.Sets.{flagged};
+ghost use Rattle.dcx_iis.specs.Steps.{flagged};
 ghost use Rattle.dcx_iis.specs.Runs.{IsShownBy, IsTried, StopsTry, step_stop};
 
 use crate::program::solve_kept;

@@ -18,11 +18,13 @@ use Rattle.dcx_answer.specs.declared.filter_outcome.FilterEnd.TheVariants as the
 use Rattle.dcx_answer.specs.declared.filter_outcome.FilterOutcome.{FilterOutcome}
 use Rattle.dcx_answer.specs.declared.stop.Stop.{Stop}
 use Rattle.dcx_answer.specs.NodeStops.{filter_names_node}
+use Rattle.dcx_right.specs.Answers.{IsPointFor}
+use Rattle.dcx_right.specs.ConstraintSets.{ConstraintSet, set_of}
+use Rattle.dcx_right.specs.Filters.{IsRightFor}
 use Rattle.dcx_graph.specs.Program.{Program}
 use Rattle.dcx_graph.specs.Answers.{IsSamePoint}
-use Rattle.dcx_iis.specs.Sets.{ConstraintSet, set_of}
 use Rattle.dcx_iis.specs.Steps.{IsReadIn, IsReadAt}
-use Rattle.dcx_iis.specs.Found.{IsRight, IsPossible, IsFound}
+use Rattle.dcx_iis.specs.Found.{IsPossible, IsFound}
 use Rattle.dcx_iis.specs.Laws.{IsSameFiltered}
 use Rattle.dcx_cache.specs.Programs.{SessionGives}
 use Rattle.dcx_cache.proofs.Answered.{sound}
@@ -32,7 +34,6 @@ use Rattle.dcx_iis.proofs.OneFound.{found_is_one}
 use Rattle.dcx_outcomes.specs.Asking.{IsRightAt, FindsRight, WantsMemory, IsSameEnd, AreOneEnd}
 use Rattle.dcx_outcomes.specs.Filters.{FilterGives, filter_end}
 use Rattle.dcx_outcomes.specs.FilterLaws.{HadMemory, FiltersAreRight, FiltersAreOne}
-use Rattle.dcx_outcomes.specs.Right.{IsPointFor}
 use Rattle.dcx_outcomes.proofs.Asked.{are_right, same_end, are_one}
 use Rattle.dcx_outcomes.proofs.Same.{same_point, same_multipliers}
 
@@ -52,7 +53,8 @@ same_points p q limit set other (m ∷ ms) [] (x ∷ xs) (y ∷ ys) h k e = absu
 same_points p q limit set other (m ∷ ms) (n ∷ ns) (x ∷ xs) (y ∷ ys) h k e =
     ap₂ ◌∷◌ (same_point p x y (point_for p q limit set (suc m) x h.0) (point_for p q limit other (suc n) y k.0) e.0) (same_points p q limit set other ms ns xs ys h.1 k.1 e.1)
 
-same_filtered : (p : Problem) (s : Pairs) (q : Program Frac) (limit : ℕ) (a b : Filtered) → IsRight p (setting_of p s) a → IsRight p (setting_of p s) b → IsFound p q limit a → IsFound p q limit b → IsSameFiltered p a b → a ≡ b
+same_filtered : (p : Problem) (s : Pairs) (q : Program Frac) (limit : ℕ) (a b : Filtered) → IsRightFor p (setting_of p s) a → IsRightFor p (setting_of p s) b →
+    IsFound p q limit a → IsFound p q limit b → IsSameFiltered p a b → a ≡ b
 same_filtered p s q limit (found.Feasible x) (found.Feasible y) r t h k e =
     ap found.Feasible (same_point p x y (first_for p q limit x h) (first_for p q limit y k) e)
 same_filtered p s q limit (found.Feasible x) (found.Infeasible ns es g ys) r t h k e = absurd e
@@ -64,10 +66,10 @@ same_filtered p s q limit (found.Infeasible ms ds g xs) (found.Infeasible ns es 
 
 module _ (p : Problem) (limit : ℕ) (ok : IsAccepted p) (s : Pairs) (q : Program Frac) where
   -- what is found is right there
-  found_right : (found : Filtered) → FitsParameters p.parameters s → SessionGives p s (Ok q) → IsFound p q limit found → IsRight p (setting_of p s) found
+  found_right : (found : Filtered) → FitsParameters p.parameters s → SessionGives p s (Ok q) → IsFound p q limit found → IsRightFor p (setting_of p s) found
   found_right found fits given h = found_is_right p (setting_of p s) q limit found (sound p s ok fits q given).reduced h
 
-  right_filter : (r : Result Filtered FilterStop) → FitsParameters p.parameters s → SessionGives p s (Ok q) → FilterGives limit p s q r → IfOk r (IsRightAt p s (IsRight p (setting_of p s)))
+  right_filter : (r : Result Filtered FilterStop) → FitsParameters p.parameters s → SessionGives p s (Ok q) → FilterGives limit p s q r → IfOk r (IsRightAt p s (IsRightFor p (setting_of p s)))
   right_filter (Ok found) fits given g = record { fits = (sound p s ok fits q given).fitting; right = found_right found fits given g.found }
   right_filter (Err stop) fits given g = tt
 
@@ -115,9 +117,9 @@ alike o q x y t u one places n m =
 
 pub filters_are_right : FiltersAreRight
 filters_are_right p limit settings outcomes ok h =
-    are_right (FilterGives limit) (λ (o : FilterOutcome) (e : Result (Result Filtered FilterStop) Stop). filter_end o.end ≡ e) (λ (o : FilterOutcome). o.place) p (λ s. IsRight p (setting_of p s))
-    (λ s o. FindsRight p s (IsRight p (setting_of p s)) (filter_end o.end)) (right_filter p limit ok)
-    (λ s o e t k. subst (FindsRight p s (IsRight p (setting_of p s))) (sym t) k) settings outcomes h
+    are_right (FilterGives limit) (λ (o : FilterOutcome) (e : Result (Result Filtered FilterStop) Stop). filter_end o.end ≡ e) (λ (o : FilterOutcome). o.place) p (λ s. IsRightFor p (setting_of p s))
+    (λ s o. FindsRight p s (IsRightFor p (setting_of p s)) (filter_end o.end)) (right_filter p limit ok)
+    (λ s o e t k. subst (FindsRight p s (IsRightFor p (setting_of p s))) (sym t) k) settings outcomes h
 
 pub filters_are_one : FiltersAreOne
 filters_are_one p limit settings os qs ok h k =

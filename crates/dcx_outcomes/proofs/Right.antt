@@ -18,11 +18,12 @@ use Rattle.dcx_answer.specs.declared.stop.Stop.{Stop}
 use Rattle.dcx_answer.specs.declared.outcome.Outcome.{Outcome}
 use Rattle.dcx_unknowns.specs.Layout.{constraint_rows}
 use Rattle.dcx_postsolve.specs.Duals.{AreDuals}
+use Rattle.dcx_right.specs.Answers.{IsPointFor, SpeaksOf}
 use Rattle.dcx_graph.specs.Answers.{IsPointRead, IsRead}
 use Rattle.dcx_cache.specs.Answers.{Answers}
 use Rattle.dcx_cache.proofs.Answered.{answers_are_right}
 use Rattle.dcx_outcomes.specs.Outcomes.{solved_end, IsOutcome}
-use Rattle.dcx_outcomes.specs.Right.{IsPointFor, SpeaksOf, IsRightEnd}
+use Rattle.dcx_outcomes.specs.Right.{IsRightEnd}
 use Rattle.dcx_outcomes.specs.Laws.{OutcomesAreRight}
 use Rattle.dcx_outcomes.proofs.Zips.{zip_weaker}
 

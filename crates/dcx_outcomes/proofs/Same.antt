@@ -29,10 +29,9 @@ use Rattle.dcx_tree.specs.declared.problem.Problem.{Problem}
 use Rattle.dcx_tree.proofs.Sublists.{distinct_front}
 use Rattle.dcx_answer.specs.declared.answer.Answer.{Answer}
 use Rattle.dcx_answer.specs.declared.answer.Answer.TheVariants.{Optimal, Infeasible, Unbounded}
-use Rattle.dcx_right.specs.Answers.{multipliers_in}
+use Rattle.dcx_right.specs.Answers.{multipliers_in, IsPointFor, SpeaksOf}
+use Rattle.dcx_right.specs.Filters.{HasShapeOf}
 use Rattle.dcx_graph.specs.Answers.{IsSamePoint, IsSameAnswer}
-use Rattle.dcx_iis.specs.Multipliers.{HasShapeOf}
-use Rattle.dcx_outcomes.specs.Right.{IsPointFor, SpeaksOf}
 use Rattle.dcx_shape.proofs.OneShape.{few_prop}
 
 one_shape : (a b : Shape) → sides_of a ≡ sides_of b → a ≡ b

@@ -10,6 +10,7 @@ use Rattle.dcx_tree.specs.Meaning.{IsAccepted}
 use Rattle.dcx_answer.specs.declared.answer.Answer.{Answer}
 use Rattle.dcx_answer.specs.declared.stop.Stop.{Stop}
 use Rattle.dcx_lp_solve.specs.declared.solving.Solved.{Solved}
+use Rattle.dcx_right.specs.Answers.{SpeaksOf, IsRightAnswer}
 use Rattle.dcx_graph.specs.Program.{Program}
 use Rattle.dcx_frac.specs.declared.fraction.Frac.{Frac}
 use Rattle.dcx_answer.specs.declared.outcome.Outcome.{Outcome}
@@ -21,7 +22,7 @@ use Rattle.dcx_cache.specs.Laws.{AreOneEnd, AreOneWarmEnd, EndsWithMemory, AreOn
 use Rattle.dcx_cache.proofs.OneEnd.{has_one_end}
 use Rattle.dcx_cache.proofs.WarmRuns.{warm_answers_are_right, warm_answers_agree, answered_stays_answered, have_one_warm_ends}
 use Rattle.dcx_outcomes.specs.Outcomes.{solved_end, IsOutcome}
-use Rattle.dcx_outcomes.specs.Right.{SpeaksOf, IsRightAnswer, IsRightEnd, AreRight}
+use Rattle.dcx_outcomes.specs.Right.{IsRightEnd, AreRight}
 use Rattle.dcx_outcomes.specs.Warm.{end_in, is_kept, Tells, AreTold, AreSolved}
 use Rattle.dcx_outcomes.specs.Laws.{WarmOutcomesAreRight, AgreesWithFresh, WarmOutcomesAgree, WantsMemory, HadMemory, AreAlikeWarm, WarmOutcomesAreOne, AreOneFound}
 use Rattle.dcx_outcomes.proofs.Right.{SpeaksEnd, speaks, outcomes_are_right}

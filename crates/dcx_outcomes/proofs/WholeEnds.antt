@@ -11,6 +11,7 @@ use Rattle.dcx_answer.specs.declared.stop.Stop.{Stop}
 use Rattle.dcx_answer.specs.declared.outcome.Outcome.{Outcome}
 use Rattle.dcx_answer.specs.declared.outcome.OutcomeEnd.{OutcomeEnd}
 use Rattle.dcx_unknowns.specs.Unknowns.{variable_unknowns}
+use Rattle.dcx_right.specs.WholeAnswers.{SpeaksWhole, IsRightWhole}
 use Rattle.dcx_graph.specs.Program.{Program}
 use Rattle.dcx_cache.specs.Programs.{SessionGives, mapped, anew}
 use Rattle.dcx_cache.proofs.Answered.{sound}
@@ -24,7 +25,7 @@ use Rattle.dcx_branch.proofs.Right.{runs_are_right}
 use Rattle.dcx_branch.proofs.OneRun.{runs_are_one}
 use Rattle.dcx_outcomes.specs.Asking.{IsRightAt, FindsRight, AreOneEnd, WantsMemory as IsWanting, IsSameEnd as IsOneEnd}
 use Rattle.dcx_outcomes.specs.Wholes.{most_nodes, WholeGives, whole_end}
-use Rattle.dcx_outcomes.specs.Right.{SpeaksWhole, IsRightWhole, IsRightEnd}
+use Rattle.dcx_outcomes.specs.Right.{IsRightEnd}
 use Rattle.dcx_outcomes.specs.Laws.{IsSameWhole, IsSameEnd, IsSameOutcome, WantsMemory, HadMemory, WholesAreRight, WholesAreOne}
 use Rattle.dcx_outcomes.proofs.Asked.{are_right, are_one}
 use Rattle.dcx_outcomes.proofs.Same.{same_point}

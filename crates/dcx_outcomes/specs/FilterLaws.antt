@@ -6,13 +6,13 @@ use Rattle.dcx_tree.specs.declared.problem.Problem.{Problem}
 use Rattle.dcx_tree.specs.Meaning.{IsAccepted, setting_of}
 use Rattle.dcx_answer.specs.declared.filter_stop.FilterStop.TheVariants as filter
 use Rattle.dcx_answer.specs.declared.filter_outcome.FilterOutcome.{FilterOutcome}
-use Rattle.dcx_iis.specs.Found.{IsRight}
+use Rattle.dcx_right.specs.Filters.{IsRightFor}
 use Rattle.dcx_outcomes.specs.Asking.{FindsRight, WantsMemory}
 use Rattle.dcx_outcomes.specs.Filters.{filter_end, AreFilterOutcomes}
 
 -- whatever is found is right for the problem at its setting, which fits
 abbrev pub AreRightFilters : Problem → List Pairs → List FilterOutcome → Type 0
-AreRightFilters p settings outcomes = AllZip (λ s o. FindsRight p s (IsRight p (setting_of p s)) (filter_end o.end)) settings outcomes
+AreRightFilters p settings outcomes = AllZip (λ s o. FindsRight p s (IsRightFor p (setting_of p s)) (filter_end o.end)) settings outcomes
 
 -- where the rules accept the problem
 abbrev pub FiltersAreRight : Type 0

@@ -1,13 +1,14 @@
--- What an answer says of every feasible point.
+-- What an answer says of every feasible point, and what holds of each filter's set.
 use Rattle.dcx_math.specs.Rational.{ℚ, ◌≤ℚ◌}
 use Rattle.dcx_convex.specs.Nodes.{Setting, Point}
 use Rattle.dcx_convex.specs.Answers.{Multipliers}
 use Rattle.dcx_tree.specs.declared.problem.Problem.{Problem}
 use Rattle.dcx_tree.specs.Meaning.{objective_at, IsFeasible, IsOptimal, IsInfeasible, IsUnbounded}
-use Rattle.std.specs.Prelude.{◌≡◌, Some, None}
+use Rattle.std.specs.Prelude.{◌≡◌, ℕ, ◌<◌, Some, None, length}
 use Rattle.dcx_right.specs.Points.{IsWholePoint, IsWholeOptimum, HasNoWholePoint}
 use Rattle.dcx_right.specs.Boxes.{Box, IsInBox, root_box}
 use Rattle.dcx_right.specs.Trees.{Tree, IsTreeOf, IsTree}
+use Rattle.dcx_right.specs.ConstraintSets.{ConstraintSet, IsMinimal, IsFilterSet}
 
 -- no feasible point has a smaller minimized objective
 abbrev pub OptimaAreLeast : Type 0
@@ -47,3 +48,11 @@ TreesShowNone = (p : Problem) (s : Setting) (t : Tree) → IsTree p s None t →
 pub record WholeAnswersAgree (p : Problem) (s : Setting) : Type 0 where
   pub one_value : (v w : ℚ) (x y : Point) → IsWholeOptimum p s v x → IsWholeOptimum p s w y → v ≡ w
   pub not_both : (v : ℚ) (x : Point) → IsWholeOptimum p s v x → ¬ HasNoWholePoint p s
+
+-- the filter's set is impossible, and is not without any one of its constraints
+abbrev pub FilterSetsAreMinimal : Type 0
+FilterSetsAreMinimal = (p : Problem) (s : Setting) (set : ConstraintSet) → IsFilterSet p s set → IsMinimal p s set
+
+-- a problem has one filter's set at a setting
+abbrev pub FilterSetsAreOne : Type 0
+FilterSetsAreOne = (p : Problem) (s : Setting) (a b : ConstraintSet) → IsFilterSet p s a → IsFilterSet p s b → (k : ℕ) → k < length p.constraints → a k ≡ b k

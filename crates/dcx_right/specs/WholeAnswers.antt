@@ -1,12 +1,13 @@
 -- When an answer in whole numbers is right: a whole point that no other betters, or that there is none, with a tree that shows it.
-use Rattle.std.specs.Prelude.{ℕ, List, [], ◌∷◌, ◌++◌, map, Option, Some, None, ℤ}
+use Rattle.std.specs.Prelude.{⊤, ℕ, List, [], ◌∷◌, ◌++◌, map, Option, Some, None, ℤ}
 use Rattle.dcx_math.specs.Rational.{ℚ}
 use Rattle.dcx_frac.specs.declared.fraction.Frac.{Frac}
 use Rattle.dcx_frac.specs.Frac.{value}
 use Rattle.dcx_atom.specs.declared.array.Array.{Array}
+use Rattle.dcx_point.specs.Pairs.{Pairs}
 use Rattle.dcx_convex.specs.Nodes.{Setting}
 use Rattle.dcx_tree.specs.declared.problem.Problem.{Problem}
-use Rattle.dcx_tree.specs.Meaning.{point_of}
+use Rattle.dcx_tree.specs.Meaning.{IsFitting, setting_of, point_of}
 use Rattle.dcx_answer.specs.declared.branch_tree.BoundWeight.{BoundWeight}
 use Rattle.dcx_answer.specs.declared.branch_tree.BranchNode.{BranchNode}
 use Rattle.dcx_answer.specs.declared.branch_tree.BranchNode.TheVariants.{Bound, Empty, Split}
@@ -15,7 +16,7 @@ use Rattle.dcx_answer.specs.declared.whole_answer.WholeAnswer.TheVariants.{Optim
 use Rattle.dcx_right.specs.Points.{IsWholeOptimum, HasNoWholePoint}
 use Rattle.dcx_right.specs.Trees as trees
 use Rattle.dcx_right.specs.Trees.{Weight, Shown, Tree, IsTree}
-use Rattle.dcx_right.specs.Answers.{multipliers_in}
+use Rattle.dcx_right.specs.Answers.{multipliers_in, IsPointFor}
 
 abbrev pub weight_of : BoundWeight → Weight
 weight_of d = record { variable = d.variable; entry = d.entry; upper = d.upper; weight = value d.weight }
@@ -40,3 +41,15 @@ pub record Shows (p : Problem) (s : Setting) (v : Option ℚ) (nodes : List Bran
 abbrev pub IsRightFor : Problem → Setting → WholeAnswer → Type 0
 IsRightFor p s (Optimal number point tree nodes) = IsWholeOptimum p s (value number) (point_of p point) × Shows p s (Some (value number)) tree
 IsRightFor p s (Infeasible tree nodes) = HasNoWholePoint p s × Shows p s None tree
+
+-- ---- of a problem, at a setting under names
+-- the point of a whole answer has the arrays of the variables
+abbrev pub SpeaksWhole : Problem → WholeAnswer → Type 0
+SpeaksWhole p (Optimal number point tree nodes) = IsPointFor p point
+SpeaksWhole p (Infeasible tree nodes) = ⊤
+
+-- the setting fits; the point is a whole optimum there, or there is no whole point, and a tree shows it
+pub record IsRightWhole (p : Problem) (setting : Pairs) (a : WholeAnswer) : Type 0 where
+  pub fits : IsFitting p setting
+  pub right : IsRightFor p (setting_of p setting) a
+  pub speaks : SpeaksWhole p a

@@ -1,5 +1,6 @@
 //! The laws of right answers. There is no code: each clause is a statement about all problems and settings.
 ghost use Rattle.dcx_right.specs.Laws.{OptimaAreLeast, InfeasibleHaveNoPoint, UnboundedHaveNoLeast, TreesShow, TreesWeaken, RootHasAll, TreesShowOptima, TreesShowNone, WholeAnswersAgree};
+ghost use Rattle.dcx_right.specs.Laws.{FilterSetsAreMinimal, FilterSetsAreOne};
 ghost use Rattle.dcx_convex.specs.Nodes.{Setting};
 ghost use Rattle.dcx_tree.specs.declared.problem.Problem.{Problem};
 ghost use Rattle.dcx_right.specs.RayLaws.{SteepnessIsTold, CallsRecede, NodesRecede, ValuesAreFixed, TreeValuesAreFixed, RaysAreUnbounded, RaysShow};
@@ -47,6 +48,16 @@ pub fn trees_show_none()
 /// At one setting all whole optima have one value, and where there is one there are whole points.
 pub fn whole_answers_agree()
     ensures { (p : Problem) (s : Setting) → WholeAnswersAgree p s }
+{}
+
+/// The filter's set is impossible, and is not without any one of its constraints.
+pub fn filter_sets_are_minimal()
+    ensures { FilterSetsAreMinimal }
+{}
+
+/// A problem has one filter's set at a setting.
+pub fn filter_sets_are_one()
+    ensures { FilterSetsAreOne }
 {}
 
 /// Where arguments stand before their nodes, the steepness of each node is what its rule tells from that of its arguments, and nothing

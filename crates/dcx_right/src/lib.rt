@@ -10,6 +10,10 @@
 //! node that isn't a leaf has a marked entry and an integer, with a tree for the points whose entry is at most that integer and
 //! one for those whose entry is above it.
 //!
+//! A set of constraints is impossible where no point of the domain keeps them all. Where all constraints together are, they are gone
+//! through in order, and each is left out for good where those that are left are still impossible together: what stays is the filter's
+//! set. It is irreducible: no point keeps its constraints together, and some point keeps all but any one of them.
+//!
 //! The steepness of a node along a ray is how fast it goes far out: that of a variable is the ray's array, that of a call its value at
 //! the steepness of its arguments, and what reaches no variable is level. A convex node rises by at most its steepness for each step,
 //! from every point.
@@ -21,7 +25,10 @@
 //! | where a ray shows that a problem is unbounded no number bounds the minimized objective of all feasible points from below | `laws::unbounded_have_no_least` |
 //! | an answer is right at a setting | `specs/Answers.antt`: `IsRightFor` |
 //! | an answer in whole numbers is right, with the tree that shows it | `specs/WholeAnswers.antt`: `IsRightFor` |
+//! | either one speaks of the problem: its points have an array of its shape for each variable, in order, and its multipliers the shapes of the constraints | `specs/Answers.antt`: `IsRightAnswer`, `specs/WholeAnswers.antt`: `IsRightWhole` |
 //! | what is told of the range of a parameter is right | `specs/Ranges.antt`: `HoldsOn` |
+//! | what filtering the constraints finds is right: a feasible point exactly where there is one, and else the filter's set | `specs/Filters.antt`: `IsRightFor` |
+//! | the set is told with multipliers and a gap that show that no point keeps it, 0 for all other constraints, and with a point for each of its constraints that keeps all others | `specs/Filters.antt`: `IsIrreducible` |
 //! | whole points, whole optima, and that there is no whole point | `specs/Points.antt` |
 //! | boxes, the box that has all whole points, and the two sides of a box | `specs/Boxes.antt` |
 //! | trees, and when one shows its box | `specs/Trees.antt` |
@@ -30,6 +37,9 @@
 //! | the root box has all whole points | `laws::root_has_all` |
 //! | a tree at the root box shows a whole optimum, or that there is no whole point | `laws::trees_show_optima`, `laws::trees_show_none` |
 //! | at one setting there is one value of whole optima, and never one where there is no whole point | `laws::whole_answers_agree` |
+//! | which points keep a set of constraints, which sets are impossible, and the filter's set | `specs/ConstraintSets.antt` |
+//! | the filter's set is one, it is impossible, and it is not without any one of its constraints | `laws::filter_sets_are_one`, `laws::filter_sets_are_minimal` |
+//! | which nodes of a problem reach no variable | `specs/Fixed.antt` |
 //! | steepness, and which rays show that a problem is unbounded | `specs/Steepness.antt`, `specs/Rays.antt` |
 //! | steepness is the only function that meets each node's equation | `laws::steepness_is_told` |
 //! | atoms, linear calls, products and quotients keep the recession law of calls | `laws::calls_recede` |

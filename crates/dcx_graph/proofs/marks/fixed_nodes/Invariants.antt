@@ -1,7 +1,7 @@
 -- The nodes so far are marked.
 use Rattle.std.proofs.Common.{◌≡◌, ℕ, ◌<◌, length}
+use Rattle.dcx_right.specs.Fixed.{is_fixed}
 use Rattle.dcx_unknowns.specs.Layout.{marked}
-use Rattle.dcx_graph.specs.Marks.{is_fixed}
 use Rattle.dcx_graph.proofs.marks.fixed_nodes.Given as goal
 
 abbrev pub invariant-nodes : goal.invariant-nodes

@@ -1,7 +1,6 @@
 -- A constraint that is kept is added, and any other is not.
 use Rattle.std.proofs.Common.{◌+◌, ◌++◌, ◌∙◌, false, drop, ap, arith}
-use Rattle.dcx_iis.specs.Sets.{flagged}
-use Rattle.dcx_iis.specs.Steps.{kept_from, kept_of}
+use Rattle.dcx_iis.specs.Steps.{flagged, kept_from, kept_of}
 use Rattle.dcx_iis.proofs.Flags.{flag_read}
 use Rattle.dcx_iis.proofs.Loops.{kept_more, kept_less, kept_last}
 use Rattle.dcx_iis.proofs.duals.constraints_kept.Goals as goal

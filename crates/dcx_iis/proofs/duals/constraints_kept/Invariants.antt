@@ -1,7 +1,6 @@
 -- The constraints so far, and then those that are left, are all that are kept.
 use Rattle.std.proofs.Common.{◌≡◌, ◌++◌, drop}
-use Rattle.dcx_iis.specs.Sets.{flagged}
-use Rattle.dcx_iis.specs.Steps.{kept_from, kept_of}
+use Rattle.dcx_iis.specs.Steps.{flagged, kept_from, kept_of}
 use Rattle.dcx_iis.proofs.duals.constraints_kept.Given as goal
 
 abbrev pub invariant-constraints : goal.invariant-constraints

@@ -5,8 +5,7 @@ use Rattle.dcx_lp_answer.specs.Multipliers.{passing_from, StopsAt}
 use Rattle.dcx_tree.specs.declared.constraint.Constraint.{Constraint}
 use Rattle.dcx_unknowns.specs.Layout.{constraint_rows}
 use Rattle.dcx_postsolve.specs.Duals.{all_multipliers, AreDuals}
-use Rattle.dcx_iis.specs.Sets.{flagged}
-use Rattle.dcx_iis.specs.Steps.{kept_of}
+use Rattle.dcx_iis.specs.Steps.{flagged, kept_of}
 use Rattle.dcx_iis.proofs.Shown.{duals_shaped}
 use Rattle.dcx_iis.proofs.duals.duals_kept.Goals as goal
 

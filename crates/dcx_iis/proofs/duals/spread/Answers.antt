@@ -1,7 +1,7 @@
 -- One more constraint has its array.
 use Rattle.std.proofs.Common.{◌∙◌, false, sym, subst, arith}
 use Rattle.std.specs.Vec.Iter.{into_iter_items}
-use Rattle.dcx_iis.specs.Sets.{flagged}
+use Rattle.dcx_iis.specs.Steps.{flagged}
 use Rattle.dcx_iis.specs.Multipliers.{TakesNext, AreSpread}
 use Rattle.dcx_iis.proofs.Flags.{flag_read}
 use Rattle.dcx_iis.proofs.Loops.{spread_first, spread_next, spread_last}

@@ -1,6 +1,6 @@
 -- The arrays so far are spread, and those that are left are for the constraints that are.
 use Rattle.std.specs.Vec.Iter.{into_iter_items}
-use Rattle.dcx_iis.specs.Sets.{flagged}
+use Rattle.dcx_iis.specs.Steps.{flagged}
 use Rattle.dcx_iis.proofs.Loops.{AreSpreadSo}
 use Rattle.dcx_iis.proofs.duals.spread.Given as goal
 

@@ -4,8 +4,7 @@ use Rattle.dcx_lp_answer.specs.declared.stop.MultiplierStop.TheVariants as multi
 use Rattle.dcx_lp_answer.specs.Multipliers.{passing_from, StopsAt}
 use Rattle.dcx_tree.specs.declared.constraint.Constraint.{Constraint}
 use Rattle.dcx_postsolve.specs.Duals.{all_multipliers}
-use Rattle.dcx_iis.specs.Sets.{flagged}
-use Rattle.dcx_iis.specs.Steps.{kept_of}
+use Rattle.dcx_iis.specs.Steps.{flagged, kept_of}
 use Rattle.dcx_iis.proofs.Going.{forming_stops}
 use Rattle.dcx_iis.proofs.filtering.duals_left.Goals as goal
 

@@ -4,10 +4,10 @@ use Rattle.std.proofs.lemmas.Result.{IfOk-weaker, IfErr-weaker, err_from_is_err_
 use Rattle.dcx_tree.specs.declared.constraint.Constraint.{Constraint}
 use Rattle.dcx_tree.specs.Meaning.{setting_of}
 use Rattle.dcx_answer.specs.declared.filtered.Filtered.TheVariants as filtered
+use Rattle.dcx_right.specs.Filters.{IsRightFor}
 use Rattle.dcx_iis.specs.declared.trying.Tried.{Tried}
-use Rattle.dcx_iis.specs.Sets.{flagged}
-use Rattle.dcx_iis.specs.Steps.{StopsFilter}
-use Rattle.dcx_iis.specs.Found.{IsRight, IsFound}
+use Rattle.dcx_iis.specs.Steps.{flagged, StopsFilter}
+use Rattle.dcx_iis.specs.Found.{IsFound}
 use Rattle.dcx_iis.specs.Runs.{IsTried, IsEnd, StopsTry, StopsRun}
 use Rattle.dcx_iis.proofs.Going.{first_stops, first_left}
 use Rattle.dcx_iis.proofs.Right.{found_is_right}
@@ -94,7 +94,7 @@ returns-in-Ok-clause-right c =
     let p = c.args.problem.now in
     let q = c.args.reduced.now.program in
     let s = setting_of p c.args.setting.now in
-    IfOk-weaker c.found.result (IsEnd p c.try_each.new.left) (IsRight p s)
+    IfOk-weaker c.found.result (IsEnd p c.try_each.new.left) (IsRightFor p s)
     (λ f h. found_is_right p s q c.args.limit f c.requires.reduced (end_found p q c.args.limit c.try_each.new.left c.in-Ok.ensures.left f h)) c.found.ensures.end
 
 pub returns-in-Ok-clause-stops : goal.returns-in-Ok-clause-stops

@@ -4,8 +4,7 @@ use Rattle.dcx_frac.specs.declared.fraction.Frac.{Frac}
 use Rattle.dcx_tree.specs.declared.constraint.Constraint.{Constraint}
 use Rattle.dcx_linear.specs.declared.row.Row.{Row}
 use Rattle.dcx_std.specs.GivenRows.{given}
-use Rattle.dcx_iis.specs.Sets.{flagged}
-use Rattle.dcx_iis.specs.Steps.{rows_from}
+use Rattle.dcx_iis.specs.Steps.{flagged, rows_from}
 use Rattle.dcx_iis.proofs.Given.{set_program, rows_known, number_known}
 use Rattle.dcx_iis.proofs.program.program_of.Goals as goal
 

@@ -2,8 +2,7 @@
 use Rattle.std.proofs.Common.{◌≡◌, ◌+◌, ◌≤◌, ◌++◌, [], false, Bool, if◌then◌else◌, length, drop, slice_range, refl, sym, ap₂, subst, ◌∙◌, arith}
 use Rattle.std.specs.Prelude.{sum_by}
 use Rattle.dcx_unknowns.specs.Layout.{constraint_rows}
-use Rattle.dcx_iis.specs.Sets.{flagged}
-use Rattle.dcx_iis.specs.Steps.{rows_from}
+use Rattle.dcx_iis.specs.Steps.{flagged, rows_from}
 use Rattle.dcx_iis.proofs.Flags.{flag_read}
 use Rattle.dcx_iis.proofs.Loops.{rows_there, rows_next}
 use Rattle.dcx_iis.proofs.program.rows_kept.Goals as goal

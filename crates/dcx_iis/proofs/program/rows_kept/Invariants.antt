@@ -2,8 +2,7 @@
 use Rattle.std.proofs.Common.{◌≡◌, ◌+◌, ◌≤◌, ◌++◌, length, drop}
 use Rattle.std.specs.Prelude.{sum_by}
 use Rattle.dcx_unknowns.specs.Layout.{constraint_rows}
-use Rattle.dcx_iis.specs.Sets.{flagged}
-use Rattle.dcx_iis.specs.Steps.{rows_from}
+use Rattle.dcx_iis.specs.Steps.{flagged, rows_from}
 use Rattle.dcx_iis.proofs.program.rows_kept.Given as goal
 
 abbrev pub invariant-constraints : goal.invariant-constraints

@@ -3,8 +3,7 @@ use Rattle.std.proofs.Common.{IfOk, IfErr, subst}
 use Rattle.std.proofs.lemmas.Result.{IfOk-weaker}
 use Rattle.dcx_std.specs.Solutions.{HasKinds}
 use Rattle.dcx_lp_solve.specs.Solved.{IsSolved, Stops}
-use Rattle.dcx_iis.specs.Sets.{flagged}
-use Rattle.dcx_iis.specs.Steps.{program_of_set}
+use Rattle.dcx_iis.specs.Steps.{flagged, program_of_set}
 use Rattle.dcx_iis.proofs.Given.{known_given}
 use Rattle.dcx_iis.proofs.program.solve_kept.Goals as goal
 

@@ -1,7 +1,6 @@
 -- What the step's program tells.
 use Rattle.std.proofs.Common.{sym, subst}
-use Rattle.dcx_iis.specs.Sets.{flagged}
-use Rattle.dcx_iis.specs.Steps.{IsStep}
+use Rattle.dcx_iis.specs.Steps.{flagged, IsStep}
 use Rattle.dcx_iis.specs.Runs.{StopsTry}
 use Rattle.dcx_iis.proofs.Shown.{columns_told}
 use Rattle.dcx_iis.proofs.Going.{stops_try}

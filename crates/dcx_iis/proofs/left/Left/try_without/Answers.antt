@@ -2,7 +2,7 @@
 use Rattle.std.proofs.Common.{◌≡◌, ◌+◌, false, Bool, List, set, refl, subst}
 use Rattle.std.proofs.lemmas.Result.{err_from_is_err_and}
 use Rattle.dcx_iis.specs.declared.trying.Tried.{Tried}
-use Rattle.dcx_iis.specs.Sets.{flagged}
+use Rattle.dcx_iis.specs.Steps.{flagged}
 use Rattle.dcx_iis.specs.Runs.{IsTried, StopsTry}
 use Rattle.dcx_iis.proofs.Going.{try_stops, left_with, left_without}
 use Rattle.dcx_iis.proofs.left.Left.try_without.Goals as goal

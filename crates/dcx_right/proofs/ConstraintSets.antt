@@ -1,4 +1,4 @@
--- Sets of constraints: what is left beside a constraint, and the filter's set.
+-- Sets of constraints: what is left beside a constraint, and that the filter's set is minimal and one.
 use Rattle.std.proofs.Common.{◌≡◌, ◌↔◌, ◌⊎◌, ℕ, zero, suc, ◌<◌, ◌≤◌, arith, Bool, true, false, if◌then◌else◌, IsTrue, length, map, inl, inr, refl, sym, ap, ◌∙◌, subst, ⊎_elim}
 use Rattle.std.specs.Prelude.{nat_lt, nat_eq, not}
 use Rattle.std.proofs.Math.Path.{fun_ext}
@@ -9,8 +9,8 @@ use Rattle.dcx_convex.specs.Nodes.{Setting}
 use Rattle.dcx_convex.specs.Problems.{Constraint, IsConstraint}
 use Rattle.dcx_tree.specs.declared.problem.Problem.{Problem}
 use Rattle.dcx_tree.specs.Meaning.{convex_problem, convex_constraint}
-use Rattle.dcx_iis.specs.Sets.{ConstraintSet, every_constraint, KeepsSet, IsImpossible, left_beside, StayBelow, IsFilterSet}
-use Rattle.dcx_iis.specs.Laws.{without, IsMinimal}
+use Rattle.dcx_right.specs.ConstraintSets.{ConstraintSet, every_constraint, without, KeepsSet, IsImpossible, IsMinimal, left_beside, StayBelow, IsFilterSet}
+use Rattle.dcx_right.specs.Laws.{FilterSetsAreMinimal, FilterSetsAreOne}
 
 -- ---- what is left beside a constraint
 module _ (set : ConstraintSet) (k i : ℕ) where
@@ -131,3 +131,10 @@ module _ (p : Problem) (s : Setting) where
 
   pub one_filter_set : (a b : ConstraintSet) → IsFilterSet p s a → IsFilterSet p s b → (k : ℕ) → k < length p.constraints → a k ≡ b k
   one_filter_set a b f g = same_below a b (length p.constraints) f.stay g.stay
+
+-- ---- the laws
+pub filter_sets_are_minimal : FilterSetsAreMinimal
+filter_sets_are_minimal p s set f = filter_set_is_minimal p s set f
+
+pub filter_sets_are_one : FilterSetsAreOne
+filter_sets_are_one p s a b f g k l = one_filter_set p s a b f g k l

@@ -1,6 +1,6 @@
 -- Sets of constraints in words of points: which points keep them all, when no point does, and what is left of all constraints
 -- when each that isn't needed is left out.
-use Rattle.std.specs.Prelude.{ℕ, ◌<◌, Bool, true, IsTrue, ◌↔◌, nat_lt, nat_eq, if◌then◌else◌, List, length, slice_index_or}
+use Rattle.std.specs.Prelude.{ℕ, ◌<◌, Bool, true, ◌&&◌, not, IsTrue, ◌↔◌, nat_lt, nat_eq, if◌then◌else◌, List, length}
 use Rattle.std.specs.List.{list_any}
 use Rattle.dcx_convex.specs.Nodes.{Setting, Point}
 use Rattle.dcx_convex.specs.Problems.{Constraint, IsConstraint, gap_at, Holds}
@@ -18,9 +18,9 @@ every_constraint k = true
 abbrev pub set_of : List ℕ → ConstraintSet
 set_of members k = list_any (nat_eq k) members
 
--- the constraints whose flags are set, and all beyond the flags
-abbrev pub flagged : List Bool → ConstraintSet
-flagged flags k = slice_index_or flags k true
+-- the set without constraint k
+abbrev pub without : ConstraintSet → ℕ → ConstraintSet
+without set k i = set i && not (nat_eq i k)
 
 -- ---- points
 -- the point keeps constraint k, entry by entry
@@ -35,6 +35,11 @@ pub record KeepsSet (p : Problem) (s : Setting) (set : ConstraintSet) (x : Point
 -- no point of the domain keeps each constraint of the set
 abbrev pub IsImpossible : Problem → Setting → ConstraintSet → Type 0
 IsImpossible p s set = (x : Point) → ¬ KeepsSet p s set x
+
+-- the set is impossible, and is not without any one of its constraints
+pub record IsMinimal (p : Problem) (s : Setting) (set : ConstraintSet) : Type 0 where
+  pub impossible : IsImpossible p s set
+  pub needed : (k : ℕ) → k < length p.constraints → IsTrue (set k) → ¬ IsImpossible p s (without set k)
 
 -- ---- the filter's set
 -- what is left beside constraint k when it is tried: what stayed of the constraints before it, and all that follow it
