@@ -1,14 +1,16 @@
 -- A free cell comes to a place.
-use Rattle.std.proofs.Common.{◌≡◌, ◌≢◌, ℕ, ◌<◌, ◌⊎◌, inl, inr, List, [], ◌∷◌, length, set, Option, Some, None, IfSome, refl, sym, subst, ap, ◌∙◌, arith, pos}
+use Rattle.std.proofs.Common.{◌≡◌, ◌≢◌, ℕ, ◌<◌, ◌≤◌, ◌⊎◌, inl, inr, List, [], ◌∷◌, length, get_or, set, Option, Some, None, IfSome, refl, sym, subst, ap, ◌∙◌, arith, pos, ℤ, vec_capacity}
 use Rattle.std.proofs.lemmas.Bool.{cases_eq}
 use Rattle.std.proofs.lemmas.List.{get_or-set_same, get_or-set_other}
 use Rattle.std.proofs.Math.ListN.{length-set}
 use Rattle.dcx_links.specs.declared.store.Cell.{Cell}
+use Rattle.dcx_links.specs.declared.store.Store.{Store}
 use Rattle.dcx_links.specs.Lines.{Has, none, IsFrom, IsSpot, AreApart, AreLines, link_of}
-use Rattle.dcx_links.specs.Cells.{head_at, cell_at, IsAt, InRow, InColumn, IsStore, cell_number, next_in_row_at, next_in_column_at, with_next_in_row, with_next_in_column, with_head, AreFree, blank}
+use Rattle.dcx_links.specs.Cells.{head_at, cell_at, IsAt, InRow, InColumn, IsStore, IsSound, cell_number, number_in, next_in_row_at, next_in_column_at, bound_in_row, bound_in_column, with_next_in_row, with_next_in_column, with_head, AreFree, blank}
+use Rattle.dcx_links.proofs.Free.{some_free}
 use Rattle.dcx_links.proofs.Lines.{lines_with}
 use Rattle.dcx_links.proofs.Numbers.{at_within, number_is, number_none, cell_or}
-use Rattle.dcx_links.proofs.Stores.{row_apart, column_apart}
+use Rattle.dcx_links.proofs.Stores.{cell_read, row_apart, column_apart}
 
 pub set_same : (cells : List Cell) (i : ℕ) (x : Cell) → i < length cells → cell_at (set cells i x) i ≡ x
 set_same cells i x lt = get_or-set_same cells i x blank lt
@@ -138,7 +140,7 @@ module _ (cells : List Cell) (rh ch : List ℕ) (j : ℕ) (store : IsStore cells
   fresh r c at = at.number freed.2
 
   -- the cells that hold a number now
-  pub new_at : IsAt three j x.row x.column
+  new_at : IsAt three j x.row x.column
   new_at = let e = set_same cells j x j_in in record {
     number = λ z. number (sym (value_is j ∙ ap (λ (y : Cell). y.value) e) ∙ z);
     in_row = line_is j ∙ ap (λ (y : Cell). y.row) e;
@@ -229,7 +231,7 @@ module _ (cells : List Cell) (rh ch : List ℕ) (j : ℕ) (store : IsStore cells
         | inr h ↦ h
       ]
 
-  pub inserted : IsStore three (with_head rh x.row s j) (with_head ch x.column t j) (next_in_row_at cells j)
+  inserted : IsStore three (with_head rh x.row s j) (with_head ch x.column t j) (next_in_row_at cells j)
   inserted = record {
     rows_linked = new_rows;
     columns_linked = new_columns;
@@ -242,13 +244,45 @@ module _ (cells : List Cell) (rh ch : List ℕ) (j : ℕ) (store : IsStore cells
     rest = new_rest;
   }
 
-  pub inserted_there : cell_number three x.row x.column ≡ x.value
+  inserted_there : cell_number three x.row x.column ≡ x.value
   inserted_there = number_is three one_new j x.row x.column new_at ∙ value_is j ∙ ap (λ (y : Cell). y.value) (set_same cells j x j_in)
 
-  pub inserted_same : (r c : ℕ) → ¬ ((r ≡ x.row) × (c ≡ x.column)) → cell_number three r c ≡ cell_number cells r c
+  inserted_same : (r c : ℕ) → ¬ ((r ≡ x.row) × (c ≡ x.column)) → cell_number three r c ≡ cell_number cells r c
   inserted_same r c n = elim (cell_or cells r c) [
     | inl (i, at) ↦
         let z : i ≢ j = λ e. fresh r c (subst (λ m. IsAt cells m r c) e at) in
         number_is three one_new i r c (keep_at i r c at) ∙ value_is i ∙ ap (λ (y : Cell). y.value) (set_other cells j i x z) ∙ sym (number_is cells store.one_cell i r c at)
     | inr k ↦ number_none three r c (λ i at. elim (old_at i r c at) [ inl a ↦ k.0 i a | inr (e, p, q) ↦ n (p, q) ]) ∙ sym k.1
   ]
+
+-- these cells are those of a store with a number at a place that had none, in the cell that was free
+pub record AreWith (o : Store) (r c : ℕ) (v : ℤ) (cells : List Cell) (rh ch : List ℕ) (free : ℕ) : Type 0 where
+  pub sound : IsStore cells rh ch free
+  pub here : IsAt cells o.free r c
+  pub there : cell_number cells r c ≡ v
+  pub same : (m q : ℕ) → ¬ ((m ≡ r) × (q ≡ c)) → cell_number cells m q ≡ number_in o m q
+
+-- where a place is empty a cell is free
+module _ (o : Store) (sound : IsSound o) (ready : o.free ≡ none → vec_capacity o.cells ≤ length o.cells.items) (r c : ℕ) (row_in : r < length o.row_heads.items) (column_in : c < length o.column_heads.items)
+    (empty : (i : ℕ) → ¬ IsAt o.cells.items i r c) where
+  frees : (free : List ℕ) × AreFree o.cells.items o.free (o.free ∷ free) × ((i : ℕ) → i < length o.cells.items → (cell_at o.cells.items i).value ≡ pos 0 → Has (o.free ∷ free) i)
+  frees = some_free o.cells.items o.row_heads.items o.column_heads.items o.free sound r c row_in column_in (λ e. let f = ready e in let k = o.enough in omega (arith, f, k)) empty
+
+  pub free_in : o.free < length o.cells.items
+  free_in = frees.1.1
+
+  -- linked behind both spots it has the number there
+  pub insertion : (v : ℤ) → v ≢ pos 0 → (s : Option ℕ) (link : ℕ) → IsSpot (InRow o.cells.items) r c s (bound_in_row o.cells.items s) link → link ≡ link_of (head_at o.row_heads.items) (next_in_row_at o.cells.items) r s
+      → (t : Option ℕ) (below : ℕ) → IsSpot (InColumn o.cells.items) c r t (bound_in_column o.cells.items t) below → below ≡ link_of (head_at o.column_heads.items) (next_in_column_at o.cells.items) c t → (x : Cell) → x ≡ get_or o.cells.items o.free x
+      → AreWith o r c v (with_next_in_column (with_next_in_row (set o.cells.items o.free (record { value = v; row = r; column = c; next_in_row = link; next_in_column = below })) s o.free) t o.free)
+      (with_head o.row_heads.items r s o.free) (with_head o.column_heads.items c t o.free) x.next_in_row
+  insertion v number s link in_row row_is t below in_column column_is x read =
+      let y : Cell = record { value = v; row = r; column = c; next_in_row = link; next_in_column = below } in
+      let is : x.next_in_row ≡ next_in_row_at o.cells.items o.free = ap (λ (z : Cell). z.next_in_row) (cell_read o.cells.items o.free x free_in read) in
+      let now = with_next_in_column (with_next_in_row (set o.cells.items o.free y) s o.free) t o.free in
+      record {
+        sound = subst (λ n. IsStore now (with_head o.row_heads.items r s o.free) (with_head o.column_heads.items c t o.free) n) (sym is) (inserted o.cells.items o.row_heads.items o.column_heads.items o.free sound y row_in column_in number empty s (bound_in_row o.cells.items s) in_row row_is t (bound_in_column o.cells.items t) in_column column_is frees.0 frees.1 frees.2);
+        here = new_at o.cells.items o.row_heads.items o.column_heads.items o.free sound y row_in column_in number empty s (bound_in_row o.cells.items s) in_row row_is t (bound_in_column o.cells.items t) in_column column_is frees.0 frees.1 frees.2;
+        there = inserted_there o.cells.items o.row_heads.items o.column_heads.items o.free sound y row_in column_in number empty s (bound_in_row o.cells.items s) in_row row_is t (bound_in_column o.cells.items t) in_column column_is frees.0 frees.1 frees.2;
+        same = inserted_same o.cells.items o.row_heads.items o.column_heads.items o.free sound y row_in column_in number empty s (bound_in_row o.cells.items s) in_row row_is t (bound_in_column o.cells.items t) in_column column_is frees.0 frees.1 frees.2;
+      }

@@ -1,5 +1,5 @@
 -- A link that leads on from a cell that keeps its place.
-use Rattle.std.proofs.Common.{◌≡◌, ℕ, ◌+◌, ◌≤◌, Option, Some, None, IfSome, refl, ap, ◌∙◌, arith}
+use Rattle.std.proofs.Common.{◌≡◌, ℕ, ◌+◌, Option, Some, None, IfSome, refl, ap, ◌∙◌, arith}
 use Rattle.dcx_links.specs.declared.store.Cell.{Cell}
 use Rattle.std.specs.Prelude.{List}
 use Rattle.dcx_links.specs.Lines.{IsFrom}
@@ -8,9 +8,6 @@ use Rattle.dcx_links.specs.Cells.{InRow, IsAt, bound_in_row}
 -- a cell at a place of a row leads on from behind it
 pub from_cell : (cells : List Cell) (i row column : ℕ) → IsAt cells i row column → IsFrom (InRow cells) row (Some i) (bound_in_row cells (Some i))
 from_cell cells i row column at = (column, at, ap (λ k. k + 1) at.in_column)
-
-pub cell_within : (cells : List Cell) (i row column : ℕ) → IsAt cells i row column → bound_in_row cells (Some i) ≤ column + 1
-cell_within cells i row column at = let e = at.in_column in omega (arith, e)
 
 -- the same link among other cells
 pub from_kept : (cells now : List Cell) (row : ℕ) (s : Option ℕ) → IsFrom (InRow cells) row s (bound_in_row cells s)

@@ -1,13 +1,14 @@
 -- A cell leaves its place and is free.
-use Rattle.std.proofs.Common.{◌≡◌, ◌≢◌, ℕ, ◌<◌, inl, inr, List, [], ◌∷◌, length, set, Option, Some, None, IfSome, refl, sym, subst, ap, ◌∙◌, arith, pos}
+use Rattle.std.proofs.Common.{◌≡◌, ◌≢◌, ℕ, ◌<◌, inl, inr, List, [], ◌∷◌, length, get_or, set, Option, Some, None, IfSome, refl, sym, subst, ap, ◌∙◌, arith, pos}
 use Rattle.std.proofs.lemmas.Bool.{cases_eq}
 use Rattle.std.proofs.Math.ListN.{length-set}
 use Rattle.dcx_links.specs.declared.store.Cell.{Cell}
-use Rattle.dcx_links.specs.Lines.{Has, IsFrom, IsSpot, AreApart, AreLines, link_of}
-use Rattle.dcx_links.specs.Cells.{head_at, cell_at, IsAt, InRow, InColumn, IsStore, cell_number, next_in_row_at, next_in_column_at, with_next_in_row, with_next_in_column, with_head, AreFree}
+use Rattle.dcx_links.specs.declared.store.Store.{Store}
+use Rattle.dcx_links.specs.Lines.{none, Has, IsFrom, IsSpot, AreApart, AreLines, link_of}
+use Rattle.dcx_links.specs.Cells.{head_at, cell_at, IsAt, InRow, InColumn, IsStore, IsSound, cell_number, number_in, next_in_row_at, next_in_column_at, bound_in_row, bound_in_column, with_next_in_row, with_next_in_column, with_head, AreFree}
 use Rattle.dcx_links.proofs.Lines.{lines_without, spot_lands, not_own}
-use Rattle.dcx_links.proofs.Numbers.{at_within, number_is, number_none, cell_or}
-use Rattle.dcx_links.proofs.Stores.{row_apart, column_apart}
+use Rattle.dcx_links.proofs.Numbers.{at_within, number_is, number_none, cell_or, cell_there}
+use Rattle.dcx_links.proofs.Stores.{cell_read, row_apart, column_apart}
 use Rattle.dcx_links.proofs.Inserts.{set_same, set_other, read_row, read_column, row_to, row_other, column_to, column_other, length_row, length_column, length_head, new_link, head_same, free_kept}
 
 -- the other links
@@ -90,7 +91,7 @@ module _ (cells : List Cell) (rh ch : List ℕ) (free : ℕ) (store : IsStore ce
   keep : (i m q : ℕ) → IsAt cells i m q → i ≢ j → IsAt less i m q
   keep i m q at n = record { number = λ y. at.number (sym (value_is i n) ∙ y); in_row = line_is i n ∙ at.in_row; in_column = position_is i n ∙ at.in_column }
 
-  pub keep_others : (i m q : ℕ) → IsAt cells i m q → ¬ ((m ≡ r) × (q ≡ c)) → IsAt less i m q
+  keep_others : (i m q : ℕ) → IsAt cells i m q → ¬ ((m ≡ r) × (q ≡ c)) → IsAt less i m q
   keep_others i m q at n = keep i m q at (λ e. let a = subst (λ k. IsAt cells k m q) e at in n (sym a.in_row ∙ here.in_row, sym a.in_column ∙ here.in_column))
 
   s_not : (k : ℕ) → s ≡ Some k → k ≢ j
@@ -134,7 +135,7 @@ module _ (cells : List Cell) (rh ch : List ℕ) (free : ℕ) (store : IsStore ce
     | inr n ↦ inr (store.rest i (omega (arith, lt, less_length)) (sym (value_is i n) ∙ y))
   ]
 
-  pub removed : IsStore less (with_head rh r s (next_in_row_at cells j)) (with_head ch c t (next_in_column_at cells j)) j
+  removed : IsStore less (with_head rh r s (next_in_row_at cells j)) (with_head ch c t (next_in_column_at cells j)) j
   removed = record {
     rows_linked = less_rows;
     columns_linked = less_columns;
@@ -147,13 +148,48 @@ module _ (cells : List Cell) (rh ch : List ℕ) (free : ℕ) (store : IsStore ce
     rest = less_rest;
   }
 
-  pub removed_there : cell_number less r c ≡ pos 0
+  removed_there : cell_number less r c ≡ pos 0
   removed_there = number_none less r c (λ i at. let l = left i r c at in l.1 (store.one_cell i j r c l.0 here))
 
-  pub removed_same : (m q : ℕ) → ¬ ((m ≡ r) × (q ≡ c)) → cell_number less m q ≡ cell_number cells m q
+  removed_same : (m q : ℕ) → ¬ ((m ≡ r) × (q ≡ c)) → cell_number less m q ≡ cell_number cells m q
   removed_same m q n = elim (cell_or cells m q) [
     | inl (i, at) ↦
         let y : i ≢ j = λ e. let a = subst (λ k. IsAt cells k m q) e at in n (sym a.in_row ∙ here.in_row, sym a.in_column ∙ here.in_column) in
         number_is less (λ a k f h u v. store.one_cell a k f h (left a f h u).0 (left k f h v).0) i m q (keep i m q at y) ∙ value_is i y ∙ sym (number_is cells store.one_cell i m q at)
     | inr k ↦ number_none less m q (λ i at. k.0 i (left i m q at).0) ∙ sym k.1
   ]
+
+-- these cells are those of a store without the number of a place
+pub record AreWithout (o : Store) (r c : ℕ) (cells : List Cell) (rh ch : List ℕ) (free : ℕ) : Type 0 where
+  pub sound : IsStore cells rh ch free
+  pub there : cell_number cells r c ≡ pos 0
+  pub same : (m q : ℕ) → ¬ ((m ≡ r) × (q ≡ c)) → cell_number cells m q ≡ number_in o m q
+  pub kept : (i m q : ℕ) → IsAt o.cells.items i m q → ¬ ((m ≡ r) × (q ≡ c)) → IsAt cells i m q
+
+-- where a place has a number, its spot in the row leads to the cell
+module _ (o : Store) (sound : IsSound o) (r c : ℕ) (there : number_in o r c ≢ pos 0) (s : Option ℕ) (link : ℕ) (in_row : IsSpot (InRow o.cells.items) r c s (bound_in_row o.cells.items s) link) where
+  spot_here : IsAt o.cells.items link r c
+  spot_here =
+      let k = cell_there o.cells.items r c there in
+      subst (λ n. IsAt o.cells.items n r c) (sym (spot_lands (InRow o.cells.items) (row_apart o.cells.items o.row_heads.items o.column_heads.items o.free sound) r c s (bound_in_row o.cells.items s) link k.0 in_row k.1)) k.1
+
+  pub spot_within : link < length o.cells.items
+  spot_within = at_within o.cells.items link spot_here.number
+
+  -- the cell leaves both lines and is free
+  pub removal : r < length o.row_heads.items → c < length o.column_heads.items → link ≡ link_of (head_at o.row_heads.items) (next_in_row_at o.cells.items) r s → (t : Option ℕ) (below : ℕ)
+      → IsSpot (InColumn o.cells.items) c r t (bound_in_column o.cells.items t) below → below ≡ link_of (head_at o.column_heads.items) (next_in_column_at o.cells.items) c t → (x : Cell) → x ≡ get_or o.cells.items link x
+      → AreWithout o r c (set (with_next_in_column (with_next_in_row o.cells.items s x.next_in_row) t x.next_in_column) link (record { value = pos 0; row = r; column = c; next_in_row = o.free; next_in_column = none }))
+      (with_head o.row_heads.items r s x.next_in_row) (with_head o.column_heads.items c t x.next_in_column) link
+  removal row_in column_in row_is t below in_column column_is x read =
+      let z : Cell = record { value = pos 0; row = r; column = c; next_in_row = o.free; next_in_column = none } in
+      let is : x ≡ cell_at o.cells.items link = cell_read o.cells.items link x spot_within read in
+      let b = bound_in_row o.cells.items s in
+      let d = bound_in_column o.cells.items t in
+      subst (λ (y : Cell). AreWithout o r c (set (with_next_in_column (with_next_in_row o.cells.items s y.next_in_row) t y.next_in_column) link z) (with_head o.row_heads.items r s y.next_in_row) (with_head o.column_heads.items c t y.next_in_column) link) (sym is)
+      (record {
+        sound = removed o.cells.items o.row_heads.items o.column_heads.items o.free sound r c row_in column_in link spot_here s b link in_row row_is t d below in_column column_is z refl refl;
+        there = removed_there o.cells.items o.row_heads.items o.column_heads.items o.free sound r c row_in column_in link spot_here s b link in_row row_is t d below in_column column_is z refl refl;
+        same = removed_same o.cells.items o.row_heads.items o.column_heads.items o.free sound r c row_in column_in link spot_here s b link in_row row_is t d below in_column column_is z refl refl;
+        kept = keep_others o.cells.items o.row_heads.items o.column_heads.items o.free sound r c row_in column_in link spot_here s b link in_row row_is t d below in_column column_is z refl refl;
+      })

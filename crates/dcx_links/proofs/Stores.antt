@@ -10,6 +10,21 @@ use Rattle.dcx_links.proofs.Numbers.{at_within, number_is, number_none}
 pub cell_read : (cells : List Cell) (i : ℕ) (x : Cell) → i < length cells → x ≡ get_or cells i x → x ≡ cell_at cells i
 cell_read cells i x lt e = sym (get_or_from_slice_get cells i x blank (slice_get_read cells (length cells) i x refl lt e))
 
+-- a spot of a row, or of a column
+module _ (At : ℕ → ℕ → ℕ → Type 0) (real : (i m q : ℕ) → At i m q → i < none) (l c : ℕ) (s : Option ℕ) (b link : ℕ) (spot : IsSpot At l c s b link) where
+  spot_leads : link ≢ none → Leads At l b link
+  spot_leads d = leads_on At l b c link spot.next spot.within real d
+
+  spot_none : link ≡ none → (i : ℕ) → ¬ At i l c
+  spot_none e i at = let z = nothing_from At l b c link spot.next spot.within real e i c at in let y = spot.within in omega (arith, z, y)
+
+  spot_other : (d : link ≢ none) → (spot_leads d).position ≢ c → (i : ℕ) → ¬ At i l c
+  spot_other d e i at =
+      let h = spot_leads d in
+      let z = h.first i c at spot.within in
+      let y = spot.gap link h.position h.here h.beyond in
+      e (omega (arith, z, y))
+
 module _ (cells : List Cell) (rh ch : List ℕ) (free : ℕ) (store : IsStore cells rh ch free) where
   pub at_real : (i m q : ℕ) → IsAt cells i m q → i < none
   at_real i m q at = let z = at_within cells i at.number in let y = store.few in omega (arith, z, y)
@@ -32,10 +47,10 @@ module _ (cells : List Cell) (rh ch : List ℕ) (free : ℕ) (store : IsStore ce
 
   module _ (row column : ℕ) (s : Option ℕ) (b link : ℕ) (spot : IsSpot (InRow cells) row column s b link) where
     pub empty_none : link ≡ none → (i : ℕ) → ¬ IsAt cells i row column
-    empty_none e i at = let z = nothing_from (InRow cells) row b column link spot.next spot.within at_real e i column at in let y = spot.within in omega (arith, z, y)
+    empty_none e = spot_none (InRow cells) at_real row column s b link spot e
 
     leads : link ≢ none → Leads (InRow cells) row b link
-    leads d = leads_on (InRow cells) row b column link spot.next spot.within at_real d
+    leads d = spot_leads (InRow cells) at_real row column s b link spot d
 
     pub link_within : link ≢ none → link < length cells
     link_within d = at_within cells link (leads d).here.number
@@ -44,12 +59,8 @@ module _ (cells : List Cell) (rh ch : List ℕ) (free : ℕ) (store : IsStore ce
     found d e = let h = (leads d).here in record { number = h.number; in_row = h.in_row; in_column = e }
 
     pub empty_other : link ≢ none → (cell_at cells link).column ≢ column → (i : ℕ) → ¬ IsAt cells i row column
-    empty_other d e i at =
-        let h = leads d in
-        let z = h.first i column at spot.within in
-        let y = spot.gap link h.position h.here h.beyond in
-        let x = h.here.in_column in
-        e (omega (arith, z, y, x))
+    unfolding leads spot_leads
+    empty_other d e = spot_other (InRow cells) at_real row column s b link spot d (λ q. e ((leads d).here.in_column ∙ q))
 
     pub number_found : link ≢ none → (cell_at cells link).column ≡ column → (cell_at cells link).value ≡ cell_number cells row column
     number_found d e = sym (number_is cells store.one_cell link row column (found d e))
@@ -59,21 +70,17 @@ module _ (cells : List Cell) (rh ch : List ℕ) (free : ℕ) (store : IsStore ce
     real_below i m q at = at_real i q m at
 
     pub empty_none_below : link ≡ none → (i : ℕ) → ¬ IsAt cells i row column
-    empty_none_below e i at = let z = nothing_from (InColumn cells) column b row link spot.next spot.within real_below e i row at in let y = spot.within in omega (arith, z, y)
+    empty_none_below e = spot_none (InColumn cells) real_below column row s b link spot e
 
     leads_below : link ≢ none → Leads (InColumn cells) column b link
-    leads_below d = leads_on (InColumn cells) column b row link spot.next spot.within real_below d
+    leads_below d = spot_leads (InColumn cells) real_below column row s b link spot d
 
     pub link_within_below : link ≢ none → link < length cells
     link_within_below d = at_within cells link (leads_below d).here.number
 
     pub empty_other_below : link ≢ none → (cell_at cells link).row ≢ row → (i : ℕ) → ¬ IsAt cells i row column
-    empty_other_below d e i at =
-        let h = leads_below d in
-        let z = h.first i row at spot.within in
-        let y = spot.gap link h.position h.here h.beyond in
-        let x = h.here.in_row in
-        e (omega (arith, z, y, x))
+    unfolding leads_below spot_leads
+    empty_other_below d e = spot_other (InColumn cells) real_below column row s b link spot d (λ q. e ((leads_below d).here.in_row ∙ q))
 
     pub number_found_below : link ≢ none → (cell_at cells link).row ≡ row → (cell_at cells link).value ≡ cell_number cells row column
     number_found_below d e = let h = (leads_below d).here in sym (number_is cells store.one_cell link row column (record { number = h.number; in_row = e; in_column = h.in_column }))

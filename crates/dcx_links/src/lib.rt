@@ -25,4 +25,5 @@ mod write;
 
 pub use links::Links;
 pub use pair::{Pair, PairWalk};
+pub use rewrite::quotient;
 pub use walk::{ColumnWalk, Entry, RowWalk};

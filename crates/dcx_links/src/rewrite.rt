@@ -11,7 +11,7 @@ use crate::write::change_at;
 const WORD: i128 = i64::MAX as i128;
 
 /// The quotient by a divisor, cut off towards 0. It is formed in one machine word where the numbers fit: in two it takes several times as long.
-fn quotient(value: i128, divisor: i128) -> i128
+pub fn quotient(value: i128, divisor: i128) -> i128
     requires { pos 0 <ℤ divisor }
     ensures { result ≡ divided (unsigned_abs divisor) value }
 {

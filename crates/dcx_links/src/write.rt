@@ -101,6 +101,7 @@ fn remove_at(store: &mut Store, row: u32, column: u32, in_row: Spot, in_column: 
     requires in_column { IsSpot (InColumn store.old.cells.items) column row in_column.from (bound_in_column store.old.cells.items in_column.from) in_column.link }
     requires column_link { in_column.link ≡ link_of (head_at store.old.column_heads.items) (next_in_column_at store.old.cells.items) column in_column.from }
     ensures kept { (i r c : ℕ) → IsAt store.old.cells.items i r c → ¬ ((r ≡ row) × (c ≡ column)) → IsAt store.new.cells.items i r c }
+    ensures free { store.new.free ≢ none }
     ensures sound { IsSound store.new }
     ensures rows { length store.new.row_heads.items ≡ length store.old.row_heads.items }
     ensures columns { length store.new.column_heads.items ≡ length store.old.column_heads.items }
@@ -138,6 +139,9 @@ pub(crate) fn change_at(store: &mut Store, at: u32, row: u32, column: u32, value
     requires sound { IsSound store.old }
     requires number { value ≢ pos 0 }
     requires here { IsAt store.old.cells.items at row column }
+    ensures free { store.new.free ≡ store.old.free }
+    ensures count { length store.new.cells.items ≡ length store.old.cells.items }
+    ensures room { vec_capacity store.new.cells ≡ vec_capacity store.old.cells }
     ensures here { IsAt store.new.cells.items at row column }
     ensures sound { IsSound store.new }
     ensures rows { length store.new.row_heads.items ≡ length store.old.row_heads.items }
@@ -155,16 +159,33 @@ pub(crate) struct Near {
     pub(crate) in_column: u32,
 }
 
-/// The last cell of a row that doesn't stand behind a place, if there is one, and a cell from which its column is looked through next.
+/// Where a walk along a row goes on behind a place, and a cell from which the column of the place is looked through next.
 #[derive(Clone, Copy)]
-pub(crate) struct Reached {
-    pub(crate) from: Option<u32>,
+pub(crate) struct Passed {
+    pub(crate) spot: Spot,
     pub(crate) near: u32,
+}
+
+/// Where a walk along a row goes on behind a cell.
+#[inline(always)]
+fn behind(store: &Store, row: u32, column: u32, at: u32) -> Passed
+    requires row { row < length store.now.row_heads.items }
+    requires here { IsAt store.now.cells.items at row column }
+    ensures from { IsFrom (InRow store.now.cells.items) row result.spot.from (bound_in_row store.now.cells.items result.spot.from) }
+    ensures within { bound_in_row store.now.cells.items result.spot.from ≤ column + 1 }
+    ensures link { result.spot.link ≡ link_of (head_at store.now.row_heads.items) (next_in_row_at store.now.cells.items) row result.spot.from }
+{
+    let from = Some(at);
+    let link = row_link(&store.cells, &store.row_heads, row, from);
+    Passed {
+        spot: Spot { from, link },
+        near: at,
+    }
 }
 
 /// Puts a number other than 0 at a place that has none.
 #[inline(always)]
-fn put_in(store: &mut Store, row: u32, column: u32, value: i128, in_row: Spot, near: u32) -> Reached
+fn put_in(store: &mut Store, row: u32, column: u32, value: i128, in_row: Spot, near: u32) -> Passed
     requires sound { IsSound store.old }
     requires ready { store.old.free ≡ none → vec_capacity store.old.cells ≤ length store.old.cells.items }
     requires row { row < length store.old.row_heads.items }
@@ -173,8 +194,10 @@ fn put_in(store: &mut Store, row: u32, column: u32, value: i128, in_row: Spot, n
     requires empty { (i : ℕ) → ¬ IsAt store.old.cells.items i row column }
     requires in_row { IsSpot (InRow store.old.cells.items) row column in_row.from (bound_in_row store.old.cells.items in_row.from) in_row.link }
     requires row_link { in_row.link ≡ link_of (head_at store.old.row_heads.items) (next_in_row_at store.old.cells.items) row in_row.from }
-    ensures from { IsFrom (InRow store.new.cells.items) row result.from (bound_in_row store.new.cells.items result.from) }
-    ensures within { bound_in_row store.new.cells.items result.from ≤ column + 1 }
+    ensures from { IsFrom (InRow store.new.cells.items) row result.spot.from (bound_in_row store.new.cells.items result.spot.from) }
+    ensures within { bound_in_row store.new.cells.items result.spot.from ≤ column + 1 }
+    ensures link { result.spot.link ≡ link_of (head_at store.new.row_heads.items) (next_in_row_at store.new.cells.items) row result.spot.from }
+    ensures ready { store.new.free ≡ none → vec_capacity store.new.cells ≤ length store.new.cells.items }
     ensures sound { IsSound store.new }
     ensures rows { length store.new.row_heads.items ≡ length store.old.row_heads.items }
     ensures columns { length store.new.column_heads.items ≡ length store.old.column_heads.items }
@@ -183,23 +206,23 @@ fn put_in(store: &mut Store, row: u32, column: u32, value: i128, in_row: Spot, n
 {
     let in_column = column_spot(&store.cells, &store.column_heads, row, column, near);
     let cell = insert_at(store, row, column, value, in_row, in_column);
-    Reached {
-        from: Some(cell),
-        near: cell,
-    }
+    make_free(store);
+    behind(store, row, column, cell)
 }
 
 /// Takes the number from a place that has one.
 #[inline(always)]
-fn take_out(store: &mut Store, row: u32, column: u32, in_row: Spot, near: u32) -> Reached
+fn take_out(store: &mut Store, row: u32, column: u32, in_row: Spot, near: u32) -> Passed
     requires sound { IsSound store.old }
     requires row { row < length store.old.row_heads.items }
     requires column { column < length store.old.column_heads.items }
     requires there { number_in store.old row column ≢ pos 0 }
     requires in_row { IsSpot (InRow store.old.cells.items) row column in_row.from (bound_in_row store.old.cells.items in_row.from) in_row.link }
     requires row_link { in_row.link ≡ link_of (head_at store.old.row_heads.items) (next_in_row_at store.old.cells.items) row in_row.from }
-    ensures from { IsFrom (InRow store.new.cells.items) row result.from (bound_in_row store.new.cells.items result.from) }
-    ensures within { bound_in_row store.new.cells.items result.from ≤ column + 1 }
+    ensures from { IsFrom (InRow store.new.cells.items) row result.spot.from (bound_in_row store.new.cells.items result.spot.from) }
+    ensures within { bound_in_row store.new.cells.items result.spot.from ≤ column + 1 }
+    ensures link { result.spot.link ≡ link_of (head_at store.new.row_heads.items) (next_in_row_at store.new.cells.items) row result.spot.from }
+    ensures ready { store.new.free ≡ none → vec_capacity store.new.cells ≤ length store.new.cells.items }
     ensures sound { IsSound store.new }
     ensures rows { length store.new.row_heads.items ≡ length store.old.row_heads.items }
     ensures columns { length store.new.column_heads.items ≡ length store.old.column_heads.items }
@@ -208,23 +231,28 @@ fn take_out(store: &mut Store, row: u32, column: u32, in_row: Spot, near: u32) -
 {
     let in_column = column_spot(&store.cells, &store.column_heads, row, column, near);
     remove_at(store, row, column, in_row, in_column);
-    Reached {
-        from: in_row.from,
+    let from = in_row.from;
+    let link = row_link(&store.cells, &store.row_heads, row, from);
+    Passed {
+        spot: Spot { from, link },
         near: in_column.from.unwrap_or(NONE),
     }
 }
 
-/// Puts a number at a place whose spot was found before. The column is searched only where a cell comes to it or leaves it.
+/// Puts a number at a place whose spot was found before, and makes a cell free for the next one. The column is searched only where a cell
+/// comes to it or leaves it.
 #[inline(always)]
-fn put_at(store: &mut Store, row: u32, column: u32, value: i128, in_row: Spot, near: u32) -> Reached
+fn put_at(store: &mut Store, row: u32, column: u32, value: i128, in_row: Spot, near: u32) -> Passed
     requires sound { IsSound store.old }
     requires ready { store.old.free ≡ none → vec_capacity store.old.cells ≤ length store.old.cells.items }
     requires row { row < length store.old.row_heads.items }
     requires column { column < length store.old.column_heads.items }
     requires in_row { IsSpot (InRow store.old.cells.items) row column in_row.from (bound_in_row store.old.cells.items in_row.from) in_row.link }
     requires row_link { in_row.link ≡ link_of (head_at store.old.row_heads.items) (next_in_row_at store.old.cells.items) row in_row.from }
-    ensures from { IsFrom (InRow store.new.cells.items) row result.from (bound_in_row store.new.cells.items result.from) }
-    ensures within { bound_in_row store.new.cells.items result.from ≤ column + 1 }
+    ensures from { IsFrom (InRow store.new.cells.items) row result.spot.from (bound_in_row store.new.cells.items result.spot.from) }
+    ensures within { bound_in_row store.new.cells.items result.spot.from ≤ column + 1 }
+    ensures link { result.spot.link ≡ link_of (head_at store.new.row_heads.items) (next_in_row_at store.new.cells.items) row result.spot.from }
+    ensures ready { store.new.free ≡ none → vec_capacity store.new.cells ≤ length store.new.cells.items }
     ensures sound { IsSound store.new }
     ensures rows { length store.new.row_heads.items ≡ length store.old.row_heads.items }
     ensures columns { length store.new.column_heads.items ≡ length store.old.column_heads.items }
@@ -236,16 +264,10 @@ fn put_at(store: &mut Store, row: u32, column: u32, value: i128, in_row: Spot, n
             return take_out(store, row, column, in_row, near);
         }
         change_at(store, in_row.link, row, column, value);
-        return Reached {
-            from: Some(in_row.link),
-            near: in_row.link,
-        };
+        return behind(store, row, column, in_row.link);
     }
     if value == 0 {
-        return Reached {
-            from: in_row.from,
-            near,
-        };
+        return Passed { spot: in_row, near };
     }
     put_in(store, row, column, value, in_row, near)
 }
@@ -263,21 +285,14 @@ pub(crate) fn put(store: &mut Store, row: u32, column: u32, value: i128, near: N
 {
     make_free(store);
     let in_row = row_spot(&store.cells, &store.row_heads, row, column, near.in_row);
-    let reached = put_at(store, row, column, value, in_row, near.in_column);
+    let passed = put_at(store, row, column, value, in_row, near.in_column);
     Near {
-        in_row: reached.from.unwrap_or(NONE),
-        in_column: reached.near,
+        in_row: passed.spot.from.unwrap_or(NONE),
+        in_column: passed.near,
     }
 }
 
-/// Where a walk along a row goes on behind a place, and a cell from which the column of the place is looked through next.
-#[derive(Clone, Copy)]
-pub(crate) struct Passed {
-    pub(crate) spot: Spot,
-    pub(crate) near: u32,
-}
-
-/// Takes a number from that at a place whose spot was found before, and makes a cell free for the next one.
+/// Takes a number from that at a place whose spot was found before.
 #[inline(always)]
 pub(crate) fn lessen(
     store: &mut Store,
@@ -305,12 +320,5 @@ pub(crate) fn lessen(
     ensures same { (r c : ℕ) → ¬ ((r ≡ row) × (c ≡ column)) → number_in store.new r c ≡ number_in store.old r c }
 {
     let number = number_at_spot(store, row, column, in_row);
-    let reached = put_at(store, row, column, number - by, in_row, near);
-    make_free(store);
-    let from = reached.from;
-    let link = row_link(&store.cells, &store.row_heads, row, from);
-    Passed {
-        spot: Spot { from, link },
-        near: reached.near,
-    }
+    put_at(store, row, column, number - by, in_row, near)
 }

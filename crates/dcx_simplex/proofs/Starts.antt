@@ -1,6 +1,6 @@
 -- A program's first tableau is one from which a run begins.
 use Rattle.std.proofs.Common.{◌≡◌, ◌≢◌, ℕ, zero, suc, ◌+◌, ◌-◌, ◌<◌, ◌≤◌, Bool, true, false, not, nat_eq, List, [], ◌∷◌, ◌++◌, length, ℤ, pos, negsuc}
-use Rattle.std.proofs.Common.{◌+ℤ◌, ◌-ℤ◌, ◌*ℤ◌, ◌<ℤ◌, ◌≤ℤ◌, unsigned_abs, arith, refl, sym, ap, ap₂, ◌∙◌, subst, ◌⊎◌, inl, inr}
+use Rattle.std.proofs.Common.{◌+ℤ◌, ◌-ℤ◌, ◌<ℤ◌, ◌≤ℤ◌, unsigned_abs, arith, refl, sym, ap, ap₂, ◌∙◌, subst, ◌⊎◌, inl, inr}
 use Rattle.std.specs.Prelude.{Some, slice_get, nat_le, if◌then◌else◌, ◌&&◌}
 use Rattle.std.proofs.lemmas.Int.{ints}
 use Rattle.std.proofs.lemmas.Bool.{cases_lt, cases_eq, eqb-true}
@@ -18,7 +18,8 @@ use Rattle.dcx_tab.specs.declared.rows.CostRow.{CostRow}
 use Rattle.dcx_tab.specs.Rows.{Row, Assignment, entry, row_at, basic_at, Solves, IsBasicRow, IsTableau}
 use Rattle.dcx_tab.specs.Program.{IsProgram, kind_at, plain_count, told_entry, unknown_entry, may_start, sum_started}
 use Rattle.dcx_tab.specs.Program.{first_basic_of, first_basic_at, tableau_row, objective_row, phase_row, first_table}
-use Rattle.dcx_tab.proofs.RowLaws.{gcd_of-dvd_entry, entry-added, entry-scaled}
+use Rattle.dcx_tab.proofs.LineSteps.{neg_entry}
+use Rattle.dcx_tab.proofs.RowLaws.{gcd_of-dvd_entry, entry-added}
 use Rattle.dcx_tab.proofs.Programs.{has_row, map_at, from_plain, plain_count_le, length_first, length_basis, at_row, at_objective, at_phase, basic_row, basic_objective, basic_phase, widths}
 use Rattle.dcx_simplex.specs.Start.{IsStart, IsSumRow}
 use Rattle.dcx_simplex.proofs.ReadLists.{both_true}
@@ -85,9 +86,6 @@ pub combination : ℕ → List IntRow → Row → Row
 combination plain [] last = int_scaled (negsuc 0) last
 combination plain (r ∷ rows) last = if nat_le plain r.basic then int_added (tableau_row r) (combination plain rows last) else combination plain rows last
 
-minus_one : (z : ℤ) → negsuc 0 *ℤ z ≡ pos 0 -ℤ z
-minus_one z = omega (arith, ints)
-
 length_if : (b : Bool) (xs ys : List ℤ) (n : ℕ) → length xs ≡ n → length ys ≡ n → length (if b then xs else ys) ≡ n
 length_if true xs ys n e f = e
 length_if false xs ys n e f = f
@@ -108,7 +106,7 @@ entry_if false xs ys j u v e f = f ∙ omega (arith, ints)
 
 entry_combination : (plain : ℕ) (rows : List IntRow) (last : Row) (j : ℕ) → entry (combination plain rows last) j ≡ sum_started plain (λ r. entry (tableau_row r) j) rows -ℤ entry last j
 unfolding combination
-entry_combination plain [] last j = entry-scaled (negsuc 0) last j ∙ minus_one (entry last j)
+entry_combination plain [] last j = sym (neg_entry last j)
 entry_combination plain (r ∷ rows) last j =
     let ih = entry_combination plain rows last j in
     entry_if (nat_le plain r.basic) (int_added (tableau_row r) (combination plain rows last)) (combination plain rows last) j
