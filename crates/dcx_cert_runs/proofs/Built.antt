@@ -1,9 +1,7 @@
 -- The certificate of an answer that a session found last.
-use Rattle.std.proofs.Common.{◌≡◌, ◌≢◌, ◌⊎◌, inl, inr, ℕ, ◌+◌, ◌*◌, ◌<◌, ◌≤◌, List, [], ◌∷◌, ◌++◌, length, take, get_or, Bool, true}
-use Rattle.std.proofs.Common.{false, IsTrue, Option, Some, None, Result, Ok, Err, refl, sym, ap, ◌∙◌, subst, true≢false, arith}
-use native.Mathlib.Decide.{dec_lt}
+use Rattle.std.proofs.Common.{◌≡◌, ◌≢◌, ◌⊎◌, inl, inr, ℕ, zero, suc, List, [], ◌∷◌, Bool, true, false, IsTrue, Option, Some, None, Result, Ok, Err, refl, sym, ap, ◌∙◌, subst, true≢false}
 use Rattle.std.specs.List.{slice_get}
-use Rattle.std.proofs.lemmas.Option.{none-some, same_Some, slice_get_read}
+use Rattle.std.proofs.lemmas.Option.{none-some, same_Some}
 use Rattle.std.specs.Prelude.{◌↔◌, IfOk, OnOk}
 use Rattle.dcx_frac.specs.declared.fraction.Frac.{Frac}
 use Rattle.dcx_point.specs.Pairs.{Pairs}
@@ -28,7 +26,8 @@ use Rattle.dcx_graph.specs.Reduced.{Reduction}
 use Rattle.dcx_graph.specs.Fixed.{HaveArrays}
 use Rattle.dcx_graph.specs.Answers.{IsAnswered, IsRead}
 use Rattle.dcx_cache.specs.declared.session.Last.{Last}
-use Rattle.dcx_cache.specs.Programs.{HasMap, SessionGives, mapped, anew}
+use Rattle.dcx_cache.specs.InTurn.{EndInTurn}
+use Rattle.dcx_cache.specs.Programs.{SessionGives, mapped, anew}
 use Rattle.dcx_cache.specs.Sessions.{IsFound, Shows}
 use Rattle.dcx_cache.specs.Answers.{Stops}
 use Rattle.dcx_cache.proofs.Answered.{is_answered}
@@ -37,9 +36,7 @@ use Rattle.dcx_cache.proofs.OneEnd.{has_one_end}
 use Rattle.dcx_cert_build.specs.Origins.{IsLaidOut}
 use Rattle.dcx_cert_build.specs.Built.{IsBuilt, PassesAt, StopsBuilding}
 use Rattle.dcx_cert_build.proofs.Laid.{programs_are_laid_out}
-use Rattle.dcx_cert_runs.specs.declared.building.Told.{Told}
-use Rattle.dcx_cert_runs.specs.Sections.{IsCertAt, IsStoppedAt, StopsSomewhere, HasNoCert, stopped, passes, IsSectionAt, IsToldAt, AreSectionsAt}
-use Rattle.dcx_cert_runs.proofs.Lists.{beside_step, taken_at, taken_from, taken_within, take_all}
+use Rattle.dcx_cert_runs.specs.Sections.{IsCertAt, IsStoppedAt, StopsSomewhere, HasNoCert, stopped, passes, IsSectionAt, IsTold, AreSectionsAt}
 
 -- the rows of a session's program are laid out as the problem has them
 laid_out : (p : Problem) (setting : Pairs) (q : Program Frac) → SessionGives p setting (Ok q) → IsLaidOut p q
@@ -99,98 +96,96 @@ module _ (p : Problem) (setting : Pairs) (limit : ℕ) (cached : Bool) (a : Answ
       (subst (λ (z : Reduction Frac). PassesAt p z.program.origins l.solved.answer site) from (subst (λ (z : LpAnswer). PassesAt p reduced.program.origins z site) of h))
 
   -- the setting isn't stopped
-  not_stopped : IsAccepted p → IsStoppedAt p limit setting → ⊥
+  pub not_stopped : IsAccepted p → IsStoppedAt p limit setting → ⊥
   not_stopped ok h = h.not_memory (has_one_end p setting limit (Ok a) (Err h.stop) ok (l.reduced.program, l.solved, found.answer) h.stops)
-
-  answered_flag : IsAccepted p → IsTrue false ↔ IsStoppedAt p limit setting
-  answered_flag ok = (λ t. absurd (true≢false (sym t)), λ h. absurd (not_stopped ok h))
-
-  pub told_cert : IsAccepted p → (cert : Cert) → IsBuilt p setting reduced.program.origins rows a cert → IsCertOf (problem_outline p) cert → IsOfFormat Two cert
-      → IsToldAt p limit setting (sections.Cert cert) false
-  told_cert ok cert built of_problem format = record { is_section = cert_at cert built of_problem format; flag = answered_flag ok }
-
-  told_none : IsAccepted p → (section : Section) (flag : Bool) → section ≡ sections.None → flag ≡ false → HasNoCert p limit setting → IsToldAt p limit setting section flag
-  told_none ok section flag is off h =
-      subst (λ (x : Section). IsToldAt p limit setting x flag) (sym is) (subst (IsToldAt p limit setting sections.None) (sym off) (record { is_section = h; flag = answered_flag ok }))
 
   no_cert : (stop : AnswerStop) → stop ≢ reads.Memory → StopsBuilding p reduced.program.origins rows stop → HasNoCert p limit setting
   no_cert (reads.Wide site) n h = none_at site h
   no_cert reads.Memory n h = absurd (n refl)
 
   -- no certificate is built of the answer
-  pub unbuilt_at : {E : Type 0} → IsAccepted p → (stop : AnswerStop) (r : Result Told E) → StopsBuilding p reduced.program.origins rows stop
-      → IfOk r (λ t. (t.section ≡ sections.None) × (t.stopped ≡ false))
-      → OnOk r (stop ≢ reads.Memory) → IfOk r (λ t. IsToldAt p limit setting t.section t.stopped)
-  unbuilt_at ok stop (Ok t) h is told = told_none ok t.section t.stopped is.0 is.1 (no_cert stop told h)
-  unbuilt_at ok stop (Err e) h is told = tt
+  pub unbuilt_at : {E : Type 0} → (stop : AnswerStop) (r : Result Section E) → StopsBuilding p reduced.program.origins rows stop → IfOk r (λ x. x ≡ sections.None) → OnOk r (stop ≢ reads.Memory)
+      → IfOk r (IsSectionAt p limit setting)
+  unbuilt_at stop (Ok x) h is told = subst (IsSectionAt p limit setting) (sym is) (no_cert stop told h)
+  unbuilt_at stop (Err e) h is told = tt
 
--- a setting that is stopped has none
-pub stopped_at : {E : Type 0} (p : Problem) (limit : ℕ) (setting : Pairs) (stop : Stop) (r : Result Told E) → Stops p setting limit stop
-    → IfOk r (λ t. (t.section ≡ sections.None) × (t.stopped ≡ true)) → OnOk r (stop ≢ stops.Memory)
-    → IfOk r (λ t. IsToldAt p limit setting t.section t.stopped)
-stopped_at p limit setting stop (Ok t) h is told =
-    let at : IsStoppedAt p limit setting = record { stop = stop; not_memory = told; stops = h } in
-    let none : IsToldAt p limit setting sections.None true = record { is_section = stopped at; flag = (λ u. at, λ u. refl) } in
-    subst (λ (x : Section). IsToldAt p limit setting x t.stopped) (sym is.0) (subst (IsToldAt p limit setting sections.None) (sym is.1) none)
-stopped_at p limit setting stop (Err e) h is told = tt
+module _ (p : Problem) (limit : ℕ) (setting : Pairs) (before after : Option (List ℕ)) (flag : Bool) where
+  -- a setting that is answered leaves the flag as it is
+  pub answered_at : {E : Type 0} (r : Result Section E) → ¬ (IsStoppedAt p limit setting) → IfOk r (IsSectionAt p limit setting) → IfOk r (λ x. IsTold p limit setting (before, flag) x (after, flag))
+  answered_at (Ok x) n h = record { is_section = h; flag = (λ t. inl t, by) }
+    where
+      by : IsTrue flag ⊎ IsStoppedAt p limit setting → IsTrue flag
+      by (inl t) = t
+      by (inr at) = absurd (n at)
+  answered_at (Err e) n h = tt
+
+  -- one that is stopped has no certificate, and sets it
+  pub stopped_at : {E : Type 0} (stop : Stop) (r : Result Section E) → Stops p setting limit stop → IfOk r (λ x. x ≡ sections.None) → OnOk r (stop ≢ stops.Memory)
+      → IfOk r (λ x. IsTold p limit setting (before, flag) x (after, true))
+  stopped_at stop (Ok x) h is told =
+      let at : IsStoppedAt p limit setting = record { stop = stop; not_memory = told; stops = h } in
+      record { is_section = subst (IsSectionAt p limit setting) (sym is) (stopped at); flag = (λ t. inr at, λ w. refl) }
+  stopped_at stop (Err e) h is told = tt
 
 -- ---- setting after setting
-module _ (p : Problem) (limit : ℕ) (settings : List Pairs) (i : ℕ) (s : Pairs) (lt : i < length settings) (is : s ≡ get_or settings i s) where
-  -- one section more
-  pub sections_step : (list : List Section) (x : Section) → AreSectionsAt p limit (take i settings) list → IsSectionAt p limit s x → AreSectionsAt p limit (take (i + 1) settings) (list ++ x ∷ [])
-  sections_step list x h here =
-      let more = beside_step (IsSectionAt p limit) settings list i s x lt is (record { count = h.count; each = h.each }) here in
-      record { count = more.count; each = more.each }
-
-  here_at : slice_get settings i ≡ Some s
-  here_at = slice_get_read settings (length settings) i s refl lt is
-
-  -- one of the settings up to this one is stopped
-  pub flag_step : (before now flag : Bool) → IsTrue before ↔ StopsSomewhere p limit (take i settings) → IsTrue now ↔ IsStoppedAt p limit s → IsTrue flag ↔ (IsTrue before ⊎ IsTrue now)
-      → IsTrue flag ↔ StopsSomewhere p limit (take (i + 1) settings)
-  flag_step before now flag h k e = (λ t. there (e.0 t), λ w. e.1 (back w (dec_lt w.position i)))
+module _ (p : Problem) (limit : ℕ) where
+  next_section : (s : Pairs) (ss : List Pairs) (x : Section) (xs : List Section) → IsSectionAt p limit s x → AreSectionsAt p limit ss xs → AreSectionsAt p limit (s ∷ ss) (x ∷ xs)
+  next_section s ss x xs h rest = record { count = ap suc rest.count; each = each }
     where
-      there : IsTrue before ⊎ IsTrue now → StopsSomewhere p limit (take (i + 1) settings)
-      there (inl t) =
-          let w = h.0 t in
-          let below : w.position < i = taken_within settings i w.position w.setting w.there in
-          record { position = w.position; setting = w.setting; there = taken_at settings (i + 1) w.position w.setting (omega arith) (taken_from settings i w.position w.setting w.there); is = w.is }
-      there (inr t) = record { position = i; setting = s; there = taken_at settings (i + 1) i s (omega arith) here_at; is = k.0 t }
+      each : (k : ℕ) (t : Pairs) (y : Section) → slice_get (s ∷ ss) k ≡ Some t → slice_get (x ∷ xs) k ≡ Some y → IsSectionAt p limit t y
+      each zero t y at here = subst (λ (z : Pairs). IsSectionAt p limit z y) (same_Some s t at) (subst (IsSectionAt p limit s) (same_Some x y here) h)
+      each (suc k) t y at here = rest.each k t y at here
 
-      back : (w : StopsSomewhere p limit (take (i + 1) settings)) → Dec (w.position < i) → IsTrue before ⊎ IsTrue now
-      back w (yes l) = inl (h.1 (record {
-        position = w.position;
-        setting = w.setting;
-        there = taken_at settings i w.position w.setting l (taken_from settings (i + 1) w.position w.setting w.there);
-        is = w.is;
-      }))
-      back w (no n) =
-          let below : w.position < i + 1 = taken_within settings (i + 1) w.position w.setting w.there in
-          let same : w.position ≡ i = omega (arith, n) in
-          let one : w.setting ≡ s = same_Some w.setting s (sym (taken_from settings (i + 1) w.position w.setting w.there) ∙ ap (slice_get settings) same ∙ here_at) in
-          inr (k.1 (subst (IsStoppedAt p limit) one w.is))
+  -- the sections are those of the settings
+  pub sections_in_turn : (ss : List Pairs) (before : Option (List ℕ) × Bool) (xs : List Section) (after : Option (List ℕ) × Bool) → EndInTurn (IsTold p limit) ss before xs after → AreSectionsAt p limit ss xs
+  sections_in_turn [] before [] after h = record { count = refl; each = λ k s x at here. absurd (none-some s at) }
+  sections_in_turn (s ∷ ss) before (x ∷ xs) after (mid, e, h) = next_section s ss x xs e.is_section (sections_in_turn ss mid xs after h)
+  sections_in_turn [] before (x ∷ xs) after h = absurd h
+  sections_in_turn (s ∷ ss) before [] after h = absurd h
 
--- at first there are none
-pub no_sections : (p : Problem) (limit : ℕ) → AreSectionsAt p limit [] []
-no_sections p limit = record { count = refl; each = λ k s x at here. absurd (none-some s at) }
+  first_or_later : (s : Pairs) (ss : List Pairs) → StopsSomewhere p limit (s ∷ ss) → IsStoppedAt p limit s ⊎ StopsSomewhere p limit ss
+  first_or_later s ss w = by w.position w.there
+    where
+      by : (k : ℕ) → slice_get (s ∷ ss) k ≡ Some w.setting → IsStoppedAt p limit s ⊎ StopsSomewhere p limit ss
+      by zero at = inl (subst (IsStoppedAt p limit) (sym (same_Some s w.setting at)) w.is)
+      by (suc k) at = inr (record { position = k; setting = w.setting; there = at; is = w.is })
 
-pub none_before : (p : Problem) (limit : ℕ) (settings : List Pairs) → IsTrue false ↔ StopsSomewhere p limit (take 0 settings)
-none_before p limit settings = (λ t. absurd (true≢false (sym t)), λ w. absurd (none-some w.setting w.there))
+  next_flag : (s : Pairs) (ss : List Pairs) (had now has : Bool) → IsTrue now ↔ (IsTrue had ⊎ IsStoppedAt p limit s) → IsTrue has ↔ (IsTrue now ⊎ StopsSomewhere p limit ss)
+      → IsTrue has ↔ (IsTrue had ⊎ StopsSomewhere p limit (s ∷ ss))
+  next_flag s ss had now has e h = (λ t. later (h.0 t), back)
+    where
+      here : IsTrue had ⊎ IsStoppedAt p limit s → IsTrue had ⊎ StopsSomewhere p limit (s ∷ ss)
+      here (inl t) = inl t
+      here (inr at) = inr (record { position = 0; setting = s; there = refl; is = at })
 
-pub all_of : (p : Problem) (limit : ℕ) (settings : List Pairs) (i : ℕ) (flag : Bool) → length settings ≤ i → IsTrue flag ↔ StopsSomewhere p limit (take i settings)
-    → IsTrue flag ↔ StopsSomewhere p limit settings
-all_of p limit settings i flag le h = subst (λ (z : List Pairs). IsTrue flag ↔ StopsSomewhere p limit z) (take_all i settings le) h
+      later : IsTrue now ⊎ StopsSomewhere p limit ss → IsTrue had ⊎ StopsSomewhere p limit (s ∷ ss)
+      later (inl t) = here (e.0 t)
+      later (inr w) = inr (record { position = suc w.position; setting = w.setting; there = w.there; is = w.is })
 
--- ---- steps
-pub counts_mapped : (p q : Problem) (cached : Bool) (old begun new : ℕ) → q ≡ p → (IsTrue cached → begun ≡ old + length p.tree) → (IsTrue cached ↔ HasMap p) → (HasMap q → new ≡ begun) → HasMap p
-    → new ≡ old + length p.tree
-counts_mapped p q cached old begun new same counted exact kept h = kept (subst (λ (z : Problem). HasMap z) (sym same) h) ∙ counted (exact.1 h)
+      by : IsStoppedAt p limit s ⊎ StopsSomewhere p limit ss → IsTrue has
+      by (inl at) = h.1 (inl (e.1 (inr at)))
+      by (inr w) = h.1 (inr w)
 
-pub counts_few : (p q : Problem) (old begun new : ℕ) → q ≡ p → begun ≤ old + length p.tree → (HasMap q → new ≡ begun) → HasMap p → new ≤ old + length p.tree
-counts_few p q old begun new same few kept h = subst (λ k. k ≤ old + length p.tree) (sym (kept (subst (λ (z : Problem). HasMap z) (sym same) h))) few
+      back : IsTrue had ⊎ StopsSomewhere p limit (s ∷ ss) → IsTrue has
+      back (inl t) = h.1 (inl (e.1 (inl t)))
+      back (inr w) = by (first_or_later s ss w)
 
-pub counts_anew : (p q : Problem) (n old begun new : ℕ) → q ≡ p → begun ≤ old + length p.tree → new ≤ begun + n * length q.tree → new ≤ old + length p.tree + n * length p.tree
-counts_anew p q n old begun new same few more = within (subst (λ (z : Problem). new ≤ begun + n * length z.tree) same more)
-  where
-    within : new ≤ begun + n * length p.tree → new ≤ old + length p.tree + n * length p.tree
-    within h = omega (arith, few, h)
+  -- the flag says whether one of the settings is stopped, or it was set before
+  flag_in_turn : (ss : List Pairs) (before : Option (List ℕ) × Bool) (xs : List Section) (after : Option (List ℕ) × Bool) → EndInTurn (IsTold p limit) ss before xs after
+      → IsTrue after.1 ↔ (IsTrue before.1 ⊎ StopsSomewhere p limit ss)
+  flag_in_turn [] before [] after h = (λ t. inl (sym (ap (λ (z : Option (List ℕ) × Bool). z.1) h) ∙ t), by)
+    where
+      by : IsTrue before.1 ⊎ StopsSomewhere p limit [] → IsTrue after.1
+      by (inl t) = ap (λ (z : Option (List ℕ) × Bool). z.1) h ∙ t
+      by (inr w) = absurd (none-some w.setting w.there)
+  flag_in_turn (s ∷ ss) before (x ∷ xs) after (mid, e, h) = next_flag s ss before.1 mid.1 after.1 e.flag (flag_in_turn ss mid xs after h)
+  flag_in_turn [] before (x ∷ xs) after h = absurd h
+  flag_in_turn (s ∷ ss) before [] after h = absurd h
+
+  pub stops_in_turn : (ss : List Pairs) (columns : Option (List ℕ)) (xs : List Section) (after : Option (List ℕ) × Bool) → EndInTurn (IsTold p limit) ss (columns, false) xs after
+      → IsTrue after.1 ↔ StopsSomewhere p limit ss
+  stops_in_turn ss columns xs after h = (λ t. by ((flag_in_turn ss (columns, false) xs after h).0 t), λ w. (flag_in_turn ss (columns, false) xs after h).1 (inr w))
+    where
+      by : IsTrue false ⊎ StopsSomewhere p limit ss → StopsSomewhere p limit ss
+      by (inl t) = absurd (true≢false (sym t))
+      by (inr w) = w

@@ -1,5 +1,5 @@
 -- What a certificate has at each setting: what shows the answer there, or nothing.
-use Rattle.std.specs.Prelude.{◌≡◌, ◌≢◌, ◌↔◌, IsTrue, Bool, ℕ, List, length, Some, slice_get}
+use Rattle.std.specs.Prelude.{◌≡◌, ◌≢◌, ◌⊎◌, ◌↔◌, IsTrue, Bool, ℕ, List, length, Option, Some, slice_get}
 use Rattle.dcx_frac.specs.declared.fraction.Frac.{Frac}
 use Rattle.dcx_point.specs.Pairs.{Pairs}
 use Rattle.dcx_tree.specs.declared.problem.Problem.{Problem}
@@ -55,10 +55,10 @@ abbrev pub IsSectionAt : Problem → ℕ → Pairs → Section → Type 0
 IsSectionAt p limit setting (sections.Cert cert) = IsCertAt p limit setting cert
 IsSectionAt p limit setting sections.None = HasNoCert p limit setting
 
--- the section of a setting, and whether it is stopped
-pub record IsToldAt (p : Problem) (limit : ℕ) (setting : Pairs) (section : Section) (stopped : Bool) : Type 0 where
+-- the section of a setting, and whether one is stopped, before it and with it; whatever columns are kept
+pub record IsTold (p : Problem) (limit : ℕ) (setting : Pairs) (before : Option (List ℕ) × Bool) (section : Section) (after : Option (List ℕ) × Bool) : Type 0 where
   pub is_section : IsSectionAt p limit setting section
-  pub flag : IsTrue stopped ↔ IsStoppedAt p limit setting
+  pub flag : IsTrue after.1 ↔ (IsTrue before.1 ⊎ IsStoppedAt p limit setting)
 
 -- one for each setting, in order
 pub record AreSectionsAt (p : Problem) (limit : ℕ) (settings : List Pairs) (list : List Section) : Type 0 where

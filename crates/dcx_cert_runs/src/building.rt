@@ -1,13 +1,13 @@
 //! The certificate of the answers that one session gives at settings.
-ghost use Rattle.std.specs.Prelude.{◌≡◌, ◌≢◌, ◌⊎◌, ◌↔◌, ℕ, ◌+◌, ◌*◌, ◌≤◌, true, false, IsTrue, length, IfOk, OnOk};
+ghost use Rattle.std.specs.Prelude.{◌≡◌, ◌≢◌, ◌↔◌, ⊤, ℕ, ◌+◌, ◌*◌, ◌≤◌, IsTrue, length, IfOk, OnOk};
 ghost use Rattle.dcx_rules.specs.Verdicts.{IsVerdictOf};
 ghost use Rattle.dcx_tree.specs.Meaning.{IsAccepted};
 ghost use Rattle.dcx_cache.specs.Programs.{HasMap};
 ghost use Rattle.dcx_cache.specs.Sessions.{Shows};
-ghost use Rattle.dcx_cert_runs.specs.Sections.{IsToldAt, StopsSomewhere, AreSectionsAt, IsCertificateAt};
+ghost use Rattle.dcx_cert_runs.specs.Sections.{IsSectionAt, IsStoppedAt, IsTold, StopsSomewhere, IsCertificateAt};
 
 use dcx_answer::{Answer, Stop};
-use dcx_cache::Session;
+use dcx_cache::{EachSetting, Session, problem_outcomes};
 use dcx_cert_build::build;
 use dcx_cert_sections::{Format, Section, SectionList, Sections};
 use dcx_graph::AnswerStop;
@@ -27,115 +27,85 @@ pub struct Found {
     pub stopped: bool,
 }
 
-/// A section, and whether its setting is stopped.
-#[derive(Drop)]
-struct Told {
-    section: Section,
-    stopped: bool,
-}
-
 /// The section of an answer of which no certificate is built.
-fn unbuilt(stop: AnswerStop) -> Result<Told, AllocError>
-    ensures none { IfOk result (λ t. (t.section ≡ Section.None) × (t.stopped ≡ false)) }
+fn unbuilt(stop: AnswerStop) -> Result<Section, AllocError>
+    ensures none { IfOk result (λ x. x ≡ Section.None) }
     ensures told { OnOk result (stop ≢ AnswerStop.Memory) }
 {
     match stop {
         AnswerStop::Memory => Err(AllocError),
-        AnswerStop::Wide(_) => Ok(Told {
-            section: Section::None,
-            stopped: false,
-        }),
+        AnswerStop::Wide(_) => Ok(Section::None),
     }
 }
 
 /// The section of the answer that the session found last, with at most some number of pivots.
-fn section_of(
+fn answered(
     alloc: Global,
     session: &Session,
     setting: &Setting,
     answer: &Answer,
-) -> Result<Told, AllocError>
+) -> Result<Section, AllocError>
     requires { (limit : ℕ) × Shows session.now.problem setting.now limit session.now.cached answer.now session.now.last }
-    ensures { (limit : ℕ) → Shows session.now.problem setting.now limit session.now.cached answer.now session.now.last
-        → IfOk result (λ t. IsToldAt session.now.problem limit setting.now t.section t.stopped) }
+    ensures section { (limit : ℕ) → Shows session.now.problem setting.now limit session.now.cached answer.now session.now.last
+        → IfOk result (IsSectionAt session.now.problem limit setting.now) }
+    ensures not_stopped { (limit : ℕ) → Shows session.now.problem setting.now limit session.now.cached answer.now session.now.last
+        → ¬ (IsStoppedAt session.now.problem limit setting.now) }
 {
     let Some((reduced, rows)) = session.last() else {
         unreachable!()
     };
     match build(alloc, session.problem(), setting, answer, reduced, rows) {
-        Ok(cert) => Ok(Told {
-            section: Section::Cert(cert),
-            stopped: false,
-        }),
+        Ok(cert) => Ok(Section::Cert(cert)),
         Err(stop) => unbuilt(stop),
     }
 }
 
 /// The section of a setting that is stopped.
-fn stopped(stop: Stop) -> Result<Told, AllocError>
-    ensures none { IfOk result (λ t. (t.section ≡ Section.None) × (t.stopped ≡ true)) }
+fn unanswered(stop: Stop) -> Result<Section, AllocError>
+    ensures none { IfOk result (λ x. x ≡ Section.None) }
     ensures told { OnOk result (stop ≢ Stop.Memory) }
 {
     match stop {
         Stop::Memory => Err(AllocError),
-        _ => Ok(Told {
-            section: Section::None,
-            stopped: true,
-        }),
+        _ => Ok(Section::None),
     }
 }
 
-/// The section of a setting.
-fn section<S: Ledger>(
-    alloc: Global,
-    session: &mut Session,
-    setting: &Setting,
+/// The certificate of the answer at each setting, with at most so many pivots.
+#[derive(Clone, Copy)]
+struct Certifying {
     limit: u64,
-    steps: &mut Steps<S>,
-) -> Result<Told, AllocError>
-    ensures section { IfOk result (λ t. IsToldAt session.old.problem limit setting.now t.section t.stopped) }
-    ensures same { session.new.problem ≡ session.old.problem }
-    ensures counted { HasMap session.old.problem → steps.new ≡ steps.old }
-    ensures few { steps.new ≤ steps.old + length session.old.problem.tree }
-{
-    match session.solve(alloc, setting, limit, steps) {
-        Ok(answer) => {
-            let told = section_of(alloc, session, setting, &answer);
-            drop(answer);
-            told
+}
+
+impl EachSetting for Certifying {
+    type Outcome = Section;
+
+    type Tally = bool;
+
+    ghost can_do = { λ _ _. ⊤ };
+
+    ghost ends = { λ c p. IsTold p c.limit };
+
+    fn outcome<S: Ledger>(
+        &self,
+        alloc: Global,
+        session: &mut Session,
+        setting: &Setting,
+        stopped: &mut bool,
+        steps: &mut Steps<S>,
+    ) -> Result<Section, AllocError> {
+        match session.solve(alloc, setting, self.limit, steps) {
+            Ok(answer) => {
+                let section = answered(alloc, session, setting, &answer);
+                drop(answer);
+                section
+            }
+            Err(stop) => {
+                *stopped = true;
+                unanswered(stop)
+            }
         }
-        Err(stop) => stopped(stop),
     }
-}
-
-/// Whether one of two settings is stopped.
-fn either(a: bool, b: bool) -> bool
-    ensures { IsTrue result ↔ (IsTrue a ⊎ IsTrue b) }
-{
-    a || b
-}
-
-/// The sections of settings, in order, and whether one of them is stopped.
-fn sections<S: Ledger>(
-    alloc: Global,
-    session: &mut Session,
-    settings: &[Setting],
-    limit: u64,
-    steps: &mut Steps<S>,
-) -> Result<(SectionList, bool), AllocError>
-    ensures sections { IfOk result (λ r. AreSectionsAt session.old.problem limit settings.now r.0) }
-    ensures stopped { IfOk result (λ r. IsTrue r.1 ↔ StopsSomewhere session.old.problem limit settings.now) }
-    ensures counted { HasMap session.old.problem → steps.new ≡ steps.old }
-    ensures few { steps.new ≤ steps.old + length settings.now * length session.old.problem.tree }
-{
-    let mut list = Vec::with_capacity(alloc, settings.len())?;
-    let mut stopped = false;
-    for setting in settings {
-        let told = section(alloc, session, setting, limit, steps)?;
-        stopped = either(stopped, told.stopped);
-        list.push(told.section)?;
-    }
-    Ok((SectionList::from_vec(list), stopped))
 }
 
 /// The certificate of an accepted problem at each setting, in order, with at most `limit` pivots each: of what one session answers
@@ -157,24 +127,22 @@ pub fn certificate<S: Ledger>(
     ensures few { HasMap problem → steps.new ≤ steps.old + length problem.tree }
     ensures anew { steps.new ≤ steps.old + length problem.tree + length settings.now * length problem.tree }
 {
-    match Session::begin(alloc, problem, verdict, steps) {
-        Ok(session) => {
-            let mut session = session;
-            let found = sections(alloc, &mut session, settings, limit, steps);
-            drop(session);
-            let (list, stopped) = found?;
-            Ok(Found {
-                certificate: Sections {
-                    format: Format::Two,
-                    list,
-                },
-                stopped,
-            })
-        }
-        Err((problem, verdict)) => {
-            drop(problem);
-            drop(verdict);
-            Err(AllocError)
-        }
-    }
+    let certifying = Certifying { limit };
+    let mut stopped = false;
+    let list = problem_outcomes(
+        alloc,
+        &certifying,
+        problem,
+        verdict,
+        settings,
+        &mut stopped,
+        steps,
+    )?;
+    Ok(Found {
+        certificate: Sections {
+            format: Format::Two,
+            list: SectionList::from_vec(list),
+        },
+        stopped,
+    })
 }

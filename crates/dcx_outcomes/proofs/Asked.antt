@@ -14,8 +14,10 @@ use Rattle.dcx_answer.specs.declared.stop.Stop.TheVariants as why
 use Rattle.dcx_graph.specs.declared.stop.ReduceStop.{ReduceStop}
 use Rattle.dcx_graph.specs.declared.stop.ReduceStop.TheVariants as reduces
 use Rattle.dcx_graph.specs.Program.{Program}
+use Rattle.dcx_cache.specs.InTurn.{EndInTurn}
 use Rattle.dcx_cache.specs.Programs.{SessionGives, IsUnformed, ProgramStops}
 use Rattle.dcx_cache.specs.Stops.{program_stop}
+use Rattle.dcx_cache.proofs.InTurn.{each_in_turn}
 use Rattle.dcx_cache.proofs.OneEnd.{one_program, program_apart, same_program, unfit}
 use Rattle.dcx_outcomes.specs.Asking.{EndsAt, node_place, IsAskedOutcome, AreAskedOutcomes, IsRightAt, FindsRight, IsSameEnd, AreOneEnd}
 use Rattle.dcx_outcomes.specs.Outcomes.{stop_place}
@@ -60,6 +62,13 @@ module _ (p : Problem) (setting : Pairs) where
 pub outcome_of : {A O : Type 0} (Gives : Problem → Pairs → Program Frac → A → Type 0) (Tells : O → Result A Stop → Type 0) (place : O → Option Place) (p : Problem) (setting : Pairs)
     (e : Result A Stop) (o : O) → EndsAt Gives p setting e → Tells o e → place o ≡ node_place p e → IsAskedOutcome Gives Tells place p setting o
 outcome_of Gives Tells place p setting e o h told placed = record { end = e; ends = h; tells = told; placed = placed }
+
+-- outcomes of settings that end in turn
+pub asked_in_turn : {A O K : Type 0} (Gives : Problem → Pairs → Program Frac → A → Type 0) (Tells : O → Result A Stop → Type 0) (place : O → Option Place) (p : Problem) (settings : List Pairs)
+    (before : K) (os : List O) (after : K) → EndInTurn (λ (s : Pairs) (b : K) (o : O) (a : K). IsAskedOutcome Gives Tells place p s o) settings before os after
+    → AreAskedOutcomes Gives Tells place p settings os
+asked_in_turn {A} {O} {K} Gives Tells place p settings before os after h =
+    each_in_turn (λ (s : Pairs) (b : K) (o : O) (a : K). IsAskedOutcome Gives Tells place p s o) (IsAskedOutcome Gives Tells place p) (λ s b o a k. k) settings before os after h
 
 -- what is found is right, where each answer is
 -- `Told` says what that is of an outcome

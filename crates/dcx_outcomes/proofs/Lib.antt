@@ -7,7 +7,6 @@ pub mod OneOutcome
 pub mod More
 pub mod Warm
 pub mod Complete
-pub mod Counting
 pub mod Zips
 pub mod Asked
 pub mod FilterEnds

@@ -1,14 +1,7 @@
 -- Lists that stand beside one another, element by element.
-use Rattle.std.proofs.Common.{◌≡◌, ℕ, ◌+◌, ◌<◌, List, [], ◌∷◌, ◌++◌, length, take, get_or, sym, subst}
+use Rattle.std.proofs.Common.{List, [], ◌∷◌}
 use Rattle.std.specs.List.{All, AllByRecursion, AllZip}
 use Rattle.std.proofs.lemmas.List.Elements.{All-from_recursion}
-use Rattle.std.proofs.lemmas.Slice.Zip.{all_zipped_more}
-use Rattle.dcx_outcomes.proofs.More.{one_taken}
-
--- one element more
-pub zip_more : {A B : Type 0} (R : A → B → Type 0) (xs : List A) (ys items : List B) (i : ℕ) (x : A) (y : B) → i < length xs → x ≡ get_or xs i x → items ≡ ys ++ y ∷ [] → AllZip R (take i xs) ys → R x y → AllZip R (take (i + 1) xs) items
-zip_more R xs ys items i x y lt is pushed h k =
-    subst (AllZip R (take (i + 1) xs)) (sym pushed) (subst (λ zs. AllZip R zs (ys ++ y ∷ [])) (sym (one_taken xs i x lt is)) (all_zipped_more R (take i xs) ys x y h k))
 
 pub zip_weaker : {A B : Type 0} (R S : A → B → Type 0) → ((a : A) (b : B) → R a b → S a b) → (xs : List A) (ys : List B) → AllZip R xs ys → AllZip S xs ys
 zip_weaker R S f [] [] h = tt

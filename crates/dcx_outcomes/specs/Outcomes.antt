@@ -1,5 +1,5 @@
 -- The outcomes of settings.
-use Rattle.std.specs.Prelude.{◌≡◌, ℕ, ◌+◌, ◌*◌, ◌<◌, ◌≤◌, ⊤, List, length, Option, None, Result, Ok, Err}
+use Rattle.std.specs.Prelude.{◌≡◌, ℕ, ◌<◌, ⊤, List, length, Option, None, Result, Ok, Err}
 use Rattle.std.specs.List.{AllZip}
 use Rattle.dcx_shape.specs.declared.place.Place.{Place}
 use Rattle.dcx_point.specs.Pairs.{Pairs}
@@ -13,7 +13,6 @@ use Rattle.dcx_answer.specs.declared.stop.Stop.TheVariants as stops
 use Rattle.dcx_answer.specs.declared.outcome.Outcome.{Outcome}
 use Rattle.dcx_answer.specs.declared.outcome.OutcomeEnd.{OutcomeEnd}
 use Rattle.dcx_answer.specs.declared.outcome.OutcomeEnd.TheVariants as the
-use Rattle.dcx_cache.specs.Programs.{HasMap}
 use Rattle.dcx_cache.specs.Answers.{Answers}
 
 -- ---- one outcome
@@ -77,15 +76,3 @@ pub record IsOutcome (p : Problem) (limit : ℕ) (setting : Pairs) (o : Outcome)
 -- one for each setting, in order
 abbrev pub AreOutcomes : Problem → ℕ → List Pairs → List Outcome → Type 0
 AreOutcomes p limit settings outcomes = AllZip (IsOutcome p limit) settings outcomes
-
--- ---- steps
--- how many steps are counted for so many settings: one for each node, where the problem has a map; and else at most as many, and as
--- many again at each setting
-pub record Counts (p : Problem) (settings : ℕ) (old new : ℕ) : Type 0 where
-  pub mapped : HasMap p → new ≡ old + length p.tree
-  pub anew : new ≤ old + length p.tree + settings * length p.tree
-
--- no more are counted: where memory is wanting before all settings are done
-pub record CountsNoMore (p : Problem) (settings : ℕ) (old new : ℕ) : Type 0 where
-  pub mapped : HasMap p → new ≤ old + length p.tree
-  pub anew : new ≤ old + length p.tree + settings * length p.tree

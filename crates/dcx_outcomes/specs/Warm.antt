@@ -1,5 +1,5 @@
 -- The outcomes of settings from what a session keeps: each from the columns that the settings before it left.
-use Rattle.std.specs.Prelude.{◌≡◌, ◌⊎◌, ⊤, ℕ, Bool, true, false, List, [], ◌∷◌, Option, None, Some, Result, Ok, Err, count_by}
+use Rattle.std.specs.Prelude.{◌≡◌, ◌⊎◌, ⊤, ℕ, ◌+◌, cond, Bool, true, false, List, [], ◌∷◌, Option, None, Some, Result, Ok, Err, count_by}
 use Rattle.dcx_point.specs.Pairs.{Pairs}
 use Rattle.dcx_tree.specs.declared.problem.Problem.{Problem}
 use Rattle.dcx_answer.specs.declared.answer.Answer.{Answer}
@@ -61,26 +61,12 @@ abbrev pub EndsFrom : Bool → Problem → ℕ → Pairs → Option (List ℕ) �
 EndsFrom false p limit setting before r after = Answers p setting limit (end_in r) × (is_kept r ≡ false)
 EndsFrom true p limit setting before r after = WarmAnswers p setting limit before r after
 
--- the outcome of a setting, and whether it is answered from the columns that were kept
-pub record IsToldFrom (warm : Bool) (p : Problem) (limit : ℕ) (setting : Pairs) (before : Option (List ℕ)) (o : Outcome) (kept : Bool) (after : Option (List ℕ)) : Type 0 where
+-- the outcome of a setting, from the columns that are kept before it, and how many settings are answered from such ones before it and with it
+pub record IsToldFrom (warm : Bool) (p : Problem) (limit : ℕ) (setting : Pairs) (before : Option (List ℕ) × ℕ) (o : Outcome) (after : Option (List ℕ) × ℕ) : Type 0 where
   pub end : Result Warmed Stop
-  pub ends : EndsFrom warm p limit setting before end after
+  pub ends : EndsFrom warm p limit setting before.0 end after.0
   pub tells : Tells p end o
-  pub flag : kept ≡ is_kept end
-
--- settings one after another
-abbrev pub EndFrom : Bool → Problem → ℕ → List Pairs → Option (List ℕ) → List (Result Warmed Stop) → Option (List ℕ) → Type 0
-EndFrom warm p limit [] before [] after = after ≡ before
-EndFrom warm p limit (s ∷ ss) before (r ∷ rs) after = (mid : Option (List ℕ)) × EndsFrom warm p limit s before r mid × EndFrom warm p limit ss mid rs after
-EndFrom warm p limit [] before (r ∷ rs) after = ⊥
-EndFrom warm p limit (s ∷ ss) before [] after = ⊥
-
--- their outcomes, so many of which are answered from kept columns
-pub record AreToldFrom (warm : Bool) (p : Problem) (limit : ℕ) (settings : List Pairs) (before : Option (List ℕ)) (outcomes : List Outcome) (kept : ℕ) (after : Option (List ℕ)) : Type 0 where
-  pub ends : List (Result Warmed Stop)
-  pub end : EndFrom warm p limit settings before ends after
-  pub told : AreTold p ends outcomes
-  pub count : kept ≡ count_by is_kept ends
+  pub count : after.1 ≡ before.1 + cond (is_kept end) 1 0
 
 -- the count, where it is wanted
 abbrev pub counted_where : Bool → ℕ → Option ℕ

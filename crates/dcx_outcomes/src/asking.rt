@@ -1,28 +1,23 @@
 //! A question that is asked of a session's program at setting after setting.
-ghost use Rattle.std.specs.Prelude.{◌≡◌, ◌+◌, ◌*◌, ◌≤◌, length, is_some, Option, Result, None, Ok, Err, IfOk, OnOk, MatchOption};
+ghost use Rattle.std.specs.Prelude.{◌≡◌, is_some, Option, Result, None, Ok, Err, MatchOption};
 ghost use Rattle.dcx_shape.specs.declared.place.Place.{Place};
 ghost use Rattle.dcx_frac.specs.declared.fraction.Frac.{Frac};
 ghost use Rattle.dcx_point.specs.Pairs.{Pairs};
-ghost use Rattle.dcx_rules.specs.Verdicts.{IsVerdictOf};
 ghost use Rattle.dcx_tree.specs.declared.problem.Problem.{Problem};
-ghost use Rattle.dcx_tree.specs.Meaning.{IsAccepted};
 ghost use Rattle.dcx_fit.specs.Fit.{FitsParameters};
 ghost use Rattle.dcx_answer.specs.declared.stop.Stop.{Stop};
 ghost use Rattle.dcx_answer.specs.NodeStops.{stop_names_node};
 ghost use Rattle.dcx_graph.specs.Program.{Program};
 ghost use Rattle.dcx_cache.specs.Programs.{IsMapOf, HasMap, SessionGives, IsProgramAt};
-ghost use Rattle.dcx_outcomes.specs.Outcomes.{Counts, CountsNoMore};
-ghost use Rattle.dcx_outcomes.specs.Asking.{IsAnswered, IsAskedOutcome, AreAskedOutcomes};
+ghost use Rattle.dcx_outcomes.specs.Asking.{IsAnswered, IsAskedOutcome};
 
-use crate::beginning::begin;
 use crate::telling::stop_place;
 use dcx_answer::Stop;
-use dcx_cache::Session;
+use dcx_cache::{EachSetting, Session};
 use dcx_frac::Frac;
 use dcx_graph::Reduced;
 use dcx_linear::ParamForm;
 use dcx_point::Setting;
-use dcx_rules::Verdict;
 use dcx_shape::Place;
 use dcx_steps::Steps;
 use dcx_tree::Problem;
@@ -93,72 +88,40 @@ fn answer<Q: Question>(
     question.ask(alloc, session.problem(), session.map(), program, setting)
 }
 
-/// The outcome of a setting.
-fn outcome<Q: Question, S: Ledger>(
-    alloc: Global,
-    question: &Q,
-    session: &mut Session,
-    setting: &Setting,
-    steps: &mut Steps<S>,
-) -> Q::Outcome
-    requires { Q.can_ask question.now session.old.problem }
-    ensures outcome { IsAskedOutcome (Q.gives question.now) Q.tells Q.told_place session.old.problem setting.now result }
-    ensures same { session.new.problem ≡ session.old.problem }
-    ensures counted { HasMap session.old.problem → steps.new ≡ steps.old }
-    ensures few { steps.new ≤ steps.old + length session.old.problem.tree }
-{
-    match session.program(alloc, setting, steps) {
-        Ok(program) => {
-            let found = answer(alloc, question, session, &program, setting);
-            drop(program);
-            question.answered(found)
-        }
-        Err(stop) => {
-            let place = stop_place(session.problem(), &stop);
-            question.stopped(stop, place)
-        }
-    }
+/// A question that is asked of a session at each setting.
+#[derive(Drop)]
+pub(crate) struct Asking<'a, Q> {
+    /// The question.
+    pub question: &'a Q,
 }
 
-/// The outcomes of settings, in order.
-pub(crate) fn ask_session<Q: Question, S: Ledger>(
-    alloc: Global,
-    question: &Q,
-    session: &mut Session,
-    settings: &[Setting],
-    steps: &mut Steps<S>,
-) -> Result<Vec<Q::Outcome>, AllocError>
-    requires { Q.can_ask question.now session.old.problem }
-    ensures outcomes { IfOk result (λ v. AreAskedOutcomes (Q.gives question.now) Q.tells Q.told_place session.old.problem settings.now v.items) }
-    ensures counted { HasMap session.old.problem → steps.new ≡ steps.old }
-    ensures few { steps.new ≤ steps.old + length settings.now * length session.old.problem.tree }
-{
-    let mut outcomes = Vec::with_capacity(alloc, settings.len())?;
-    for setting in settings {
-        let next = outcome(alloc, question, session, setting, steps);
-        outcomes.push(next)?;
-    }
-    Ok(outcomes)
-}
+impl<Q: Question> EachSetting for Asking<'_, Q> {
+    type Outcome = Q::Outcome;
 
-/// The outcomes of an accepted problem at settings, in order. `AllocError` where there is no memory for the session or for the list.
-pub(crate) fn ask_problem<Q: Question, S: Ledger>(
-    alloc: Global,
-    question: &Q,
-    problem: Problem,
-    verdict: Verdict,
-    settings: &[Setting],
-    steps: &mut Steps<S>,
-) -> Result<Vec<Q::Outcome>, AllocError>
-    requires accepted { IsAccepted problem }
-    requires verdict { IsVerdictOf problem verdict }
-    requires can { Q.can_ask question.now problem }
-    ensures outcomes { IfOk result (λ v. AreAskedOutcomes (Q.gives question.now) Q.tells Q.told_place problem settings.now v.items) }
-    ensures counted { OnOk result (Counts problem (length settings.now) steps.old steps.new) }
-    ensures few { CountsNoMore problem (length settings.now) steps.old steps.new }
-{
-    let mut session = begin(alloc, problem, verdict, steps)?;
-    let outcomes = ask_session(alloc, question, &mut session, settings, steps);
-    drop(session);
-    outcomes
+    type Tally = ();
+
+    ghost can_do = { λ a. Q.can_ask a.question.now };
+
+    ghost ends = { λ a p s _ o _. IsAskedOutcome (Q.gives a.question.now) Q.tells Q.told_place p s o };
+
+    fn outcome<S: Ledger>(
+        &self,
+        alloc: Global,
+        session: &mut Session,
+        setting: &Setting,
+        _tally: &mut (),
+        steps: &mut Steps<S>,
+    ) -> Result<Q::Outcome, AllocError> {
+        match session.program(alloc, setting, steps) {
+            Ok(program) => {
+                let found = answer(alloc, self.question, session, &program, setting);
+                drop(program);
+                Ok(self.question.answered(found))
+            }
+            Err(stop) => {
+                let place = stop_place(session.problem(), &stop);
+                Ok(self.question.stopped(stop, place))
+            }
+        }
+    }
 }

@@ -2,11 +2,12 @@
 ghost use Rattle.std.specs.Prelude.{◌≡◌, ⊤, length, IfOk, OnOk};
 ghost use Rattle.dcx_rules.specs.Verdicts.{IsVerdictOf};
 ghost use Rattle.dcx_tree.specs.Meaning.{IsAccepted};
-ghost use Rattle.dcx_outcomes.specs.Outcomes.{Counts, CountsNoMore};
+ghost use Rattle.dcx_cache.specs.Counts.{Counts, CountsNoMore};
 ghost use Rattle.dcx_outcomes.specs.Filters.{FilterGives, filter_end, AreFilterOutcomes};
 
-use crate::asking::{Question, ask_problem};
+use crate::asking::{Asking, Question};
 use dcx_answer::{FilterEnd, FilterOutcome, FilterOutcomes, FilterStop, Filtered, Stop};
+use dcx_cache::problem_outcomes;
 use dcx_frac::Frac;
 use dcx_graph::Reduced;
 use dcx_iis::filter;
@@ -88,6 +89,9 @@ pub fn filter_outcomes<S: Ledger>(
     ensures few { CountsNoMore problem (length settings.now) steps.old steps.new }
 {
     let question = Filtering { limit };
-    let outcomes = ask_problem(alloc, &question, problem, verdict, settings, steps)?;
+    let asking = Asking {
+        question: &question,
+    };
+    let outcomes = problem_outcomes(alloc, &asking, problem, verdict, settings, &mut (), steps)?;
     Ok(FilterOutcomes::from_vec(outcomes))
 }

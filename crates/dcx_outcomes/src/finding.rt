@@ -1,17 +1,15 @@
 //! The outcomes of a problem at settings, one after the other.
-ghost use Rattle.std.specs.Prelude.{◌≡◌, ◌+◌, ◌*◌, ◌≤◌, length, None, IfOk, OnOk};
+ghost use Rattle.std.specs.Prelude.{◌≡◌, length, None, IfOk, OnOk};
 ghost use Rattle.dcx_rules.specs.Verdicts.{IsVerdictOf};
 ghost use Rattle.dcx_tree.specs.Meaning.{IsAccepted};
-ghost use Rattle.dcx_cache.specs.Programs.{HasMap};
-ghost use Rattle.dcx_outcomes.specs.Outcomes.{Counts, CountsNoMore};
+ghost use Rattle.dcx_cache.specs.Counts.{Counts, CountsNoMore};
 ghost use Rattle.dcx_outcomes.specs.Wholes.{AreWholeOutcomes};
-ghost use Rattle.dcx_outcomes.specs.Warm.{AreToldFrom, AreSolved, AreFound, counted_where};
+ghost use Rattle.dcx_outcomes.specs.Warm.{AreSolved, AreFound, counted_where};
 
-use crate::beginning::begin;
-use crate::telling::outcome;
+use crate::telling::Solving;
 use crate::wholes::whole_outcomes;
 use dcx_answer::Outcomes;
-use dcx_cache::Session;
+use dcx_cache::problem_outcomes;
 use dcx_declared::has_whole;
 use dcx_point::Setting;
 use dcx_rules::Verdict;
@@ -19,39 +17,6 @@ use dcx_steps::Steps;
 use dcx_tree::Problem;
 use std::alloc::{AllocError, Global};
 use std::sync::ledger::Ledger;
-
-/// The outcomes of settings, and how many are answered from columns that were kept.
-#[derive(Drop)]
-struct Told {
-    outcomes: Outcomes,
-    kept: usize,
-}
-
-/// The outcomes of settings, in order.
-fn all<S: Ledger>(
-    alloc: Global,
-    session: &mut Session,
-    settings: &[Setting],
-    limit: u64,
-    warm: bool,
-    steps: &mut Steps<S>,
-) -> Result<Told, AllocError>
-    ensures outcomes { IfOk result (λ t. AreToldFrom warm session.old.problem limit settings.now session.old.columns t.outcomes t.kept session.new.columns) }
-    ensures counted { HasMap session.old.problem → steps.new ≡ steps.old }
-    ensures few { steps.new ≤ steps.old + length settings.now * length session.old.problem.tree }
-{
-    let mut outcomes = Vec::with_capacity(alloc, settings.len())?;
-    let mut kept = 0;
-    for setting in settings {
-        let (next, is_kept) = outcome(alloc, session, setting, limit, warm, steps);
-        kept += usize::from(is_kept);
-        outcomes.push(next)?;
-    }
-    Ok(Told {
-        outcomes: Outcomes::from_vec(outcomes),
-        kept,
-    })
-}
 
 /// The outcomes of a problem at settings.
 #[derive(Drop)]
@@ -62,24 +27,11 @@ pub struct Found {
     pub warm: Option<u32>,
 }
 
-/// The outcomes, with their count where it was wanted.
-fn counted(warm: bool, told: Told) -> Result<Found, AllocError>
-    ensures { IfOk result (λ f. (f.outcomes ≡ told.outcomes) × (f.warm ≡ counted_where warm told.kept)) }
+/// The count, where it is wanted.
+fn counted(warm: bool, kept: u32) -> Option<u32>
+    ensures { result ≡ counted_where warm kept }
 {
-    let Told { outcomes, kept } = told;
-    if !warm {
-        return Ok(Found {
-            outcomes,
-            warm: None,
-        });
-    }
-    match u32::try_from(kept) {
-        Ok(kept) => Ok(Found {
-            outcomes,
-            warm: Some(kept),
-        }),
-        Err(_) => Err(AllocError),
-    }
+    if warm { Some(kept) } else { None }
 }
 
 /// The outcome of a solve of an accepted problem at each setting: what one session answers there.
@@ -98,13 +50,15 @@ fn solved_outcomes<S: Ledger>(
     ensures counted { OnOk result (Counts problem (length settings.now) steps.old steps.new) }
     ensures few { CountsNoMore problem (length settings.now) steps.old steps.new }
 {
-    let mut session = begin(alloc, problem, verdict, steps)?;
-    let told = all(alloc, &mut session, settings, limit, warm, steps);
-    drop(session);
-    match told {
-        Ok(told) => counted(warm, told),
-        Err(e) => Err(e),
-    }
+    let solving = Solving { limit, warm };
+    let mut kept = 0;
+    let outcomes = problem_outcomes(
+        alloc, &solving, problem, verdict, settings, &mut kept, steps,
+    )?;
+    Ok(Found {
+        outcomes: Outcomes::from_vec(outcomes),
+        warm: counted(warm, kept),
+    })
 }
 
 /// How branch and bound ends for an accepted problem at each setting. None is warm.

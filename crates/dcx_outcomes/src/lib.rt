@@ -26,7 +26,6 @@
 #![tactic(auto)]
 
 mod asking;
-mod beginning;
 mod filters;
 mod finding;
 pub mod laws;

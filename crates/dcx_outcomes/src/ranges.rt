@@ -2,9 +2,9 @@
 ghost use Rattle.std.specs.Prelude.{◌≡◌, IfOk, OnOk};
 ghost use Rattle.dcx_outcomes.specs.Ranges.{HasRange, TellsRange, TellsOf, range_end, AreRangeOutcomes};
 
-use crate::asking::{Question, ask_session};
+use crate::asking::{Asking, Question};
 use dcx_answer::{NotRanged, RangeEnd, RangeOutcome, RangeOutcomes, RangeStop, Ranged, Stop};
-use dcx_cache::Session;
+use dcx_cache::{Session, session_outcomes};
 use dcx_frac::Frac;
 use dcx_graph::Reduced;
 use dcx_linear::ParamForm;
@@ -95,6 +95,9 @@ pub fn range_outcomes<S: Ledger>(
     ensures counted { steps.new ≡ steps.old }
 {
     let question = Ranging { name, limit };
-    let outcomes = ask_session(alloc, &question, session, settings, steps)?;
+    let asking = Asking {
+        question: &question,
+    };
+    let outcomes = session_outcomes(alloc, &asking, session, settings, &mut (), steps)?;
     Ok(RangeOutcomes::from_vec(outcomes))
 }

@@ -1,16 +1,16 @@
 //! How one setting ends, and the outcome that tells it.
-ghost use Rattle.std.specs.Prelude.{◌≡◌, ◌+◌, ◌≤◌, length, IfErr};
+ghost use Rattle.std.specs.Prelude.{◌≡◌, ◌+◌, ◌≤◌, ⊤, cond, length, IfErr, OnOk};
 ghost use Rattle.dcx_cache.specs.Programs.{HasMap};
 ghost use Rattle.dcx_outcomes.specs.Outcomes.{site_place, stop_place, NamesNodes, IsNodeSite};
 ghost use Rattle.dcx_outcomes.specs.Warm.{is_kept as is_kept_of, Tells, EndsFrom, IsToldFrom};
 
 use dcx_answer::{Outcome, OutcomeEnd, Site, Stop};
-use dcx_cache::{Session, Warmed};
+use dcx_cache::{EachSetting, Session, Warmed};
 use dcx_point::Setting;
 use dcx_shape::Place;
 use dcx_steps::Steps;
 use dcx_tree::Problem;
-use std::alloc::Global;
+use std::alloc::{AllocError, Global};
 use std::sync::ledger::Ledger;
 
 /// Where the node stands in the script at which an operation passes, if it is one.
@@ -96,21 +96,57 @@ fn session_end<S: Ledger>(
     }
 }
 
-/// The outcome of a setting, and whether it is answered from the columns that were kept.
-pub(crate) fn outcome<S: Ledger>(
-    alloc: Global,
-    session: &mut Session,
-    setting: &Setting,
-    limit: u64,
-    warm: bool,
-    steps: &mut Steps<S>,
-) -> (Outcome, bool)
-    ensures outcome { IsToldFrom warm session.old.problem limit setting.now session.old.columns result.0 result.1 session.new.columns }
-    ensures same { session.new.problem ≡ session.old.problem }
-    ensures counted { HasMap session.old.problem → steps.new ≡ steps.old }
-    ensures few { steps.new ≤ steps.old + length session.old.problem.tree }
+/// Counts one more where a setting is answered from the columns that were kept. `AllocError` where more are than a `u32` counts.
+fn count(kept: &mut u32, is_kept: bool) -> Result<(), AllocError>
+    ensures { OnOk result (kept.new ≡ kept.old + cond is_kept 1 0) }
 {
-    let end = session_end(alloc, session, setting, limit, warm, steps);
-    let kept = is_kept(&end);
-    (told(session.problem(), end), kept)
+    if !is_kept {
+        return Ok(());
+    }
+    match kept.checked_add(1) {
+        Some(more) => {
+            *kept = more;
+            Ok(())
+        }
+        None => Err(AllocError),
+    }
+}
+
+/// A problem is solved at each setting, with at most so many pivots; where `warm` says so, from the columns that the settings before left.
+#[derive(Clone, Copy)]
+pub(crate) struct Solving {
+    /// The most pivots.
+    pub limit: u64,
+    /// Whether it is solved from these columns.
+    pub warm: bool,
+}
+
+impl EachSetting for Solving {
+    type Outcome = Outcome;
+
+    type Tally = u32;
+
+    ghost can_do = { λ _ _. ⊤ };
+
+    ghost ends = { λ t p. IsToldFrom t.warm p t.limit };
+
+    fn outcome<S: Ledger>(
+        &self,
+        alloc: Global,
+        session: &mut Session,
+        setting: &Setting,
+        kept: &mut u32,
+        steps: &mut Steps<S>,
+    ) -> Result<Outcome, AllocError> {
+        let end = session_end(alloc, session, setting, self.limit, self.warm, steps);
+        let counted = count(kept, is_kept(&end));
+        let outcome = told(session.problem(), end);
+        match counted {
+            Ok(()) => Ok(outcome),
+            Err(_) => {
+                drop(outcome);
+                Err(AllocError)
+            }
+        }
+    }
 }

@@ -2,12 +2,13 @@
 ghost use Rattle.std.specs.Prelude.{◌≡◌, ⊤, length, IfOk, OnOk};
 ghost use Rattle.dcx_rules.specs.Verdicts.{IsVerdictOf};
 ghost use Rattle.dcx_tree.specs.Meaning.{IsAccepted};
-ghost use Rattle.dcx_outcomes.specs.Outcomes.{Counts, CountsNoMore};
+ghost use Rattle.dcx_cache.specs.Counts.{Counts, CountsNoMore};
 ghost use Rattle.dcx_outcomes.specs.Wholes.{WholeGives, whole_end, AreWholeOutcomes};
 
-use crate::asking::{Question, ask_problem};
+use crate::asking::{Asking, Question};
 use dcx_answer::{BranchStop, Outcome, OutcomeEnd, Outcomes, Stop, WholeAnswer};
 use dcx_branch::branch;
+use dcx_cache::problem_outcomes;
 use dcx_frac::Frac;
 use dcx_graph::Reduced;
 use dcx_linear::ParamForm;
@@ -92,6 +93,9 @@ pub(crate) fn whole_outcomes<S: Ledger>(
     ensures few { CountsNoMore problem (length settings.now) steps.old steps.new }
 {
     let question = Branching { limit };
-    let outcomes = ask_problem(alloc, &question, problem, verdict, settings, steps)?;
+    let asking = Asking {
+        question: &question,
+    };
+    let outcomes = problem_outcomes(alloc, &asking, problem, verdict, settings, &mut (), steps)?;
     Ok(Outcomes::from_vec(outcomes))
 }

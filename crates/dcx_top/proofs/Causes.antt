@@ -11,7 +11,8 @@ use Rattle.dcx_answer.specs.declared.cert_fault.CertFault.TheVariants as faults
 use Rattle.dcx_cert_sections.specs.declared.section.Section.{Section}
 use Rattle.dcx_cert_lines.specs.CertText.{cert_text}
 use Rattle.dcx_cache.specs.Programs.{HasMap}
-use Rattle.dcx_outcomes.specs.Outcomes.{Counts}
+use Rattle.dcx_cache.specs.Counts.{Counts}
+use Rattle.dcx_cache.proofs.Counting.{begun_no_more}
 use Rattle.dcx_outcomes.specs.Warm.{AreFound}
 use Rattle.dcx_cert_runs.specs.Sections.{StopsSomewhere, IsCertificateAt}
 use Rattle.dcx_cert_runs.specs.Checking.{is_cert, ArePassed, IsFirstRefused}
@@ -41,7 +42,7 @@ use Rattle.dcx_top.specs.Runs.{IsSolvedRun, HasCertificate, ReadsSections, HasPa
 use Rattle.dcx_top.specs.Runs.{bad_settings, long_certificate, no_script, no_settings, no_certificate, CountsAtMostBeginning, CountsAtMost, none, beginning, solving, Causes}
 use Rattle.dcx_top.specs.Solving.{OrWhole, SolvesAt, SolvesUnder, TriesAt, CertifiesAt, DoesAt, DoesFrom, task_refuses, command_for, RangesFrom, lacking, ending, ranging, wanting}
 use Rattle.dcx_top.specs.Certifying.{GivesSettings, GivesSections, EndsFiles, at_script, at_whole, at_settings, at_certificate, at_memory}
-use Rattle.dcx_top.proofs.Counting.{no_more_of, begun_no_more}
+use Rattle.dcx_top.proofs.Counting.{no_more_of}
 use Rattle.dcx_top.proofs.Reading.{told_fault}
 use Rattle.dcx_top.specs.NoRange.{AllowsRange}
 use Rattle.dcx_top.proofs.ByKind.{of_outcomes}

@@ -1,7 +1,7 @@
 -- How many steps are counted at most where memory is wanting.
-use Rattle.std.proofs.Common.{◌≡◌, ℕ, ◌+◌, ◌*◌, ◌≤◌, length, sym, subst, arith}
+use Rattle.std.proofs.Common.{ℕ, ◌+◌, ◌*◌, ◌≤◌, length, sym, subst, arith}
 use Rattle.dcx_tree.specs.declared.problem.Problem.{Problem}
-use Rattle.dcx_outcomes.specs.Outcomes.{Counts, CountsNoMore}
+use Rattle.dcx_cache.specs.Counts.{Counts, CountsNoMore}
 
 -- those that are counted for settings are no more than that
 pub no_more_of : (p : Problem) (n old new : ℕ) → Counts p n old new → CountsNoMore p n old new
@@ -19,7 +19,3 @@ no_step p n old = record { mapped = λ h. few (length p.tree); anew = more (leng
 
     more : (k m : ℕ) → old ≤ old + k + m
     more k m = omega arith
-
--- those of a session's beginning
-pub begun_no_more : (p : Problem) (old new : ℕ) → new ≤ old + length p.tree → CountsNoMore p 0 old new
-begun_no_more p old new few = record { mapped = λ h. few; anew = omega (arith, few) }

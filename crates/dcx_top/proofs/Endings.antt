@@ -1,6 +1,6 @@
 -- How a file ends a run: where its bytes aren't had, or where they are refused.
 use Rattle.std.specs.Prelude.{⊤}
-use Rattle.std.proofs.Common.{◌≡◌, ◌↔◌, ◌⊎◌, inl, inr, ℕ, ◌+◌, ◌≤◌, Bool, IsTrue, List, length, Option, Err, refl, sym, ap, ◌∙◌, subst, arith}
+use Rattle.std.proofs.Common.{◌≡◌, ◌⊎◌, inl, inr, ℕ, List, Option, Err, refl, sym, ap, ◌∙◌, subst}
 use Rattle.dcx_tokens.specs.declared.fault.ReadFault.{ReadFault}
 use Rattle.dcx_tokens.specs.declared.fault.ReadFault.TheVariants as reads
 use Rattle.dcx_host.specs.Files.{Files, IsTold}
@@ -22,8 +22,7 @@ use Rattle.dcx_top.specs.Solving.{OrWhole, FromFile, RangesFrom, lacking, ending
 use Rattle.dcx_overlay.specs.Settings.{AreLaidOver}
 use Rattle.dcx_tree.specs.declared.problem.Problem.{Problem}
 use Rattle.dcx_answer.specs.declared.range_outcome.RangeOutcome.{RangeOutcome}
-use Rattle.dcx_cache.specs.Programs.{HasMap}
-use Rattle.dcx_outcomes.specs.Outcomes.{Counts}
+use Rattle.dcx_cache.specs.Counts.{Counts}
 use Rattle.dcx_outcomes.specs.Ranges.{HasRange, AreRangeOutcomes}
 use Rattle.dcx_declared.specs.Whole.{HasNoWhole}
 use Rattle.dcx_top.proofs.Counting.{no_more_of}
@@ -134,10 +133,6 @@ module _ (work : Work) (name parameter : List ℕ) (limit old new : ℕ) (r : Ru
       OrWhole ⊤ work.problem (RangesFrom told rose work name parameter limit old new) old new r
   ranges_moved was told risen rose same more (inl (continuous, h)) = inl (continuous, ranges_rising told risen rose more (subst (λ t. RangesFrom t risen work name parameter limit old new r) same h))
   ranges_moved was told risen rose same more (inr h) = inr h
-
--- the steps of a session's beginning
-pub begun_counts : (p : Problem) (cached : Bool) (old new : ℕ) → (IsTrue cached → new ≡ old + length p.tree) → (IsTrue cached ↔ HasMap p) → new ≤ old + length p.tree → Counts p 0 old new
-begun_counts p cached old new counted exact few = record { mapped = λ h. counted (exact.1 h); anew = omega (arith, few) }
 
 -- the range is told at the lines of a settings file
 pub lines_ranged : (told : Option Files) (risen : Type 0) (work : Work) (name parameter bytes : List ℕ) (lines : List (List SettingItem)) (limit old mid new : ℕ) (r : Run) (p : Problem)

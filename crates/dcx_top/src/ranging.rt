@@ -8,7 +8,7 @@ ghost use Rattle.dcx_front.specs.Accepts.{IsJudged};
 ghost use Rattle.dcx_words.specs.Commands.{range as ranges, command_of};
 ghost use Rattle.dcx_overlay.specs.Settings.{AreLaidOver};
 ghost use Rattle.dcx_answer.specs.declared.range_outcome.RangeOutcome.{RangeOutcome};
-ghost use Rattle.dcx_outcomes.specs.Outcomes.{Counts};
+ghost use Rattle.dcx_cache.specs.Counts.{Counts};
 ghost use Rattle.dcx_outcomes.specs.Ranges.{HasRange, AreRangeOutcomes};
 ghost use Rattle.dcx_elab.specs.declared.work.Work.{Work};
 ghost use Rattle.dcx_top.specs.Runs.{Causes};
@@ -17,7 +17,7 @@ ghost use Rattle.dcx_top.specs.Solving.{OrWhole, RangesFrom};
 use crate::files::{read_script, read_settings};
 use crate::no_range::refuse_range;
 use crate::whole::refuse_whole;
-use dcx_cache::Session;
+use dcx_cache::{Session, begin};
 use dcx_elab::Work;
 use dcx_front::Accepted;
 use dcx_host::Library;
@@ -118,9 +118,8 @@ fn range_work<L: Library, S: Ledger>(
         last,
     } = work;
     drop(events);
-    match Session::begin(alloc, problem, verdict, steps) {
-        Ok(session) => {
-            let mut session = session;
+    match begin(alloc, problem, verdict, steps) {
+        Ok(mut session) => {
             let run = range_session(
                 alloc,
                 &mut session,
@@ -134,10 +133,7 @@ fn range_work<L: Library, S: Ledger>(
             drop(session);
             run
         }
-        Err(given_back) => {
-            drop(given_back);
-            Run::Memory
-        }
+        Err(_) => Run::Memory,
     }
 }
 

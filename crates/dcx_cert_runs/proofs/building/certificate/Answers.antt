@@ -1,36 +1,31 @@
--- The sections of the session's problem; the steps of the beginning and those of the settings.
-use Rattle.std.proofs.Common.{IsTrue, length, refl, subst}
-use Rattle.std.specs.Prelude.{◌↔◌}
-use Rattle.dcx_tree.specs.declared.problem.Problem.{Problem}
-use Rattle.dcx_cert_runs.specs.Sections.{StopsSomewhere, AreSectionsAt}
-use Rattle.dcx_cert_runs.proofs.Built.{counts_mapped, counts_few, counts_anew}
+-- The sections of the settings, whether one is stopped, and the steps.
+use Rattle.std.proofs.Common.{List, refl, sym, subst}
+use Rattle.dcx_cert_sections.specs.declared.section.Section.{Section}
+use Rattle.dcx_cert_runs.specs.Sections.{AreSectionsAt}
+use Rattle.dcx_cert_runs.proofs.Built.{sections_in_turn, stops_in_turn}
 use Rattle.dcx_cert_runs.proofs.building.certificate.Goals as goal
 
-pub returns-in_ok-list-in-Ok-clause-mapped : goal.returns-in_ok-list-in-Ok-clause-mapped
-returns-in_ok-list-in-Ok-clause-mapped g c =
-    counts_mapped c.args.problem c.in-Ok.session.problem c.in-Ok.session.cached c.args.steps.now c.begin.new.steps c.sections-found.new.steps c.in-Ok.ensures.problem c.in-Ok.ensures.counted
-    c.in-Ok.ensures.cached
-    c.in_ok-list-in-Ok.ensures.counted
-
-pub returns-in_ok-list-in-Ok-clause-few : goal.returns-in_ok-list-in-Ok-clause-few
-returns-in_ok-list-in-Ok-clause-few g c =
-    counts_few c.args.problem c.in-Ok.session.problem c.args.steps.now c.begin.new.steps c.sections-found.new.steps c.in-Ok.ensures.problem c.begin.ensures.few c.sections-found.ensures.counted
-
-pub returns-in_err-list-in-Ok-clause-few : goal.returns-in_err-list-in-Ok-clause-few
-returns-in_err-list-in-Ok-clause-few g c =
-    counts_few c.args.problem c.in-Ok.session.problem c.args.steps.now c.begin.new.steps c.sections-found.new.steps c.in-Ok.ensures.problem c.begin.ensures.few c.sections-found.ensures.counted
-
-pub returns-in_ok-list-in-Ok-clause-anew : goal.returns-in_ok-list-in-Ok-clause-anew
-returns-in_ok-list-in-Ok-clause-anew g c =
-    counts_anew c.args.problem c.in-Ok.session.problem (length c.args.settings.now) c.args.steps.now c.begin.new.steps c.sections-found.new.steps c.in-Ok.ensures.problem c.begin.ensures.few
-    c.in_ok-list-in-Ok.ensures.few
-
-pub returns-in_ok-list-in-Ok-clause-certificate : goal.returns-in_ok-list-in-Ok-clause-certificate
-returns-in_ok-list-in-Ok-clause-certificate g c = record {
+pub returns-clause-certificate : goal.returns-clause-certificate
+returns-clause-certificate g c = record {
   format = refl;
-  sections = subst (λ (z : Problem). AreSectionsAt z c.args.limit c.args.settings.now c.in_ok-list-in-Ok.list) c.in-Ok.ensures.problem c.in_ok-list-in-Ok.ensures.sections;
+  sections = subst (λ (z : List Section). AreSectionsAt c.args.problem c.args.limit c.args.settings.now z) (sym c.from_vec.ensures)
+      (sections_in_turn c.args.problem c.args.limit c.args.settings.now _ c.in_ok-list.list.items _ c.in_ok-list.ensures.outcomes.1);
 }
 
-pub returns-in_ok-list-in-Ok-clause-stopped : goal.returns-in_ok-list-in-Ok-clause-stopped
-returns-in_ok-list-in-Ok-clause-stopped g c =
-    subst (λ (z : Problem). IsTrue c.in_ok-list-in-Ok.stopped ↔ StopsSomewhere z c.args.limit c.args.settings.now) c.in-Ok.ensures.problem c.in_ok-list-in-Ok.ensures.stopped
+pub returns-clause-stopped : goal.returns-clause-stopped
+returns-clause-stopped g c = stops_in_turn c.args.problem c.args.limit c.args.settings.now _ c.in_ok-list.list.items _ c.in_ok-list.ensures.outcomes.1
+
+pub returns-clause-mapped : goal.returns-clause-mapped
+returns-clause-mapped g c = c.in_ok-list.ensures.counted.mapped
+
+pub returns-clause-few : goal.returns-clause-few
+returns-clause-few g c = c.problem_outcomes.ensures.few.mapped
+
+pub returns-clause-anew : goal.returns-clause-anew
+returns-clause-anew g c = c.problem_outcomes.ensures.few.anew
+
+pub returns-in_err-list-clause-few : goal.returns-in_err-list-clause-few
+returns-in_err-list-clause-few g c = c.problem_outcomes.ensures.few.mapped
+
+pub returns-in_err-list-clause-anew : goal.returns-in_err-list-clause-anew
+returns-in_err-list-clause-anew g c = c.problem_outcomes.ensures.few.anew

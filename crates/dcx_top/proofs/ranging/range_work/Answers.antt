@@ -1,14 +1,10 @@
 -- The session that was begun is of the problem, and its steps are counted.
 use Rattle.std.proofs.Common.{refl, sym}
 use Rattle.dcx_top.specs.Solving.{wanting}
-use Rattle.dcx_top.proofs.Counting.{begun_no_more}
-use Rattle.dcx_top.proofs.Endings.{begun_counts}
 use Rattle.dcx_top.proofs.ranging.range_work.Goals as goal
 
 pub returns-in-Ok-clause-run : goal.returns-in-Ok-clause-run
-returns-in-Ok-clause-run g c =
-    c.range_session-run.ensures.run c.args.work c.args.steps.now (sym c.in-Ok.ensures.problem) refl
-    (begun_counts c.args.work.problem c.in-Ok.session.cached c.args.steps.now c.begin.new.steps c.in-Ok.ensures.counted c.in-Ok.ensures.cached c.in-Ok.ensures.few)
+returns-in-Ok-clause-run g c = c.range_session-run.ensures.run c.args.work c.args.steps.now (sym c.in-Ok.ensures.problem) refl c.in-Ok.ensures.counted
 
 pub returns-in-Err-clause-run : goal.returns-in-Err-clause-run
-returns-in-Err-clause-run g c = wanting refl (begun_no_more c.args.work.problem c.args.steps.now c.begin.new.steps c.begin.ensures.few)
+returns-in-Err-clause-run g c = wanting refl c.begin.ensures.few

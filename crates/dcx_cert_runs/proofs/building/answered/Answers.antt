@@ -8,8 +8,8 @@ use Rattle.dcx_graph.specs.Fixed.{HaveArrays}
 use Rattle.dcx_graph.specs.Answers.{IsAnswered, IsRead}
 use Rattle.dcx_cert_build.specs.Origins.{IsLaidOut}
 use Rattle.dcx_cert_build.specs.Built.{IsBuilt, StopsBuilding}
-use Rattle.dcx_cert_runs.proofs.Built.{given, is_laid_out, answered, read, told_cert, unbuilt_at, has_last}
-use Rattle.dcx_cert_runs.proofs.building.section_of.Goals as goal
+use Rattle.dcx_cert_runs.proofs.Built.{given, is_laid_out, answered, read, cert_at, not_stopped, unbuilt_at, has_last}
+use Rattle.dcx_cert_runs.proofs.building.answered.Goals as goal
 
 pub unreachable-requires : goal.unreachable-requires
 unreachable-requires c =
@@ -43,20 +43,30 @@ build-requires-clause-read c =
     (read c.args.session.now.problem c.args.setting.now c.requires.0 c.args.session.now.cached c.args.answer.now c.args.session.now.last l c.in-Some.reduced.now c.in-Some.rows.now c.requires.1 is
     from of)
 
-pub returns-in-Ok : goal.returns-in-Ok
-returns-in-Ok c limit shows =
+pub returns-in-Ok-clause-section : goal.returns-in-Ok-clause-section
+returns-in-Ok-clause-section c limit shows =
     let (l, is, from, of) = c.in-Some.ensures in
-    told_cert c.args.session.now.problem c.args.setting.now limit c.args.session.now.cached c.args.answer.now c.args.session.now.last l c.in-Some.reduced.now c.in-Some.rows.now shows
-    is from of
-    c.problem.ensures.accepted c.in-Ok.cert
+    cert_at c.args.session.now.problem c.args.setting.now limit c.args.session.now.cached c.args.answer.now c.args.session.now.last l c.in-Some.reduced.now c.in-Some.rows.now shows
+    is from of c.in-Ok.cert
     (subst (λ (z : Problem). IsBuilt z c.args.setting.now c.in-Some.reduced.now.program.origins c.in-Some.rows.now c.args.answer.now c.in-Ok.cert) c.problem.ensures.problem c.in-Ok.ensures.built)
     (subst (λ (z : Problem). IsCertOf (problem_outline z) c.in-Ok.cert) c.problem.ensures.problem c.in-Ok.ensures.of_problem) c.in-Ok.ensures.format
 
-pub returns-in-Err : goal.returns-in-Err
-returns-in-Err c limit shows =
+pub returns-in-Err-clause-section : goal.returns-in-Err-clause-section
+returns-in-Err-clause-section c limit shows =
     let (l, is, from, of) = c.in-Some.ensures in
     unbuilt_at c.args.session.now.problem c.args.setting.now limit c.args.session.now.cached c.args.answer.now c.args.session.now.last l c.in-Some.reduced.now c.in-Some.rows.now shows
-    is from of
-    c.problem.ensures.accepted c.in-Err.stop c.unbuilt.result
+    is from of c.in-Err.stop c.unbuilt.result
     (subst (λ (z : Problem). StopsBuilding z c.in-Some.reduced.now.program.origins c.in-Some.rows.now c.in-Err.stop) c.problem.ensures.problem c.in-Err.ensures.stops) c.unbuilt.ensures.none
     c.unbuilt.ensures.told
+
+pub returns-in-Ok-clause-not_stopped : goal.returns-in-Ok-clause-not_stopped
+returns-in-Ok-clause-not_stopped c limit shows =
+    let (l, is, from, of) = c.in-Some.ensures in
+    not_stopped c.args.session.now.problem c.args.setting.now limit c.args.session.now.cached c.args.answer.now c.args.session.now.last l c.in-Some.reduced.now c.in-Some.rows.now shows
+    is from of c.problem.ensures.accepted
+
+pub returns-in-Err-clause-not_stopped : goal.returns-in-Err-clause-not_stopped
+returns-in-Err-clause-not_stopped c limit shows =
+    let (l, is, from, of) = c.in-Some.ensures in
+    not_stopped c.args.session.now.problem c.args.setting.now limit c.args.session.now.cached c.args.answer.now c.args.session.now.last l c.in-Some.reduced.now c.in-Some.rows.now shows
+    is from of c.problem.ensures.accepted
