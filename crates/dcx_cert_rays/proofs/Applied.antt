@@ -26,7 +26,8 @@ use Rattle.dcx_tree.specs.Meaning.{convex_problem, IsAccepted, IsFitting}
 use Rattle.dcx_tree.proofs.Names.{found_in}
 use Rattle.dcx_tree.proofs.NodeValues.{args_are, sides_are}
 use Rattle.dcx_answer.specs.declared.cert_fault.CertFault.TheVariants.{Wide}
-use Rattle.dcx_cert_rays.specs.Steepness.{is_fixed, value_side, is_first_fixed, IsSteepness, IsUnformed, IsKnown, AreReady}
+use Rattle.dcx_right.specs.Fixed.{is_fixed}
+use Rattle.dcx_cert_rays.specs.Steepness.{value_side, is_first_fixed, IsSteepness, IsUnformed, IsKnown, AreReady}
 use Rattle.dcx_cert_rays.specs.Steepness.{AreArguments, TakesArguments, is_side, fixed_value, steepness_at, IsArgument}
 use Rattle.dcx_cert_rays.proofs.Known.{node_given, only_moves}
 use Rattle.dcx_cert_rays.proofs.Steep.{shape_is, steepness_is, passes_is, divides_first}

@@ -34,7 +34,8 @@ use Rattle.dcx_tree.proofs.Lawful.{tree_lawful}
 use Rattle.dcx_tree.proofs.Sublists.{contains_at}
 use Rattle.dcx_tree.proofs.Values.{taken}
 use Rattle.dcx_tree.proofs.AllReached.{convex_at}
-use Rattle.dcx_cert_rays.specs.Steepness.{is_fixed, AreFixedValues, IsArgument}
+use Rattle.dcx_right.specs.Fixed.{is_fixed}
+use Rattle.dcx_cert_rays.specs.Steepness.{AreFixedValues, IsArgument}
 use Rattle.dcx_math.proofs.Lists.{holds_at}
 
 -- a call that has a variable below it, as far as it tells by itself

@@ -29,7 +29,8 @@ use Rattle.dcx_tree.specs.Nodes.{Node, head_of, arg_sides, convex_node}
 use Rattle.dcx_tree.specs.Meaning.{names_in, convex_problem, IsAccepted, IsFitting}
 use Rattle.dcx_tree.proofs.AllReached.{convex_at}
 use Rattle.dcx_right.proofs.Reached.{tree_side_fixed}
-use Rattle.dcx_cert_rays.specs.Steepness.{is_fixed, fixed_value, steepness_at, value_side, is_side, taken_numbers, is_first_fixed, node_numbers, IsKnown, AreReady}
+use Rattle.dcx_right.specs.Fixed.{is_fixed}
+use Rattle.dcx_cert_rays.specs.Steepness.{fixed_value, steepness_at, value_side, is_side, taken_numbers, is_first_fixed, node_numbers, IsKnown, AreReady}
 use Rattle.dcx_math.proofs.Lists.{holds_at}
 
 -- ---- divisors

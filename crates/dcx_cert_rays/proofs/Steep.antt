@@ -34,11 +34,12 @@ use Rattle.dcx_tree.specs.Nodes.{Node, number_in, head_of, arg_sides, convex_nod
 use Rattle.dcx_tree.specs.Meaning.{names_in, convex_problem, setting_of, point_of}
 use Rattle.dcx_tree.proofs.NodeValues.{number_past, first_alike, products_same, quotients_same, sides_are}
 use Rattle.dcx_tree.proofs.AllReached.{convex_at}
+use Rattle.dcx_right.specs.Fixed.{is_fixed}
 use Rattle.dcx_right.specs.Steepness.{steep_by}
 use Rattle.dcx_right.proofs.Told.{level as steep_level}
 use Rattle.dcx_right.proofs.RayLawsHold.{steepness_is_told}
 use Rattle.dcx_answer.specs.declared.cert_fault.CertFault.TheVariants.{Wide}
-use Rattle.dcx_cert_rays.specs.Steepness.{is_fixed, fixed_value, steepness_at, value_side, is_side, taken_numbers, is_first_fixed}
+use Rattle.dcx_cert_rays.specs.Steepness.{fixed_value, steepness_at, value_side, is_side, taken_numbers, is_first_fixed}
 use Rattle.dcx_cert_rays.specs.Steepness.{node_numbers, steepness_formed, IsUnformed, IsSteepness, IsArgument, AreArguments}
 use Rattle.dcx_cert_rays.proofs.Known.{MayMove, IsTaken, ordered, may_move, node_taken}
 

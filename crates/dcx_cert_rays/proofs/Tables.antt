@@ -22,9 +22,10 @@ use Rattle.dcx_tree.specs.Nodes.{arg_sides}
 use Rattle.dcx_tree.specs.Values.{array_at}
 use Rattle.dcx_tree.specs.Meaning.{convex_problem}
 use Rattle.dcx_tree.proofs.Forming.{some_of}
+use Rattle.dcx_right.specs.Fixed.{is_fixed}
 use Rattle.dcx_cert_outline.specs.Drawn.{AreFixed}
 use Rattle.dcx_cert_rays.proofs.Known.{argument_fixed}
-use Rattle.dcx_cert_rays.specs.Steepness.{is_fixed, is_side, node_numbers, IsFormed, IsSteepness, AreKept, IsKnown, StaysKnown, IsArgument, forming}
+use Rattle.dcx_cert_rays.specs.Steepness.{is_side, node_numbers, IsFormed, IsSteepness, AreKept, IsKnown, StaysKnown, IsArgument, forming}
 
 -- what stands at a place of a list
 pub read_at : (arrays : List (Option Array)) (i : ℕ) (o : Option Array) → i < length arrays → o ≡ get_or arrays i o → array_at arrays i ≡ o

@@ -26,14 +26,11 @@ use Rattle.dcx_tree.specs.Nodes.{Node, arg_sides}
 use Rattle.dcx_tree.specs.Values.{AreValues, array_at}
 use Rattle.dcx_tree.specs.Meaning.{convex_problem, setting_of, point_of, IsAccepted, IsFitting}
 use Rattle.dcx_cert_outline.specs.Drawn.{AreFixed}
+use Rattle.dcx_right.specs.Fixed.{is_fixed}
 use Rattle.dcx_right.specs.Steepness.{steep_at}
 use Rattle.dcx_answer.specs.declared.cert_fault.CertFault.{CertFault}
 use Rattle.dcx_answer.specs.declared.cert_fault.CertFault.TheVariants.{Wide}
 use Rattle.dcx_cert_sections.specs.Checks.{Check, each_below}
-
--- node i has no variable below it
-abbrev pub is_fixed : Problem → ℕ → Bool
-is_fixed p i = certificates.is_fixed (convex_problem p).nodes i
 
 -- ---- exact numbers of any size
 -- the value of a node that has no variable below it

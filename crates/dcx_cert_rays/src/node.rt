@@ -7,7 +7,8 @@ ghost use Rattle.dcx_arena.specs.Nodes.{positions, call_at, args_at};
 ghost use Rattle.dcx_convex.specs.Rules.{Plain, argument, judgement_at};
 ghost use Rattle.dcx_tree.specs.Values.{array_at};
 ghost use Rattle.dcx_tree.specs.Meaning.{convex_problem};
-ghost use Rattle.dcx_cert_rays.specs.Steepness.{is_fixed, value_side, is_side, IsGiven, IsSteepness, IsUnformed, IsKnown, AreKept, IsArgument, AreArguments, AreReady, TakesArguments};
+ghost use Rattle.dcx_right.specs.Fixed.{is_fixed};
+ghost use Rattle.dcx_cert_rays.specs.Steepness.{value_side, is_side, IsGiven, IsSteepness, IsUnformed, IsKnown, AreKept, IsArgument, AreArguments, AreReady, TakesArguments};
 
 use crate::along::Along;
 use dcx_affine::Pairing;

@@ -10,18 +10,18 @@ use Rattle.dcx_affine.specs.declared.pairing.Pairing.TheVariants.{Times, MatTime
 use Rattle.dcx_point.specs.Pairs.{Pairs}
 use Rattle.dcx_arena.specs.Nodes.{IsNode, call_at, args_at, sides_at}
 use Rattle.dcx_arena.specs.Unfold.{IsReached}
-use Rattle.dcx_convex.specs.Certificates.{is_fixed}
 use Rattle.dcx_call.specs.declared.call.Call.{Call}
 use Rattle.dcx_call.specs.declared.call.Call.TheVariants as calls
 use Rattle.dcx_call.specs.Forming.{IsFirst}
 use Rattle.dcx_call.specs.Values.{HasArray}
 use Rattle.dcx_tree.specs.declared.problem.Problem.{Problem}
 use Rattle.dcx_tree.specs.Nodes.{Node, source_value}
-use Rattle.dcx_tree.specs.Meaning.{names_in, convex_problem}
+use Rattle.dcx_tree.specs.Meaning.{names_in}
 use Rattle.dcx_tree.specs.Values.{node_formed, IsFormed}
 use Rattle.dcx_answer.specs.declared.stop.Stop.TheVariants as stops
 use Rattle.dcx_answer.specs.declared.cert_fault.CertFault.{CertFault}
 use Rattle.dcx_answer.specs.declared.cert_fault.CertFault.TheVariants.{Fit, Wide, Memory}
+use Rattle.dcx_right.specs.Fixed.{is_fixed}
 use Rattle.dcx_cert_sections.specs.Checks.{Check, nothing, in_turn, each_below}
 
 -- ---- what setting and point give
@@ -70,7 +70,7 @@ forming p setting point roots = forming_where p setting point (IsReached p.tree 
 
 -- node i reaches no variable
 abbrev pub IsFixedNode : Problem → ℕ → Type 0
-IsFixedNode p i = is_fixed (convex_problem p).nodes i ≡ true
+IsFixedNode p i = is_fixed p i ≡ true
 
 -- the nodes that reach no variable are formed: they need no point
 abbrev pub forming_fixed : Problem → Pairs → Check

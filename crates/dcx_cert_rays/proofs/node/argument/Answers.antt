@@ -3,7 +3,8 @@ use Rattle.std.proofs.Common.{◌∙◌, Bool, sym, subst}
 use Rattle.std.specs.Prelude.{IsTrue}
 use Rattle.dcx_atom.specs.declared.array.Array.{Array}
 use Rattle.dcx_call.proofs.Entries.{ok_weaker}
-use Rattle.dcx_cert_rays.specs.Steepness.{is_fixed, IsArgument}
+use Rattle.dcx_right.specs.Fixed.{is_fixed}
+use Rattle.dcx_cert_rays.specs.Steepness.{IsArgument}
 use Rattle.dcx_cert_rays.proofs.Known.{value_argument}
 use Rattle.dcx_cert_rays.proofs.Steep.{level_argument}
 use Rattle.dcx_cert_rays.proofs.node.argument.Goals as goal
