@@ -1,5 +1,5 @@
 -- The bound checks, while they are made.
-use Rattle.std.proofs.Common.{◌≡◌, inl, inr, Bool, true, ℕ, ◌<◌, List, [], Option, Some, None, IsSome, length, Result, Ok, Err, refl, sym, ap, ◌∙◌, subst}
+use Rattle.std.proofs.Common.{◌≡◌, inl, inr, Bool, false, ℕ, List, [], Option, Some, None, IsSome, Result, Ok, Err, refl, sym, ◌∙◌, subst}
 use Rattle.std.proofs.lemmas.Bool.{true≢false}
 use Rattle.dcx_frac.specs.declared.fraction.Frac.{Frac}
 use Rattle.dcx_atom.specs.declared.array.Array.{Array}
@@ -7,15 +7,15 @@ use Rattle.dcx_point.specs.Pairs.{Pairs}
 use Rattle.dcx_convex.specs.Certificates.{is_fixed}
 use Rattle.dcx_tree.specs.declared.problem.Problem.{Problem}
 use Rattle.dcx_tree.specs.Meaning.{convex_problem}
-use Rattle.dcx_tree.specs.Values.{array_at, AreValues}
-use Rattle.dcx_cert_outline.specs.Drawn.{AreFixed}
+use Rattle.dcx_tree.specs.Values.{array_at}
 use Rattle.dcx_cert_collect.specs.declared.stop.CollectStop.{CollectStop}
 use Rattle.dcx_cert_collect.specs.Pass.{Kept, HaveFractions}
 use Rattle.dcx_cert_sections.specs.declared.weights.NodeWeights.{NodeWeights}
 use Rattle.dcx_answer.specs.declared.cert_fault.CertFault.{CertFault}
 use Rattle.dcx_cert_sections.specs.Checks.{Checked, in_turn}
 use Rattle.dcx_cert_values.specs.Forming.{forming_fixed}
-use Rattle.dcx_cert_bound.specs.Fixed.{HasValue, AreFixedValues, kept_if, AreMarkedOf}
+use Rattle.dcx_cert_values.specs.Tables.{AreKeptValues, AreKeptFixed, AreOnlyFixed}
+use Rattle.dcx_cert_bound.specs.Fixed.{HasValue, AreFixedValues}
 use Rattle.dcx_cert_bound.specs.Collecting.{IsFaultOrMemory}
 use Rattle.dcx_cert_bound.specs.Variables.{variables_check}
 use Rattle.dcx_cert_bound.specs.Checks.{total_check, shown_by, shown_with, bound_checks}
@@ -49,22 +49,21 @@ module _ (p : Problem) (setting : Pairs) (duals : List Array) (weights : List No
   unformed_told f (inl memory) = inl memory
   unformed_told f (inr n) = inr (inl n)
 
--- ---- the values of the marked nodes
-pub fixed_are : (p : Problem) (setting : Pairs) (marks : List Bool) (values known : List (Option Array)) → AreFixed p marks (length p.tree) → AreValues p.tree setting [] values →
-    ((i : ℕ) → i < length p.tree → is_fixed (convex_problem p).nodes i ≡ true → IsSome (array_at values i)) → AreMarkedOf marks values known (length p.tree) → AreFixedValues p setting known
-fixed_are p setting marks values known f are kept m = record {
-  count = m.counted;
-  fixed = λ i lt e. one i lt e (array_at values i) refl (kept i lt e);
-  others = λ i lt e. m.each i lt ∙ ap (λ b. kept_if b (array_at values i)) (f.each i lt ∙ e);
+-- ---- the values that are formed
+pub fixed_are : (p : Problem) (setting : Pairs) (values : List (Option Array)) → AreKeptValues p setting [] values → AreKeptFixed p values → AreOnlyFixed p values → AreFixedValues p setting values
+fixed_are p setting values h kept only = record {
+  count = h.sized;
+  fixed = λ i lt e. one i (array_at values i) refl (kept i lt e);
+  others = λ i lt e. none i e (array_at values i) refl;
 }
   where
-    one : (i : ℕ) → i < length p.tree → is_fixed (convex_problem p).nodes i ≡ true → (o : Option Array) → array_at values i ≡ o → IsSome o → HasValue p setting known i
-    one i lt e None at h = absurd (true≢false (sym h))
-    one i lt e (Some x) at h = record {
-      array = x;
-      there = m.each i lt ∙ ap (λ b. kept_if b (array_at values i)) (f.each i lt ∙ e) ∙ at;
-      is_value = are i x at;
-    }
+    one : (i : ℕ) (o : Option Array) → array_at values i ≡ o → IsSome o → HasValue p setting values i
+    one i None at s = absurd (true≢false (sym s))
+    one i (Some x) at s = record { array = x; there = at; is_value = h.values i x at }
+
+    none : (i : ℕ) → is_fixed (convex_problem p).nodes i ≡ false → (o : Option Array) → array_at values i ≡ o → array_at values i ≡ None
+    none i e None at = at
+    none i e (Some x) at = absurd (true≢false (sym (only i (subst IsSome (sym at) refl)) ∙ e))
 
 -- the same multipliers and weights
 pub shown_same : (p : Problem) (duals others : List Array) (weights more : List NodeWeights) (with_objective : Bool) (stated : Frac) (values : List (Option Array)) (r : Result (Unit {0}) CertFault)

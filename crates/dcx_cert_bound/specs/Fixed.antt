@@ -1,5 +1,5 @@
 -- The values of the nodes that have no variable below them: they need no point.
-use Rattle.std.specs.Prelude.{◌≡◌, ℕ, ◌<◌, Bool, true, false, slice_index_or, List, [], length, Option, Some, None}
+use Rattle.std.specs.Prelude.{◌≡◌, ℕ, ◌<◌, true, false, List, [], length, Option, Some, None}
 use Rattle.dcx_atom.specs.declared.array.Array.{Array}
 use Rattle.dcx_point.specs.Pairs.{Pairs}
 use Rattle.dcx_convex.specs.Certificates.{is_fixed}
@@ -18,13 +18,3 @@ pub record AreFixedValues (p : Problem) (setting : Pairs) (values : List (Option
   pub count : length values ≡ length p.tree
   pub fixed : (i : ℕ) → i < length p.tree → is_fixed (convex_problem p).nodes i ≡ true → HasValue p setting values i
   pub others : (i : ℕ) → i < length p.tree → is_fixed (convex_problem p).nodes i ≡ false → array_at values i ≡ None
-
--- a value where it is wanted
-abbrev pub kept_if : Bool → Option Array → Option Array
-kept_if true value = value
-kept_if false value = None
-
--- the values of the first nodes that are marked, and nothing for the others
-pub record AreMarkedOf (marks : List Bool) (values known : List (Option Array)) (count : ℕ) : Type 0 where
-  pub counted : length known ≡ count
-  pub each : (i : ℕ) → i < count → array_at known i ≡ kept_if (slice_index_or marks i false) (array_at values i)

@@ -1,8 +1,9 @@
 //! What the multipliers and the weights of a certificate show: a bound on the minimized objective, or that no point is feasible.
 //!
-//! The values of the nodes without a variable below them are formed. The multipliers give coefficients to the objective and to the
-//! sides of the constraints, and the weights hand them on to the variables (`dcx_cert_collect`). What reaches the variables may be
-//! nothing that a point of the domain makes small, and the total that is left is the bound.
+//! The values of the nodes without a variable below them are formed, but for those that are kept already. The multipliers
+//! give coefficients to the objective and to the sides of the constraints, and the weights hand them on to the variables
+//! (`dcx_cert_collect`). What reaches the variables may be nothing that a point of the domain makes small, and the total that is left
+//! is the bound.
 //!
 //! | what must hold | where |
 //! |---|---|

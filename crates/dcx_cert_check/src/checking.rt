@@ -4,10 +4,10 @@ ghost use Rattle.dcx_tree.specs.Meaning.{IsAccepted, IsFitting};
 ghost use Rattle.dcx_tree.specs.declared.constraint.Constraint.{Constraint as Row};
 ghost use Rattle.dcx_lines.specs.Shown.{constraints_of};
 ghost use Rattle.dcx_cert_sections.specs.Shown.{IsCertOf, atoms_of};
-ghost use Rattle.dcx_cert_outline.specs.Drawn.{problem_outline};
+ghost use Rattle.dcx_cert_outline.specs.Drawn.{AreFixed, problem_outline};
 ghost use Rattle.dcx_cert_sections.specs.Checks.{Checked};
 ghost use Rattle.dcx_cert_values.specs.Forming.{GivesParameters, GivesVariables};
-ghost use Rattle.dcx_cert_values.specs.Tables.{AreKeptValues, AreKeptBelow};
+ghost use Rattle.dcx_cert_values.specs.Tables.{AreKeptValues, AreKeptBelow, AreOnlyFixed};
 ghost use Rattle.dcx_cert_check.specs.Checks.{setting_checks, point_checks, optimal_checks, infeasible_checks, unbounded_checks, checks_of};
 ghost use Rattle.dcx_cert_check.specs.Shown.{IsShown};
 
@@ -29,19 +29,23 @@ use dcx_point::{Point, Setting};
 use dcx_tree::Problem;
 use std::alloc::Global;
 
-/// Checks that the setting fits, and that it is the one whose values are told.
+/// Checks that the setting fits, and that it is the one whose values are told. What is formed is kept.
 fn check_setting(
     alloc: Global,
     problem: &Problem,
     setting: &Setting,
     params: &Option<Setting>,
+    values: &mut Values,
 ) -> Result<(), CertFault>
     requires accepted { IsAccepted problem.now }
+    requires values { AreKeptValues problem.now setting.now [] values.old }
+    requires only { AreOnlyFixed problem.now values.old }
     ensures checked { Checked (setting_checks problem.now setting.now params.now) result }
     ensures parameters { OnOk result (GivesParameters problem.now setting.now) }
+    ensures values { AreKeptValues problem.now setting.now [] values.new }
+    ensures only { AreOnlyFixed problem.now values.new }
 {
-    let mut values = Values::new(alloc, problem)?;
-    check_fit(alloc, problem, setting, &mut values)?;
+    check_fit(alloc, problem, setting, values)?;
     check_params(problem, params, setting)
 }
 
@@ -68,25 +72,29 @@ fn check_point(
 fn check_optimal(
     alloc: Global,
     problem: &Problem,
+    fixed: &[bool],
     setting: &Setting,
     stated: Frac,
     point: &Point,
     duals: &Duals,
     weights: &Weights,
+    values: &mut Values,
 ) -> Result<(), CertFault>
+    requires fixed { AreFixed problem.now fixed.now (length problem.now.tree) }
     requires parameters { GivesParameters problem.now setting.now }
     requires variables { GivesVariables problem.now point.now }
     requires constraints { constraints_of duals.now ≡ (problem_outline problem.now).constraints }
     requires atoms { atoms_of weights.now ≡ (problem_outline problem.now).atoms }
+    requires values { AreKeptValues problem.now setting.now [] values.old }
+    requires only { AreOnlyFixed problem.now values.old }
     ensures { Checked (optimal_checks problem.now setting.now stated point.now duals.now weights.now) result }
 {
-    let fixed = fixed_nodes(alloc, problem)?;
-    let mut values = Values::new(alloc, problem)?;
-    check_point(alloc, problem, point, setting, &mut values)?;
-    check_value(alloc, problem, point, setting, stated, &mut values)?;
+    check_point(alloc, problem, point, setting, values)?;
+    check_value(alloc, problem, point, setting, stated, values)?;
     check_dual_signs(problem, duals)?;
+    values.keep(fixed);
     check_bound(
-        alloc, problem, setting, &fixed, duals, weights, true, stated,
+        alloc, problem, setting, fixed, duals, weights, true, stated, values,
     )
 }
 
@@ -94,20 +102,26 @@ fn check_optimal(
 fn check_infeasible(
     alloc: Global,
     problem: &Problem,
+    fixed: &[bool],
     setting: &Setting,
     duals: &Duals,
     gap: Frac,
     weights: &Weights,
+    values: &mut Values,
 ) -> Result<(), CertFault>
+    requires fixed { AreFixed problem.now fixed.now (length problem.now.tree) }
     requires parameters { GivesParameters problem.now setting.now }
     requires constraints { constraints_of duals.now ≡ (problem_outline problem.now).constraints }
     requires atoms { atoms_of weights.now ≡ (problem_outline problem.now).atoms }
+    requires values { AreKeptValues problem.now setting.now [] values.old }
+    requires only { AreOnlyFixed problem.now values.old }
     ensures { Checked (infeasible_checks problem.now setting.now duals.now gap weights.now) result }
 {
-    let fixed = fixed_nodes(alloc, problem)?;
     check_dual_signs(problem, duals)?;
     check_gap(gap)?;
-    check_bound(alloc, problem, setting, &fixed, duals, weights, false, gap)
+    check_bound(
+        alloc, problem, setting, fixed, duals, weights, false, gap, values,
+    )
 }
 
 /// Checks that from a feasible point, where the minimized objective is at most the bound, it falls by the slope along a ray that leaves
@@ -115,40 +129,53 @@ fn check_infeasible(
 fn check_unbounded(
     alloc: Global,
     problem: &Problem,
+    fixed: &[bool],
     setting: &Setting,
     point: &Point,
     ray: &Point,
     bound: Frac,
     slope: Frac,
+    values: &mut Values,
 ) -> Result<(), CertFault>
+    requires fixed { AreFixed problem.now fixed.now (length problem.now.tree) }
     requires accepted { IsAccepted problem.now }
     requires fitting { IsFitting problem.now setting.now }
     requires parameters { GivesParameters problem.now setting.now }
     requires variables { GivesVariables problem.now point.now }
     requires ray { GivesVariables problem.now ray.now }
+    requires values { AreKeptValues problem.now setting.now [] values.old }
+    requires only { AreOnlyFixed problem.now values.old }
     ensures { Checked (unbounded_checks problem.now setting.now point.now ray.now bound slope) result }
 {
-    let fixed = fixed_nodes(alloc, problem)?;
-    let mut values = Values::new(alloc, problem)?;
-    check_point(alloc, problem, point, setting, &mut values)?;
-    check_start_bound(alloc, problem, point, setting, bound, &mut values)?;
+    check_point(alloc, problem, point, setting, values)?;
+    check_start_bound(alloc, problem, point, setting, bound, values)?;
     check_descent(slope)?;
     check_ray_domain(problem, ray)?;
     check_ray(
         alloc,
         problem,
         setting,
-        &fixed,
+        fixed,
         values.as_slice(),
         ray,
         slope,
     )
 }
 
-/// Carries out the checks of a certificate.
-fn check(alloc: Global, problem: &Problem, setting: &Setting, cert: &Cert) -> Result<(), CertFault>
+/// Carries out the checks of a certificate. The value of a node is formed once, where it is first needed.
+fn check(
+    alloc: Global,
+    problem: &Problem,
+    fixed: &[bool],
+    setting: &Setting,
+    cert: &Cert,
+    values: &mut Values,
+) -> Result<(), CertFault>
     requires accepted { IsAccepted problem.now }
+    requires fixed { AreFixed problem.now fixed.now (length problem.now.tree) }
     requires cert { IsCertOf (problem_outline problem.now) cert.now }
+    requires values { AreKeptValues problem.now setting.now [] values.old }
+    requires only { AreOnlyFixed problem.now values.old }
     ensures { Checked (checks_of problem.now setting.now cert.now) result }
 {
     match cert {
@@ -159,8 +186,10 @@ fn check(alloc: Global, problem: &Problem, setting: &Setting, cert: &Cert) -> Re
             weights,
             params,
         } => {
-            check_setting(alloc, problem, setting, params)?;
-            check_optimal(alloc, problem, setting, *value, point, duals, weights)
+            check_setting(alloc, problem, setting, params, values)?;
+            check_optimal(
+                alloc, problem, fixed, setting, *value, point, duals, weights, values,
+            )
         }
         Cert::Infeasible {
             duals,
@@ -168,8 +197,8 @@ fn check(alloc: Global, problem: &Problem, setting: &Setting, cert: &Cert) -> Re
             weights,
             params,
         } => {
-            check_setting(alloc, problem, setting, params)?;
-            check_infeasible(alloc, problem, setting, duals, *gap, weights)
+            check_setting(alloc, problem, setting, params, values)?;
+            check_infeasible(alloc, problem, fixed, setting, duals, *gap, weights, values)
         }
         Cert::Unbounded {
             point,
@@ -178,8 +207,10 @@ fn check(alloc: Global, problem: &Problem, setting: &Setting, cert: &Cert) -> Re
             slope,
             params,
         } => {
-            check_setting(alloc, problem, setting, params)?;
-            check_unbounded(alloc, problem, setting, point, ray, *bound, *slope)
+            check_setting(alloc, problem, setting, params, values)?;
+            check_unbounded(
+                alloc, problem, fixed, setting, point, ray, *bound, *slope, values,
+            )
         }
     }
 }
@@ -202,5 +233,24 @@ pub fn certify(
     ensures checked { Checked (checks_of problem.now setting.now cert.now) result }
     ensures shown { OnOk result (IsShown problem.now setting.now cert.now) }
 {
-    check(alloc, problem, setting, cert)
+    let fixed = fixed_nodes(alloc, problem)?;
+    certify_with(alloc, problem, &fixed, setting, cert)
+}
+
+/// The same, where `fixed` marks the nodes without a variable below them: they are those of the problem, whatever the setting.
+pub fn certify_with(
+    alloc: Global,
+    problem: &Problem,
+    fixed: &[bool],
+    setting: &Setting,
+    cert: &Cert,
+) -> Result<(), CertFault>
+    requires accepted { IsAccepted problem.now }
+    requires fixed { AreFixed problem.now fixed.now (length problem.now.tree) }
+    requires cert { IsCertOf (problem_outline problem.now) cert.now }
+    ensures checked { Checked (checks_of problem.now setting.now cert.now) result }
+    ensures shown { OnOk result (IsShown problem.now setting.now cert.now) }
+{
+    let mut values = Values::new(alloc, problem)?;
+    check(alloc, problem, fixed, setting, cert, &mut values)
 }

@@ -5,7 +5,7 @@ ghost use Rattle.dcx_answer.specs.declared.cert_fault.CertFault.TheVariants as f
 ghost use Rattle.dcx_cert_sections.specs.Checks.{Checked};
 ghost use Rattle.dcx_tree.specs.Meaning.{IsAccepted};
 ghost use Rattle.dcx_cert_values.specs.Forming.{GivesParameters};
-ghost use Rattle.dcx_cert_values.specs.Tables.{AreKeptValues};
+ghost use Rattle.dcx_cert_values.specs.Tables.{AreKeptValues, AreOnlyFixed};
 ghost use Rattle.dcx_cert_check.specs.SingleChecks.{parameters_fit, setting_fits};
 
 use dcx_answer::{CertFault, Stop};
@@ -28,6 +28,7 @@ pub fn check_fit(
     ensures checked { Checked (setting_fits problem.now setting.now) result }
     ensures parameters { OnOk result (GivesParameters problem.now setting.now) }
     ensures values { AreKeptValues problem.now setting.now [] values.new }
+    ensures only { AreOnlyFixed problem.now values.old → AreOnlyFixed problem.now values.new }
 {
     check_parameters(alloc, problem, setting)?;
     divisors(alloc, problem, setting, values)

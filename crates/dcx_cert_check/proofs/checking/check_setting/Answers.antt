@@ -1,14 +1,10 @@
 -- That the setting fits is checked first.
-use Rattle.std.proofs.Common.{[]}
 use Rattle.std.proofs.lemmas.Result.{err_from_is_err_and}
 use Rattle.dcx_cert_check.specs.SingleChecks.{setting_fits, setting_is}
 use Rattle.dcx_cert_values.proofs.Weaker.{first_failed}
 use Rattle.dcx_cert_check.proofs.checking.check_setting.Goals as goal
 
-pub check_fit-requires-clause-values : goal.check_fit-requires-clause-values
-check_fit-requires-clause-values c = c.in_ok-values.ensures.values c.args.setting.now []
-
 pub returns-in_err-check_fit-clause-checked : goal.returns-in_err-check_fit-clause-checked
 returns-in_err-check_fit-clause-checked c =
-    let r = err_from_is_err_and c.from_residual-in_err-check_fit.result c.from_residual-in_err-check_fit.ensures.1 in
+    let r = err_from_is_err_and c.from_residual.result c.from_residual.ensures.1 in
     rw (r.1, r.2) (first_failed (setting_fits c.args.problem.now c.args.setting.now) (setting_is c.args.problem.now c.args.params.now c.args.setting.now) _ c.in_err-check_fit.ensures.checked)

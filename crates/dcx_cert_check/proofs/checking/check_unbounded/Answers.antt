@@ -2,6 +2,7 @@
 use Rattle.std.proofs.Common.{List, Option, sym, subst, [], ◌∷◌}
 use Rattle.dcx_atom.specs.declared.array.Array.{Array}
 use Rattle.dcx_cert_check.specs.SingleChecks.{start_bounded, slope_positive, ray_inside}
+use Rattle.dcx_cert_values.proofs.Anywhere.{kept_alike}
 use Rattle.dcx_cert_check.proofs.Below.{below_stays}
 use Rattle.dcx_cert_check.proofs.Steps.{second_counts}
 use Rattle.dcx_cert_sections.specs.Checks.{in_turn}
@@ -12,7 +13,7 @@ use Rattle.dcx_cert_check.proofs.KeptTables.{fixed_kept}
 use Rattle.dcx_cert_check.proofs.checking.check_unbounded.Goals as goal
 
 pub check_point-requires-clause-kept : goal.check_point-requires-clause-kept
-check_point-requires-clause-kept c = c.in_ok-values.ensures.values c.args.setting.now c.args.point.now
+check_point-requires-clause-kept c = kept_alike c.args.problem.now c.args.setting.now [] c.args.point.now c.args.values.now c.requires.only c.requires.values
 
 pub check_ray-requires-clause-values : goal.check_ray-requires-clause-values
 check_ray-requires-clause-values c =
