@@ -1,13 +1,14 @@
 //! The sections of a certificate that was read are checked, each at its setting.
 ghost use Rattle.std.specs.Prelude.{◌≡◌, ◌⊎◌, ◌<◌, ◌-◌, ◌^◌, length, count_by, IfOk, OnOk, IfErr};
 ghost use Rattle.dcx_tree.specs.Meaning.{IsAccepted};
-ghost use Rattle.dcx_cert_outline.specs.Drawn.{problem_outline};
+ghost use Rattle.dcx_cert_outline.specs.Drawn.{AreFixed, problem_outline};
 ghost use Rattle.dcx_cert_sections.specs.Shown.{IsSectionOf, AreSectionsOf};
 ghost use Rattle.dcx_cert_sections.specs.Checks.{Checked};
 ghost use Rattle.dcx_cert_runs.specs.Checking.{is_cert as is_filled, section_check, IsSectionShown, ArePassed, AreShown, IsFirstRefused};
 
 use dcx_answer::CertFault;
-use dcx_cert_check::certify;
+use dcx_cert_check::certify_with;
+use dcx_cert_outline::fixed_nodes;
 use dcx_cert_sections::Section;
 use dcx_point::Setting;
 use dcx_tree::Problem;
@@ -26,16 +27,18 @@ pub struct Refused {
 fn check_section(
     alloc: Global,
     problem: &Problem,
+    fixed: &[bool],
     setting: &Setting,
     section: &Section,
 ) -> Result<(), CertFault>
     requires accepted { IsAccepted problem.now }
+    requires fixed { AreFixed problem.now fixed.now (length problem.now.tree) }
     requires section { IsSectionOf (problem_outline problem.now) section.now }
     ensures checked { Checked (section_check problem.now setting.now section.now) result }
     ensures shown { OnOk result (IsSectionShown problem.now setting.now section.now) }
 {
     match section {
-        Section::Cert(cert) => certify(alloc, problem, setting, cert),
+        Section::Cert(cert) => certify_with(alloc, problem, fixed, setting, cert),
         Section::None => Ok(()),
     }
 }
@@ -78,8 +81,14 @@ pub fn check_sections(
     ensures shown { OnOk result (AreShown problem.now settings.now list.now) }
     ensures refused { IfErr result (λ r. (r.fault ≡ CertFault.Memory) ⊎ IsFirstRefused problem.now settings.now list.now r.section r.fault) }
 {
+    let Ok(fixed) = fixed_nodes(alloc, problem) else {
+        return Err(Refused {
+            section: 1,
+            fault: CertFault::Memory,
+        });
+    };
     for i in 0..list.len() {
-        if let Err(fault) = check_section(alloc, problem, &settings[i], &list[i]) {
+        if let Err(fault) = check_section(alloc, problem, &fixed, &settings[i], &list[i]) {
             let section = i as u32 + 1;
             return Err(Refused { section, fault });
         }
