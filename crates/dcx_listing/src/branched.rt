@@ -6,7 +6,7 @@ ghost use Rattle.dcx_tree.specs.Meaning.{IsAccepted};
 use crate::calls::push_number;
 use dcx_answer::{BranchStop, WholeAnswer};
 use dcx_branch::branch;
-use dcx_cache::Session;
+use dcx_cache::{Session, begin};
 use dcx_elab::Work;
 use dcx_front::{Accepted, accept};
 use dcx_point::Setting;
@@ -81,18 +81,11 @@ fn line_with<L: Ledger>(
 {
     let mut steps = Steps::<L>::new(blank);
     let mut text = String::new(alloc);
-    match Session::begin(alloc, problem, verdict, &mut steps) {
-        Ok(mut session) => {
-            let pushed = push_run(alloc, &mut text, &mut session, setting, nodes, &mut steps);
-            drop(session);
-            pushed?;
-            Ok(text)
-        }
-        Err(kept) => {
-            drop(kept);
-            Err(AllocError)
-        }
-    }
+    let mut session = begin(alloc, problem, verdict, &mut steps)?;
+    let pushed = push_run(alloc, &mut text, &mut session, setting, nodes, &mut steps);
+    drop(session);
+    pushed?;
+    Ok(text)
 }
 
 /// How branch and bound with at most so many nodes ends over the problem of the script that the bytes spell, at the setting that the
