@@ -60,7 +60,8 @@ class Edits(unittest.TestCase):
         write(self.at("crates", crate, "edits", name + ".edit"), f"file: src/lib.rt\nold: code\nnew: {comes_to}\n")
 
     def environment(self):
-        return {**os.environ, "PATH": os.path.join(self.room, "kit") + ":" + os.environ["PATH"], "CALLS": self.calls, "WAIT": self.wait}
+        outside = {name: value for name, value in os.environ.items() if name != "RT_JOBS"}
+        return {**outside, "PATH": os.path.join(self.room, "kit") + ":" + os.environ["PATH"], "CALLS": self.calls, "WAIT": self.wait}
 
     def run_tool(self, *words):
         return subprocess.run([self.at("tools/try-edits"), *words], capture_output=True, text=True, env=self.environment(), stdin=subprocess.DEVNULL, timeout=60)
