@@ -66,10 +66,10 @@ call-gives P Q target m f line column bracket xs s which call bound named given 
 abbrev pub given_of : Expr → Value → Given
 given_of x v = record { word = None; place = expr_place x; value = v }
 
-abbrev pub OneGiven : (Value → State → Type 0) → Expr → List Given → State → Type 0
+abbrev OneGiven : (Value → State → Type 0) → Expr → List Given → State → Type 0
 OneGiven P x gs t = (v : Value) × (gs ≡ given_of x v ∷ []) × P v t
 
-pub one_arg-gives : (P : Value → State → Type 0) (x : Expr) (s : State) → Gives P (expr_means x s) → Gives (OneGiven P x) (args_mean false (one_arg x) s)
+one_arg-gives : (P : Value → State → Type 0) (x : Expr) (s : State) → Gives P (expr_means x s) → Gives (OneGiven P x) (args_mean false (one_arg x) s)
 one_arg-gives P x s g =
     then-gives Evaluated (OneGiven P x) (arg_means false (by_place x) s) _
     (then-gives P Evaluated (expr_means x s) _ g (λ v t p. ok-gives Evaluated (given_of x v) t (v, refl, p)))
@@ -80,6 +80,19 @@ one_arg-gives P x s g =
 
     listed : (h : Given) (t : State) → Evaluated h t → Gives (OneGiven P x) ((more_args_mean false args_end >>= λ gs. done (h ∷ gs)) t)
     listed h t (v, same, p) = ok-gives (OneGiven P x) (h ∷ []) t (v, ap (λ y. y ∷ []) same, p)
+
+-- `m.f(x)`
+pub one_call-gives : (P Q : Value → State → Type 0) (target : Option (List ℕ)) (m f : List ℕ) (line column bracket : ℕ) (x : Expr) (s : State) (which : Module) (call : Function)
+    → lookup (same_name m) s.names ≡ Some (library which) → function_named which f ≡ Some call → Gives P (expr_means x s)
+    → ((v : Value) (t : State) → P v t → Gives Q (perform target call (place_at line column) (bound_of (matched (row call) (given_of x v ∷ []))) t))
+    → Gives Q (postfix_means target (called_at m f line column bracket (one_arg x)) s)
+one_call-gives P Q target m f line column bracket x s which call bound named given h =
+    call-gives (OneGiven P x) Q target m f line column bracket (one_arg x) s which call bound named (one_arg-gives P x s given) after
+  where
+    after : (gs : List Given) (t : State) → OneGiven P x gs t → Gives Q (function_called target (place_at line column) call gs t)
+    after gs t (v, same, p) =
+        subst (λ xs. Gives Q (function_called target (place_at line column) call xs t)) (sym same)
+        (function-gives Q target (place_at line column) call (given_of x v ∷ []) t (h v t p))
 
 -- an expression, a term and a factor that is one postfix
 pub factor_of-gives : (P : Value → State → Type 0) (x : Postfix) (s : State) → Gives P (postfix_means None x s) → Gives P (factor_means (factor_of x) s)

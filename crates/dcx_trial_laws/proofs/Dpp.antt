@@ -28,8 +28,8 @@ use Rattle.dcx_script_state.specs.Declarations.{start, may_be_asked}
 use Rattle.dcx_script_state.specs.Ends.{roots_in}
 use Rattle.dcx_signature.specs.declared.table.Function.TheVariants as functions
 use Rattle.dcx_signature.specs.Table.{row}
-use Rattle.dcx_signature.specs.Arguments.{Given, Bound, matched, bound_of}
-use Rattle.dcx_functions.specs.Calls.{perform, function_called}
+use Rattle.dcx_signature.specs.Arguments.{matched, bound_of}
+use Rattle.dcx_functions.specs.Calls.{perform}
 use Rattle.dcx_elab.specs.declared.work.Work.{Work}
 use Rattle.dcx_elab.specs.Meaning.{Elaborates}
 use Rattle.dcx_elab.specs.Expressions.{expr_means}
@@ -37,7 +37,7 @@ use Rattle.dcx_elab.specs.Statements.{line_means, lines_mean}
 use Rattle.dcx_trial.specs.Trial.{places, heights}
 use Rattle.dcx_trial_laws.specs.Tree.{place_at, named_at, called_at, one_arg, import_line, array_line, variable_line, parameter_line, objective, problem_line, trial_tree}
 use Rattle.dcx_trial_laws.proofs.Acts.{Gives, ok-gives, unless-then}
-use Rattle.dcx_trial_laws.proofs.Calls.{function-gives, call-gives, given_of, OneGiven, one_arg-gives, expr_of-gives, stepped, import-gives, assign-gives}
+use Rattle.dcx_trial_laws.proofs.Calls.{given_of, one_call-gives, expr_of-gives, stepped, import-gives, assign-gives}
 use Rattle.dcx_trial_laws.proofs.Judged.{told}
 use Rattle.dcx_trial_laws.proofs.Grades.{IsEnd}
 use Rattle.dcx_trial_laws.proofs.Later.{later-from, later_is_carried}
@@ -65,30 +65,22 @@ record AsksWell (s : State) : Type 0 where
 minimized-gives : (s : State) → HasAll s → Gives IsToMinimize (expr_means minimized s)
 minimized-gives s h =
     expr_of-gives IsToMinimize (called_at (codes "cp") (codes "Minimize") 8 19 30 (one_arg objective)) s
-    (call-gives (OneGiven (Graded IsEnd) objective) IsToMinimize None (codes "cp") (codes "Minimize") 8 19 30 (one_arg objective) s Cvxpy functions.Minimize
-    (found h.a h.b h.i h.j h.k (codes "cp") s h.all) refl
-    (one_arg-gives (Graded IsEnd) objective s (objective-gives h.a h.b h.i h.j h.k s h.all)) after)
+    (one_call-gives (Graded IsEnd) IsToMinimize None (codes "cp") (codes "Minimize") 8 19 30 objective s Cvxpy functions.Minimize
+    (found h.a h.b h.i h.j h.k (codes "cp") s h.all) refl (objective-gives h.a h.b h.i h.j h.k s h.all)
+    (λ v t g. of-graded IsEnd IsToMinimize v (λ w. perform None functions.Minimize place (bound_of (matched (row functions.Minimize) (given_of objective w ∷ [])))) t g (λ n known.
+    unless-then IsToMinimize (ShapeClash place) (nat_eq (entries_of (sides_at t.nodes n)) 1) t (λ _. done (objective_value Minimize n place))
+    (ok-gives IsToMinimize (objective_value Minimize n place) t (record { node = n; place = place; same = refl; knows = known })))))
   where
     place : Place
     place = place_at 8 19
 
-    given : Value → Bound
-    given w = bound_of (matched (row functions.Minimize) (given_of objective w ∷ []))
-
-    after : (gs : List Given) (t : State) → OneGiven (Graded IsEnd) objective gs t → Gives IsToMinimize (function_called None place functions.Minimize gs t)
-    after gs t (v, same, g) =
-        subst (λ xs. Gives IsToMinimize (function_called None place functions.Minimize xs t)) (sym same)
-        (function-gives IsToMinimize None place functions.Minimize (given_of objective v ∷ []) t
-        (of-graded IsEnd IsToMinimize v (λ w. perform None functions.Minimize place (given w)) t g (λ n known.
-        unless-then IsToMinimize (ShapeClash place) (nat_eq (entries_of (sides_at t.nodes n)) 1) t (λ _. done (objective_value Minimize n place))
-        (ok-gives IsToMinimize (objective_value Minimize n place) t (record { node = n; place = place; same = refl; knows = known })))))
-
 problem_line-gives : (s : State) → HasAll s → Gives (λ _ t. AsksWell t) (line_means problem_line s)
 problem_line-gives s h =
     assign-gives (λ _ t. AsksWell t) AsksWell (named_at (codes "prob") 8 1) (called_at (codes "cp") (codes "Problem") 8 8 18 (one_arg minimized)) s
-    (call-gives (OneGiven IsToMinimize minimized) (λ _ t. AsksWell t) (Some (codes "prob")) (codes "cp") (codes "Problem") 8 8 18 (one_arg minimized) (stepped s) Cvxpy functions.Problem
-    (found h.a h.b h.i h.j h.k (codes "cp") s h.all) refl (one_arg-gives IsToMinimize minimized (stepped s) (minimized-gives (stepped s) (all-stepped h)))
-    after)
+    (one_call-gives IsToMinimize (λ _ t. AsksWell t) (Some (codes "prob")) (codes "cp") (codes "Problem") 8 8 18 minimized (stepped s) Cvxpy functions.Problem
+    (found h.a h.b h.i h.j h.k (codes "cp") s h.all) refl (minimized-gives (stepped s) (all-stepped h))
+    (λ v t m. subst (λ w. Gives (λ _ u. AsksWell u) (perform (Some (codes "prob")) functions.Problem place (bound_of (matched (row functions.Problem) (given_of minimized w ∷ []))) t)) (sym m.same)
+    (problem-gives m.node m.place t m.knows)))
     (λ v t p. record { asks = p.asks; asked = p.asked; least = p.least; alone = p.alone; knows = record { judgement = p.knows.judgement; grade = p.knows.grade; stands = p.knows.stands } })
   where
     all-stepped : HasAll s → HasAll (stepped s)
@@ -104,13 +96,6 @@ problem_line-gives s h =
         (unless-then (λ _ u. AsksWell u) (TwoProblems place) (is_none t.asked) t _
         (ok-gives (λ _ u. AsksWell u) problem (record t { asked = Some (asked_of n p) })
         (record { asks = asked_of n p; asked = refl; least = refl; alone = refl; knows = record { judgement = known.judgement; grade = known.grade; stands = known.stands } })))
-
-    after : (gs : List Given) (t : State) → OneGiven IsToMinimize minimized gs t → Gives (λ _ u. AsksWell u) (function_called (Some (codes "prob")) place functions.Problem gs t)
-    after gs t (v, same, m) =
-        subst (λ xs. Gives (λ _ u. AsksWell u) (function_called (Some (codes "prob")) place functions.Problem xs t)) (sym same)
-        (function-gives (λ _ u. AsksWell u) (Some (codes "prob")) place functions.Problem (given_of minimized v ∷ []) t
-        (subst (λ w. Gives (λ _ u. AsksWell u) (perform (Some (codes "prob")) functions.Problem place (bound_of (matched (row functions.Problem) (given_of minimized w ∷ []))) t)) (sym m.same)
-        (problem-gives m.node m.place t m.knows)))
 
 asks_well : (size : ℕ) → Gives (λ _ t. AsksWell t) (lines_mean (trial_tree size) start)
 unfolding trial_tree

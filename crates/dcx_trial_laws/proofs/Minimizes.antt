@@ -20,8 +20,8 @@ use Rattle.dcx_script_values.specs.Nodes.{operand_sides, pushed}
 use Rattle.dcx_script_state.specs.Declarations.{start, may_be_asked}
 use Rattle.dcx_signature.specs.declared.table.Function.TheVariants as functions
 use Rattle.dcx_signature.specs.Table.{row, e_word}
-use Rattle.dcx_signature.specs.Arguments.{Given, Bound, matched, bound_of}
-use Rattle.dcx_functions.specs.Calls.{operand_for, objective_of, problem_of, function_called}
+use Rattle.dcx_signature.specs.Arguments.{Bound, matched, bound_of}
+use Rattle.dcx_functions.specs.Calls.{operand_for, objective_of, problem_of}
 use Rattle.dcx_elab.specs.declared.work.Work.{Work}
 use Rattle.dcx_elab.specs.Expressions.{expr_means, args_mean}
 use Rattle.dcx_elab.specs.Statements.{line_means, lines_mean}
@@ -43,7 +43,7 @@ use Rattle.dcx_trial_laws.specs.Tree.{
   trial_tree,
 }
 use Rattle.dcx_trial_laws.proofs.Acts.{Gives, Anything, ok-gives, any-gives, then-gives, unless-then}
-use Rattle.dcx_trial_laws.proofs.Calls.{function-gives, call-gives, given_of, OneGiven, one_arg-gives, expr_of-gives, stepped, with_name, import-gives, assign-gives, names-gives}
+use Rattle.dcx_trial_laws.proofs.Calls.{function-gives, call-gives, given_of, one_call-gives, expr_of-gives, stepped, with_name, import-gives, assign-gives, names-gives}
 
 -- ---- the first name
 -- the first name is `cp`, which is bound to the module
@@ -103,17 +103,11 @@ minimized-gives s h =
 problem_line-gives : (s : State) → IsLed s → Gives (λ _ t. AsksToMinimize t) (line_means problem_line s)
 problem_line-gives s h =
     assign-gives (λ _ t. AsksToMinimize t) AsksToMinimize (named_at (codes "prob") 8 1) (called_at (codes "cp") (codes "Problem") 8 8 18 (one_arg minimized)) s
-    (call-gives (OneGiven IsToMinimize minimized) (λ _ t. AsksToMinimize t) (Some (codes "prob")) (codes "cp") (codes "Problem") 8 8 18 (one_arg minimized) (stepped s) Cvxpy functions.Problem
-    (led-bound s h) refl (one_arg-gives IsToMinimize minimized (stepped s) (minimized-gives (stepped s) h))
-    after)
+    (one_call-gives IsToMinimize (λ _ t. AsksToMinimize t) (Some (codes "prob")) (codes "cp") (codes "Problem") 8 8 18 minimized (stepped s) Cvxpy functions.Problem
+    (led-bound s h) refl (minimized-gives (stepped s) h)
+    (λ v t m. subst (λ w. Gives (λ _ u. AsksToMinimize u) (problem_of (place_at 8 8) (bound_of (matched (row functions.Problem) (given_of minimized w ∷ []))) t)) (sym m.2)
+    (problem-gives (place_at 8 8) m.0 m.1 minimized t)))
     (λ v t p. p)
-  where
-    after : (gs : List Given) (t : State) → OneGiven IsToMinimize minimized gs t → Gives (λ _ u. AsksToMinimize u) (function_called (Some (codes "prob")) (place_at 8 8) functions.Problem gs t)
-    after gs t (v, same, (i, place, is)) =
-        subst (λ xs. Gives (λ _ u. AsksToMinimize u) (function_called (Some (codes "prob")) (place_at 8 8) functions.Problem xs t)) (sym same)
-        (function-gives (λ _ u. AsksToMinimize u) (Some (codes "prob")) (place_at 8 8) functions.Problem (given_of minimized v ∷ []) t
-        (subst (λ w. Gives (λ _ u. AsksToMinimize u) (problem_of (place_at 8 8) (bound_of (matched (row functions.Problem) (given_of minimized w ∷ []))) t)) (sym is)
-        (problem-gives (place_at 8 8) i place minimized t)))
 
 -- ---- all lines
 pub then-line : (P Q : State → Type 0) (x : Line) (rest : Lines) (s : State) → Gives (λ _ t. P t) (line_means x s) → ((t : State) → P t → Gives (λ _ u. Q u) (lines_mean rest t))

@@ -1,12 +1,11 @@
 -- A number that is written in decimal digits is read as itself.
 use Rattle.std.proofs.Common.{◌≡◌, ℕ, ◌+◌, ◌^◌, ◌<◌, pos, true, false, cond, List, [], ◌∷◌, ◌++◌, length, drop, decimal, append-nil, one-add, Some, None, refl, ap, ◌∙◌, arith}
 use Rattle.std.specs.Prelude.{option_map}
-use Rattle.std.specs.Char.{is_ascii_digit, digit_value}
+use Rattle.std.specs.Char.{is_ascii_digit}
 use Rattle.std.specs.Str.Parse.{digits_value, AllDigits}
 use Rattle.std.proofs.Math.Seq.{drop-length}
 use Rattle.std.proofs.lemmas.Bool.Decides.{nat_tests}
 use Rattle.std.proofs.lemmas.Fmt.{decimal_is_IsNumeral, length-decimal-le}
-use Rattle.std.proofs.lemmas.Str.Parse.{digit_from_value}
 use Rattle.dcx_math.specs.Rational.{ℚ, whole, ◌/ℚ◌}
 use Rattle.dcx_math.proofs.Orders.{*ℚ_idr}
 use Rattle.dcx_frac.specs.Fits.{IsRepresentable}
@@ -18,9 +17,7 @@ use Rattle.dcx_tokens.specs.Number.{Spelling, spelling_at, fraction_digits, frac
 use Rattle.dcx_tokens.specs.Front.{run_of}
 use Rattle.dcx_token_laws.proofs.Numerals.{number_by, by_spelling}
 use Rattle.dcx_token_laws.proofs.Longer.{number_longer}
-
-is_digit : (c : ℕ) → digit_value c < 10 → is_ascii_digit c ≡ true
-is_digit c h = let k = digit_from_value c h in grind (arith, nat_tests, k)
+use Rattle.dcx_trial_laws.proofs.Tests.{is_digit}
 
 all_while : (ds : List ℕ) → AllDigits 10 ds → digits ds ≡ ds
 all_while [] all = refl

@@ -16,17 +16,18 @@ use Rattle.dcx_syntax.specs.Expressions.{Expr, no_comparison, Sum, sum, Added, n
 use Rattle.dcx_script_values.specs.Values.{Value, plain, expression, State, Act, and_then, ◌>>=◌}
 use Rattle.dcx_script_values.specs.Nodes.{standing, constant, called}
 use Rattle.dcx_script_values.specs.Kinds.{operand}
+use Rattle.dcx_signature.specs.declared.table.Function.{Function}
 use Rattle.dcx_signature.specs.declared.table.Function.TheVariants as functions
-use Rattle.dcx_signature.specs.Table.{row}
-use Rattle.dcx_signature.specs.Arguments.{Given, Bound, matched, bound_of}
-use Rattle.dcx_functions.specs.Calls.{perform, function_called}
+use Rattle.dcx_signature.specs.Table.{row, function_named}
+use Rattle.dcx_signature.specs.Arguments.{matched, bound_of}
+use Rattle.dcx_functions.specs.Calls.{perform}
 use Rattle.dcx_operators.specs.Operators.{both, operands_added, operands_scaled, add_values, scale_values}
 use Rattle.dcx_elab.specs.Expressions.{expr_means, compared_means, sum_means, added_means, term_means, scaled_means, factor_means, postfix_means}
 use Rattle.dcx_script_laws.proofs.CarriedCalls.{add_values-moves}
 use Rattle.dcx_script_laws.proofs.CarriedForms.{term-moves, factor-moves}
 use Rattle.dcx_trial_laws.specs.Tree.{place_at, name_of, factor_of, term_of, called_at, expr_of, one_arg, residuals, objective}
 use Rattle.dcx_trial_laws.proofs.Acts.{Gives, ok-gives, then-gives}
-use Rattle.dcx_trial_laws.proofs.Calls.{function-gives, call-gives, given_of, OneGiven, one_arg-gives, factor_of-gives, term_of-gives, expr_of-gives, name-gives}
+use Rattle.dcx_trial_laws.proofs.Calls.{given_of, one_call-gives, factor_of-gives, term_of-gives, expr_of-gives, name-gives}
 use Rattle.dcx_trial_laws.proofs.Grades.{IsNumber, IsAffine, IsCup, IsWeight, IsEnd, number-kept, affine-kept, cup-kept, weight-kept, end-kept, plus}
 use Rattle.dcx_trial_laws.proofs.Grades.{constant-number, minus-number, plus-number, plus-affine, times-affine, atom-affine, times-weight, plus-end}
 use Rattle.dcx_trial_laws.proofs.Later.{Later, later-from, later_is_carried}
@@ -133,6 +134,15 @@ module _ (a b : Array) (i j k : ℕ) where
       (λ n known. offset-gives t n (here-later s t g.1 h) known)))
       (λ v t g. ok-gives (Graded IsAffine) v t g)
 
+  -- `cp.f(x)` of what is affine, where f is a convex atom
+  cup-gives : (f : List ℕ) (column bracket : ℕ) (x : Expr) (call : Function) (s : State) → Here s → function_named Cvxpy f ≡ Some call → Gives (Graded IsAffine) (expr_means x s)
+      → ((n : ℕ) (t : State) → Knows IsAffine t n
+      → Gives (Graded IsCup) (perform None call (place_at 8 column) (bound_of (matched (row call) (given_of x (expression n) ∷ []))) t))
+      → Gives (Graded IsCup) (postfix_means None (called_at (codes "cp") f 8 column bracket (one_arg x)) s)
+  cup-gives f column bracket x call s h named given performed =
+      one_call-gives (Graded IsAffine) (Graded IsCup) None (codes "cp") f 8 column bracket x s Cvxpy call (found (codes "cp") s h) named given
+      (λ v t g. of-graded IsAffine (Graded IsCup) v (λ w. perform None call (place_at 8 column) (bound_of (matched (row call) (given_of x w ∷ [])))) t g (λ n known. performed n t known))
+
   -- `cp.norm1(..)`
   abbrev norm_call : Postfix
   norm_call = called_at (codes "cp") (codes "norm1") 8 31 39 (one_arg residuals)
@@ -142,21 +152,7 @@ module _ (a b : Array) (i j k : ℕ) where
   norm_performed place n s known = search (atom-gives, known)
 
   norm-gives : (s : State) → Here s → Gives (Graded IsCup) (postfix_means None norm_call s)
-  norm-gives s h =
-      call-gives (OneGiven (Graded IsAffine) residuals) (Graded IsCup) None (codes "cp") (codes "norm1") 8 31 39 (one_arg residuals) s Cvxpy functions.Norm1 (found (codes "cp") s h) refl
-      (one_arg-gives (Graded IsAffine) residuals s (residuals-give s h)) after
-    where
-      place : Place
-      place = place_at 8 31
-
-      given : Value → Bound
-      given w = bound_of (matched (row functions.Norm1) (given_of residuals w ∷ []))
-
-      after : (gs : List Given) (t : State) → OneGiven (Graded IsAffine) residuals gs t → Gives (Graded IsCup) (function_called None place functions.Norm1 gs t)
-      after gs t (v, same, g) =
-          subst (λ xs. Gives (Graded IsCup) (function_called None place functions.Norm1 xs t)) (sym same)
-          (function-gives (Graded IsCup) None place functions.Norm1 (given_of residuals v ∷ []) t
-          (of-graded IsAffine (Graded IsCup) v (λ w. perform None functions.Norm1 place (given w)) t g (λ n known. norm_performed place n t known)))
+  norm-gives s h = cup-gives (codes "norm1") 31 39 residuals functions.Norm1 s h refl (residuals-give s h) (norm_performed (place_at 8 31))
 
   -- `cp.abs(s)`
   abbrev abs_argument : Expr
@@ -171,21 +167,10 @@ module _ (a b : Array) (i j k : ℕ) where
 
   abs-gives : (s : State) → Here s → Gives (Graded IsCup) (postfix_means None abs_call s)
   abs-gives s h =
-      call-gives (OneGiven (Graded IsAffine) abs_argument) (Graded IsCup) None (codes "cp") (codes "abs") 8 57 63 (one_arg abs_argument) s Cvxpy functions.Abs (found (codes "cp") s h) refl
-      (one_arg-gives (Graded IsAffine) abs_argument s (expr_of-gives (Graded IsAffine) (name_of (codes "s") 8 64) s
-      (name-gives (Graded IsAffine) (codes "s") 8 64 (expression i) s (found (codes "s") s h) (record { node = i; same = refl; knows = h.slope })))) after
-    where
-      place : Place
-      place = place_at 8 57
-
-      given : Value → Bound
-      given w = bound_of (matched (row functions.Abs) (given_of abs_argument w ∷ []))
-
-      after : (gs : List Given) (t : State) → OneGiven (Graded IsAffine) abs_argument gs t → Gives (Graded IsCup) (function_called None place functions.Abs gs t)
-      after gs t (v, same, g) =
-          subst (λ xs. Gives (Graded IsCup) (function_called None place functions.Abs xs t)) (sym same)
-          (function-gives (Graded IsCup) None place functions.Abs (given_of abs_argument v ∷ []) t
-          (of-graded IsAffine (Graded IsCup) v (λ w. perform None functions.Abs place (given w)) t g (λ n known. abs_performed place n t known)))
+      cup-gives (codes "abs") 57 63 abs_argument functions.Abs s h refl
+      (expr_of-gives (Graded IsAffine) (name_of (codes "s") 8 64) s
+      (name-gives (Graded IsAffine) (codes "s") 8 64 (expression i) s (found (codes "s") s h) (record { node = i; same = refl; knows = h.slope })))
+      (abs_performed (place_at 8 57))
 
   -- `q*cp.abs(s)`
   abbrev weighted : Term
