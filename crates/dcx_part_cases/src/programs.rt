@@ -29,12 +29,24 @@ pub(crate) fn put_of_rows(
 
 fn told(alloc: Global, words: &[&str], rest: &[&str], out: &mut String) -> Result<(), CaseFault> {
     match *words {
-        ["multiple", unknowns] => multiple_told(alloc, count(unknowns)?, rest, out),
-        ["size"] => Ok(put_size(out, &rows_of(alloc, rest)?)?),
+        ["multiple", unknowns] => multiple_told(alloc, unknowns, rest, out),
         _ => {
-            let made = integer_rows(alloc, &rows_of(alloc, rest)?);
-            made_told(alloc, words, &made, out)
+            let rows = rows_of(alloc, rest)?;
+            rows_told(alloc, words, &rows, out)
         }
+    }
+}
+
+/// What is asked of rows.
+fn rows_told(
+    alloc: Global,
+    words: &[&str],
+    rows: &Rows<Frac>,
+    out: &mut String,
+) -> Result<(), CaseFault> {
+    match *words {
+        ["size"] => Ok(put_size(out, rows)?),
+        _ => made_told(alloc, words, &integer_rows(alloc, rows), out),
     }
 }
 
@@ -46,14 +58,24 @@ fn made_told(
     out: &mut String,
 ) -> Result<(), CaseFault> {
     match made {
-        Ok(program) => match *words {
-            ["made"] => Ok(put_program(out, program)?),
-            ["run", limit] => put_run(alloc, program, u64::from(count(limit)?), out),
-            ["multipliers", ref words @ ..] => put_multipliers(alloc, program, words, out),
-            ["pivot", row, column] => put_pivot(alloc, program, count(row)?, count(column)?, out),
-            _ => Err(CaseFault::Unreadable),
-        },
+        Ok(program) => program_told(alloc, words, program, out),
         Err(stop) => Ok(put_stop(out, *stop)?),
+    }
+}
+
+/// What is asked of a program.
+fn program_told(
+    alloc: Global,
+    words: &[&str],
+    program: &Program,
+    out: &mut String,
+) -> Result<(), CaseFault> {
+    match *words {
+        ["made"] => Ok(put_program(out, program)?),
+        ["run", limit] => put_run(alloc, program, u64::from(count(limit)?), out),
+        ["multipliers", ref words @ ..] => put_multipliers(alloc, program, words, out),
+        ["pivot", row, column] => put_pivot(alloc, program, count(row)?, count(column)?, out),
+        _ => Err(CaseFault::Unreadable),
     }
 }
 
@@ -82,10 +104,11 @@ fn put_multiple(out: &mut String, multiple: Result<u128, Passes>) -> Result<(), 
 
 fn multiple_told(
     alloc: Global,
-    unknowns: u32,
+    unknowns: &str,
     texts: &[&str],
     out: &mut String,
 ) -> Result<(), CaseFault> {
+    let unknowns = count(unknowns)?;
     match *texts {
         [text] => put_multiple(out, least_multiple(&form_of(alloc, unknowns, text)?)),
         _ => Err(CaseFault::Unreadable),

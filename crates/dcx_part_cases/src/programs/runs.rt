@@ -5,9 +5,9 @@ ghost use Rattle.dcx_tab.specs.Views.{table_of};
 ghost use Rattle.dcx_simplex.specs.Whole.{RunEnds};
 
 use crate::lines::{CaseFault, Number, Numbers, Passing, count};
-use dcx_frac::Fracs;
+use dcx_frac::{Frac, Fracs};
 use dcx_linear::RowKind;
-use dcx_lp_answer::{LpAnswer, LpStatus, MultiplierStop, multipliers};
+use dcx_lp_answer::{LpAnswer, LpStatus, MultiplierStop, RowNote, multipliers};
 use dcx_simplex::{LpEnd, read_end, solve};
 use dcx_tab::{Dense, Program, Tableau, WideAt};
 use std::alloc::{AllocError, Global};
@@ -45,24 +45,40 @@ fn put_end(out: &mut String, end: LpEnd) -> Result<(), AllocError> {
     }
 }
 
-/// Writes the status, the number, the slope, the columns, the reduced costs of the rows, and the ray.
-fn put_answer(out: &mut String, answer: &LpAnswer) -> Result<(), AllocError> {
-    let status = match answer.status {
+fn status_word(status: LpStatus) -> &'static str {
+    match status {
         LpStatus::Optimal => "optimal",
         LpStatus::Infeasible => "infeasible",
         LpStatus::Unbounded => "unbounded",
-    };
-    let (number, slope) = (Number(answer.number), Number(answer.slope));
-    write!(out, "; {status} {number} slope {slope}; columns ")?;
-    write!(out, "{}; rows", Numbers(answer.columns.as_slice()))?;
-    for row in answer.rows.as_slice() {
+    }
+}
+
+/// Writes the reduced costs of rows.
+fn put_costs(out: &mut String, rows: &[RowNote]) -> Result<(), AllocError> {
+    out.push_str("; rows")?;
+    for row in rows {
         write!(out, " {}", Number(row.reduced_cost))?;
     }
+    Ok(())
+}
+
+/// Writes a ray.
+fn put_ray(out: &mut String, changes: &[Frac]) -> Result<(), AllocError> {
     out.push_str("; ray")?;
-    for change in answer.ray.as_slice() {
+    for change in changes {
         write!(out, " {}", Number(*change))?;
     }
     Ok(())
+}
+
+/// Writes the status, the number, the slope, the columns, the reduced costs of the rows, and the ray.
+fn put_answer(out: &mut String, answer: &LpAnswer) -> Result<(), AllocError> {
+    let status = status_word(answer.status);
+    let (number, slope) = (Number(answer.number), Number(answer.slope));
+    write!(out, "; {status} {number} slope {slope}; columns ")?;
+    write!(out, "{}", Numbers(answer.columns.as_slice()))?;
+    put_costs(out, answer.rows.as_slice())?;
+    put_ray(out, answer.ray.as_slice())
 }
 
 fn put_ended(out: &mut String, end: LpEnd, answer: &Option<LpAnswer>) -> Result<(), CaseFault> {
