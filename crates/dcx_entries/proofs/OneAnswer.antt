@@ -2,6 +2,7 @@
 use Rattle.std.proofs.Common.{◌≡◌, ℕ, ◌<◌, Bool, true, false, List, [], ◌∷◌, length, Option, Result, Ok, Err, slice_index_or, sym, ap, ap₂, ◌∙◌, subst, arith}
 use Rattle.std.specs.List.{list_any}
 use native.Mathlib.Decide.{dec_lt}
+use Rattle.dcx_math.proofs.Lists.{element_at}
 use Rattle.dcx_frac.specs.declared.fraction.Frac.{Frac}
 use Rattle.dcx_frac.specs.declared.fraction.Passes.{Passes}
 use Rattle.dcx_atom.specs.declared.stops.ValueStop.{ValueStop}
@@ -23,7 +24,6 @@ use Rattle.dcx_entries.specs.Forming.{FormsEach, AtEntry}
 use Rattle.dcx_entries.specs.Parts.{Arguments, zero_form, left_scaled, right_scaled, divided, has_zero_divisor}
 use Rattle.dcx_entries.specs.Sums.{adds, adds_multiple, adds_pair, adds_each}
 use Rattle.dcx_entries.specs.Entries.{alone, LinearEntry, EachSum, AtomEntry, PairSum, PairEntryBy, PairEntry}
-use Rattle.dcx_entries.proofs.Each.{some_before}
 
 -- where each entry has one answer, all together have one
 module _ {A E : Type 0} (F : ℕ → Result A E → Type 0) (one : (j : ℕ) (r s : Result A E) → F j r → F j s → r ≡ s) where
@@ -38,8 +38,8 @@ module _ {A E : Type 0} (F : ℕ → Result A E → Type 0) (one : (j : ℕ) (r 
 
   pub one_each : (n : ℕ) (r s : Result (List A) E) → FormsEach F n r → FormsEach F n s → r ≡ s
   one_each n (Ok xs) (Ok ys) h k = ap Ok (one_list xs ys (h.0 ∙ sym k.0) (λ j x y e d. same_values j x y (h.1 j x e) (k.1 j y d)))
-  one_each n (Ok xs) (Err e) h k = let x = some_before xs k.0 (rw h.0 k.1) in absurd (not_both k.0 x.0 e (h.1 k.0 x.0 x.1) k.2)
-  one_each n (Err e) (Ok ys) h k = let y = some_before ys h.0 (rw k.0 h.1) in absurd (not_both h.0 y.0 e (k.1 h.0 y.0 y.1) h.2)
+  one_each n (Ok xs) (Err e) h k = let x = element_at xs k.0 (rw h.0 k.1) in absurd (not_both k.0 x.0 e (h.1 k.0 x.0 x.1) k.2)
+  one_each n (Err e) (Ok ys) h k = let y = element_at ys h.0 (rw k.0 h.1) in absurd (not_both h.0 y.0 e (k.1 h.0 y.0 y.1) h.2)
   one_each n (Err e) (Err d) h k = ap Err (by (dec_lt h.0 k.0) (dec_lt k.0 h.0))
     where
       by : Dec (h.0 < k.0) → Dec (k.0 < h.0) → e ≡ d
