@@ -94,7 +94,8 @@ signed_fit y n (plain f e) h = let room = below_room f n (subst (λ z. IsBetween
 signed_fit y n (turned f e) h = turned_fit n (below_room f (neg_ℤ (n +ℤ pos 1)) (turned_between (value f) n (subst (λ z. IsBetween z n) e h)))
 
 -- those beside an unknown of a node that is solved
-pub split_fits : (q : Program Frac) (limit : ℕ) (bs : List BoundAt) (s : Solved) → IsSolved limit (node_rows q bs) s → (unknown : ℕ) (n : ℤ) → IsBetween (unknowns_in s.program s.answer unknown) n → FitBoth n
+pub split_fits : (q : Program Frac) (limit : ℕ) (bs : List BoundAt) (s : Solved) → IsSolved limit (node_rows q bs) s → (unknown : ℕ) (n : ℤ)
+    → IsBetween (unknowns_in s.program s.answer unknown) n → FitBoth n
 split_fits q limit bs s is unknown n h =
     let t = tells q limit bs s is in
     signed_fit _ n (signed_from s.answer.columns 0 q.kinds t.columns.one_sided unknown) (subst (λ y. IsBetween y n) (sym (t.same unknown)) h)
