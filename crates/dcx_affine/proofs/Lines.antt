@@ -13,6 +13,7 @@ use Rattle.dcx_shape.proofs.Entries.{factor_pos}
 use Rattle.dcx_atom.specs.Arrays.{sides_list, list_below}
 use Rattle.dcx_atom.proofs.FormedSums.{take-next}
 use Rattle.dcx_atom.proofs.LinearSums.{All-list_below}
+use Rattle.dcx_atom.proofs.BoundRows.{length-list_below}
 use Rattle.dcx_affine.proofs.Products.{cols_few}
 use Rattle.dcx_affine.specs.declared.slots.Slot.{Slot}
 use Rattle.dcx_affine.specs.declared.slots.Line.{Line}
@@ -74,10 +75,6 @@ all_lines-next line args i a h is =
     ap (λ xs. all_lines line (sides_list xs)) (take-next args i a h ∙ ap (λ x. take i args ++ x ∷ []) (sym is))
     ∙ ap (sum_by (lines_of line)) (map-append sides_of (take i args) (a ∷ []))
     ∙ sum_by-append (lines_of line) (sides_list (take i args)) (sides_of a ∷ []) ∙ omega arith
-
-length-list_below : {A : Type 0} (n : ℕ) (f : ℕ → A) → length (list_below n f) ≡ n
-length-list_below zero f = refl
-length-list_below (suc n) f = length-append (list_below n f) (f n ∷ []) ∙ omega (arith, length-list_below n f)
 
 -- ---- what a line of all is
 pub length-lined_up : (line : Line) (i : ℕ) (args : List Sides) → length (lined_up line i args) ≡ all_lines line args

@@ -1,5 +1,6 @@
 -- What the store keeps when cells and a node are added.
-use Rattle.std.proofs.Common.{◌≡◌, ◌≢◌, ℕ, suc, ◌+◌, ◌<◌, ◌≤◌, List, [], ◌∷◌, ◌++◌, length, get_or, map, Option, Some, None, option_map, refl, sym, ap, ap₂, subst, ◌∙◌, length-append, arith, IfSome, All}
+use Rattle.std.proofs.Common.{◌≡◌, ◌≢◌, ℕ, suc, ◌+◌, ◌<◌, ◌≤◌, List, [], ◌∷◌, ◌++◌, length, get_or, map, Option, Some, None, option_map, refl, sym, ap, ap₂}
+use Rattle.std.proofs.Common.{subst, ◌∙◌, length-append, arith, IfSome, All}
 use Rattle.std.specs.List.{slice_get}
 use Rattle.std.proofs.lemmas.Option.{slice_get_within, slice_get_read, get_or_from_slice_get}
 use Rattle.std.proofs.lemmas.List.{get_or-set_same, get_or-set_other, map-append, length-map}
@@ -16,7 +17,8 @@ use Rattle.dcx_arena.proofs.Cells.{IsChain-kept, chain-kept}
 use Rattle.dcx_arena.proofs.Nodes.{push_each, in_front, at_end, entries_more, node_added}
 
 module _ {C : Type 0} where
-  nodes_kept : (cells now : List Cell) (stored : List (Stored C)) → ((i : ℕ) (s : Stored C) → slice_get stored i ≡ Some s → args_of now s ≡ args_of cells s) → nodes_of now stored ≡ nodes_of cells stored
+  nodes_kept : (cells now : List Cell) (stored : List (Stored C)) → ((i : ℕ) (s : Stored C) → slice_get stored i ≡ Some s → args_of now s ≡ args_of cells s) → nodes_of now stored
+      ≡ nodes_of cells stored
   nodes_kept cells now [] h = refl
   nodes_kept cells now (s ∷ stored) h =
       ap₂ (λ (names : List ℕ) (ns : List (Node C)). record { call = s.call; args = names; sides = sides_of s.shape; place = s.place } ∷ ns) (h 0 s refl) (nodes_kept cells now stored (λ i. h (suc i)))
@@ -29,7 +31,8 @@ module _ {C : Type 0} where
   }
 
   -- a store with more cells, which no node uses
-  pub store_with : (gives : C → List Sides → Option Sides) (hash : C → ℕ) (cells now : List Cell) (stored : List (Stored C)) (heads : List (Option ℕ)) (entries : ℕ) → (more : List Cell) × (now ≡ cells ++ more)
+  pub store_with : (gives : C → List Sides → Option Sides) (hash : C → ℕ) (cells now : List Cell) (stored : List (Stored C)) (heads : List (Option ℕ)) (entries : ℕ)
+      → (more : List Cell) × (now ≡ cells ++ more)
       → IsStore gives hash cells stored heads entries → IsStore gives hash now stored heads entries × (nodes_of now stored ≡ nodes_of cells stored)
   store_with gives hash cells now stored heads entries (more, e) h =
       let nodes = nodes_kept cells (cells ++ more) stored (λ i s f. chain-kept cells more s.count s.first (h.kept.chained i s f)) in
@@ -43,7 +46,8 @@ module _ {C : Type 0} where
         nodes,
       )
 
-  within_kept : (stored : List (Stored C)) (s : Stored C) (m n b : ℕ) (at : Option ℕ) → m ≤ length stored → m ≤ n → IfSome at (λ i. (i < m) × IsIn stored b i) → IfSome at (λ i. (i < n) × IsIn (stored ++ s ∷ []) b i)
+  within_kept : (stored : List (Stored C)) (s : Stored C) (m n b : ℕ) (at : Option ℕ) → m ≤ length stored → m ≤ n → IfSome at (λ i. (i < m) × IsIn stored b i)
+      → IfSome at (λ i. (i < n) × IsIn (stored ++ s ∷ []) b i)
   within_kept stored s m n b None le wide h = tt
   within_kept stored s m n b (Some i) le wide h = (omega (arith, h.0), rw (in_front stored (s ∷ []) i (omega (arith, h.0))) h.1)
 
@@ -77,12 +81,14 @@ module _ {C : Type 0} where
     last = λ j lt is. omega arith;
   }
 
-  heads_added : (stored : List (Stored C)) (s : Stored C) (heads : List (Option ℕ)) → s.bucket < length heads → AreHeads stored heads → AreHeads (stored ++ s ∷ []) (set heads s.bucket (Some (length stored)))
+  heads_added : (stored : List (Stored C)) (s : Stored C) (heads : List (Option ℕ)) → s.bucket < length heads → AreHeads stored heads
+      → AreHeads (stored ++ s ∷ []) (set heads s.bucket (Some (length stored)))
   heads_added stored s heads lt h b below =
       let n = length-append stored (s ∷ []) in
       elim (ℕ_discrete b s.bucket) [
         | yes same ↦ rw (same, get_or-set_same heads s.bucket (Some (length stored)) None lt) (own_head stored s (length (stored ++ s ∷ [])) n)
-        | no other ↦ rw (get_or-set_other heads s.bucket b (Some (length stored)) None other) (other_head stored s (length (stored ++ s ∷ [])) b (get_or heads b None) n (λ e. other (sym e)) (h b below))
+        | no other ↦ rw (get_or-set_other heads s.bucket b (Some (length stored)) None other) (other_head stored s (length (stored ++ s ∷ [])) b (get_or heads b None) n
+            (λ e. other (sym e)) (h b below))
       ]
 
   pub nodes_more : (cells : List Cell) (stored : List (Stored C)) (s : Stored C) → nodes_of cells (stored ++ s ∷ []) ≡ nodes_of cells stored ++ node_of cells s ∷ []
@@ -92,10 +98,13 @@ module _ {C : Type 0} where
   count_nodes cells stored = length-map stored (node_of cells)
 
   -- a store with one more node, whose cells are there already
-  pub store_added : (gives : C → List Sides → Option Sides) (hash : C → ℕ) (cells : List Cell) (stored : List (Stored C)) (heads : List (Option ℕ)) (entries : ℕ) (s : Stored C) → IsStore gives hash cells stored heads entries
+  pub store_added : (gives : C → List Sides → Option Sides) (hash : C → ℕ) (cells : List Cell) (stored : List (Stored C)) (heads : List (Option ℕ)) (entries : ℕ) (s : Stored C)
+      → IsStore gives hash cells stored heads entries
       → IsChain cells s.count s.first → s.bucket ≡ bucket_for hash s.call (args_of cells s) → s.bucket < number_of_buckets → number_of_buckets ≤ length heads → s.next ≡ get_or heads s.bucket None
-      → All (λ a. a < length (nodes_of cells stored)) (args_of cells s) → IsNew (nodes_of cells stored) s.call (args_of cells s) → gives s.call (map (sides_at (nodes_of cells stored)) (args_of cells s)) ≡ Some (sides_of s.shape)
-      → IsWithin (length (nodes_of cells stored) + 1) (entries + entries_of (sides_of s.shape)) → IsStore gives hash cells (stored ++ s ∷ []) (set heads s.bucket (Some (length stored))) (entries + entries_of (sides_of s.shape))
+      → All (λ a. a < length (nodes_of cells stored)) (args_of cells s) → IsNew (nodes_of cells stored) s.call (args_of cells s)
+      → gives s.call (map (sides_at (nodes_of cells stored)) (args_of cells s)) ≡ Some (sides_of s.shape)
+      → IsWithin (length (nodes_of cells stored) + 1) (entries + entries_of (sides_of s.shape)) → IsStore gives hash cells (stored ++ s ∷ [])
+      (set heads s.bucket (Some (length stored))) (entries + entries_of (sides_of s.shape))
   store_added gives hash cells stored heads entries s h there hashed below enough next args new shaped room = record {
     kept = record {
       chained = push_each (λ i x. IsChain cells x.count x.first) stored s h.kept.chained there;
@@ -114,7 +123,8 @@ module _ {C : Type 0} where
     pub store_appended : (gives : C → List Sides → Option Sides) (hash : C → ℕ) (heads : List (Option ℕ)) (entries : ℕ) → IsStore gives hash cells stored heads entries
         → IsChain cells s.count s.first → s.bucket ≡ bucket_for hash s.call names → s.bucket < number_of_buckets → number_of_buckets ≤ length heads → s.next ≡ get_or heads s.bucket None
         → All (λ a. a < length nodes) names → IsNew nodes s.call names → gives s.call (map (sides_at nodes) names) ≡ Some (sides_of s.shape)
-        → IsWithin (length nodes + 1) (entries + entries_of (sides_of s.shape)) → IsStore gives hash cells (stored ++ s ∷ []) (set heads s.bucket (Some (length stored))) (entries + entries_of (sides_of s.shape))
+        → IsWithin (length nodes + 1) (entries + entries_of (sides_of s.shape)) → IsStore gives hash cells (stored ++ s ∷ []) (set heads s.bucket (Some (length stored)))
+        (entries + entries_of (sides_of s.shape))
     store_appended gives hash heads entries h there hashed below enough next args new shaped room =
         store_added gives hash cells stored heads entries s h there (rw chained hashed) below enough next (rw (same, chained) args) (rw (same, chained) new) (rw (same, chained) shaped) (rw same room)
 

@@ -4,7 +4,7 @@ use Rattle.std.proofs.Common.{◌≡◌, ℕ, suc, ◌<◌, List, [], ◌∷◌,
 use Rattle.dcx_math.specs.Rational.{ℚ, whole, ◌+ℚ◌, ◌*ℚ◌, ◌≤ℚ◌}
 use Rattle.dcx_math.specs.Sums.{IsNonnegative, rat_sum_below}
 use Rattle.dcx_math.proofs.Ring.{ring, reads}
-use Rattle.dcx_math.proofs.Orders.{+ℚ-≤ℚ, *ℚ-≤ℚ, ≤ℚ_refl, linear, ≤ℚ-from_≡, +ℚ_idr, +ℚ_idl}
+use Rattle.dcx_math.proofs.Orders.{+ℚ-≤ℚ, *ℚ-≤ℚ, ≤ℚ_refl, linear, ≤ℚ-from_≡, +ℚ_idr, +ℚ_idl, +ℚ_left_comm}
 use Rattle.dcx_math.proofs.Sums.{rat_sum_below-+ℚ, rat_sum_below-same, rat_sum_below-monotone, rat_sum_below-zero}
 use Rattle.dcx_shape.specs.Sides.{entries_of}
 use Rattle.dcx_atom.specs.declared.graph.Operand.{Operand}
@@ -44,9 +44,6 @@ weighted-nonpositive [] w a t h k = ≤ℚ_refl (whole (pos 0))
 weighted-nonpositive (row ∷ rows) w a t h k =
     below_zero (h 0 (omega arith)) k.0 (weighted-nonpositive rows (λ r. w (suc r)) a t (λ r b. h (suc r) (omega arith)) k.1)
 
-regroup : (x y w : ℚ) → x +ℚ (y +ℚ w) ≡ y +ℚ (x +ℚ w)
-regroup x y w = ring (x ∷ y ∷ w ∷ []) (search reads depth 30) tt
-
 -- s + r = v + n, with r at least 0 and n at most 0: s is at most v
 squeezed : {s r v n : ℚ} → s +ℚ r ≡ v +ℚ n → IsNonnegative r → n ≤ℚ whole (pos 0) → s ≤ℚ v
 squeezed {s} {r} {v} {n} e hr hn = linear (s ∷ r ∷ v ∷ n ∷ []) (+ℚ-≤ℚ (≤ℚ-from_≡ e) (+ℚ-≤ℚ hr hn)) (search reads depth 30) tt
@@ -62,7 +59,7 @@ subgradient_of m tight slopes balanced args sides is c w accepted a =
     let values = λ (j : ℕ). c j *ℚ m.value args a j in
     let whole_rows = λ (j : ℕ). weighted (m.rows args j) (w j) a t in
     let each : (j : ℕ) → j < n → over_arguments j +ℚ over_unknowns j ≡ values j +ℚ whole_rows j =
-    λ j b. regroup (over_arguments j) (c j *ℚ form_at (m.result args j) t) (weighted (m.rows args j) (w j) no_entries t)
+    λ j b. +ℚ_left_comm (over_arguments j) (c j *ℚ form_at (m.result args j) t) (weighted (m.rows args j) (w j) no_entries t)
     ∙ ap (λ v. c j *ℚ form_at (m.result args j) t +ℚ v) (sym (weighted_parts (m.rows args j) (w j) a t))
     ∙ ap (λ v. c j *ℚ v +ℚ whole_rows j) (reached.reaches j b) in
     let same : weighted_arguments m args n w a +ℚ balance m args n c w t ≡ rat_sum_below n values +ℚ rat_sum_below n whole_rows =

@@ -54,7 +54,8 @@ one_fits = whole_fits 1 (lit< tt)
 pub minus_one_fits : IsRepresentable (whole (negsuc 0))
 minus_one_fits =
     let one : pos 0 <ℤ pos 1 = omega (arith, ints) in
-    representable (whole (negsuc 0)) (negsuc 0) (pos 1) (record { positive = one; coprime = λ d h k. eq-one_of_dvd-one k; is = sym (over_one (negsuc 0) (negsuc 0) (pos 1) one refl refl) }) (lit< tt) (lit< tt)
+    representable (whole (negsuc 0)) (negsuc 0) (pos 1)
+    (record { positive = one; coprime = λ d h k. eq-one_of_dvd-one k; is = sym (over_one (negsuc 0) (negsuc 0) (pos 1) one refl refl) }) (lit< tt) (lit< tt)
 
 -- ---- either sign of a number
 pub unsigned_abs-neg : (z : ℤ) → unsigned_abs (neg_ℤ z) ≡ unsigned_abs z

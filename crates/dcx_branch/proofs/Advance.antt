@@ -32,7 +32,8 @@ use Rattle.dcx_branch.specs.declared.search.Search.{Search}
 use Rattle.dcx_branch.specs.Places.{places}
 use Rattle.dcx_branch.specs.Sides.{box_of, open_sides, box_bounds, IsNextSide}
 use Rattle.dcx_lp_solve.specs.Stops.{run_stop}
-use Rattle.dcx_branch.specs.Run.{Best, State, start, best_value, unknowns_in, Turn, Cut, Found, Divided, TurnsOut, after, bounds_in, IsNode, FormsLeaf, IsListed, Takes, no_node, one_node, EndsWith, Reaches, FallsAtRoot, NodeStops, at_rows, at_leaf}
+use Rattle.dcx_branch.specs.Run.{Best, State, start, best_value, unknowns_in, Turn, Cut, Found, Divided, TurnsOut, after, bounds_in, IsNode, FormsLeaf}
+use Rattle.dcx_branch.specs.Run.{IsListed, Takes, no_node, one_node, EndsWith, Reaches, FallsAtRoot, NodeStops, at_rows, at_leaf}
 use Rattle.dcx_branch.specs.Answers.{IsEndOf}
 use Rattle.dcx_branch.specs.Taken.{IsSolvedWith, IsTaken, TakenAs, FallsAt, StopsTaking}
 use Rattle.dcx_branch.specs.Searches.{HoldsBest, IsUnderWay, IsAt, IsDone, IsAtOrDone, node_of, best_after, AddsSide, Enters, answer_of, found_value, node_stop, StopsNext}
@@ -95,7 +96,8 @@ module _ (p : Problem) (q : Program Frac) (limit : ℕ) where
     before = record { open_boxes = box_of (root_box p) old.sides.items ∷ open_sides (root_box p) old.sides.items; best = at.best; taken = old.taken }
 
     -- the search after a node, with these boxes open and this best point
-    under_way : (t : Taken) (more : Bool) → Enters old t more new → (boxes : List Box) (best : Option Best) → Takes p q limit (record { open_boxes = boxes; best = best; taken = suc old.taken }) (old.nodes.items ++ node_of t ∷ []) →
+    under_way : (t : Taken) (more : Bool) → Enters old t more new → (boxes : List Box) (best : Option Best)
+        → Takes p q limit (record { open_boxes = boxes; best = best; taken = suc old.taken }) (old.nodes.items ++ node_of t ∷ []) →
         HoldsBest p best (best_after old.best t) → IsUnderWay p q limit boxes new
     under_way t more enters boxes best comes held =
         let count : suc old.taken ≡ new.taken = sym (enters.count ∙ add-one old.taken) in
@@ -118,12 +120,14 @@ module _ (p : Problem) (q : Program Frac) (limit : ℕ) where
         let d = adds.side in
         let split = open_split (root_box p) old.sides.items d adds.below in
         let there = subst (λ (b : Place). IsUnderWay p q limit (at_most front b.variable b.entry n ∷ at_least front b.variable b.entry (n +ℤ pos 1) ∷ rest) new) (sym adds.place_is) h in
-        let limited = subst (λ m. IsUnderWay p q limit (at_most front d.place.variable d.place.entry m ∷ at_least front d.place.variable d.place.entry (m +ℤ pos 1) ∷ rest) new) (sym adds.limit_is) there in
+        let limited = subst (λ m. IsUnderWay p q limit (at_most front d.place.variable d.place.entry m ∷ at_least front d.place.variable d.place.entry (m +ℤ pos 1) ∷ rest) new)
+        (sym adds.limit_is) there in
         let joined = subst (λ boxes. IsUnderWay p q limit boxes new) (sym split) limited in
         subst (λ sides. IsUnderWay p q limit (box_of (root_box p) sides ∷ open_sides (root_box p) sides) new) (sym adds.added) joined
 
     module _ (solved : Solved) (node : IsSolvedWith q limit (bounds_in p (box_of (root_box p) old.sides.items)) solved) where
-      step : (turn : Turn) (listed : BranchNode) → TurnsOut (places p.variables) (best_value at.best) solved.program solved.answer turn → FormsLeaf p q limit front solved turn → IsListed p q front solved turn listed →
+      step : (turn : Turn) (listed : BranchNode) → TurnsOut (places p.variables) (best_value at.best) solved.program solved.answer turn → FormsLeaf p q limit front solved turn
+          → IsListed p q front solved turn listed →
           Takes p q limit (after front rest at.best old.taken solved.program solved.answer turn) (old.nodes.items ++ listed ∷ [])
       step turn listed turns forms is =
           one_node before (after front rest at.best old.taken solved.program solved.answer turn) old.nodes.items listed at.comes
@@ -234,6 +238,8 @@ module _ (p : Problem) (q : Program Frac) (limit : ℕ) where
       box = box_of (root_box p) search.sides.items;
       rest = open_sides (root_box p) search.sides.items;
       best = h.best;
-      reached = subst (λ n. Reaches p q limit (start p) (record { open_boxes = box_of (root_box p) search.sides.items ∷ open_sides (root_box p) search.sides.items; best = h.best; taken = n })) same (reaches p q limit _ search.nodes.items h.comes);
+      reached = subst (λ n. Reaches p q limit (start p)
+          (record { open_boxes = box_of (root_box p) search.sides.items ∷ open_sides (root_box p) search.sides.items; best = h.best; taken = n })) same
+          (reaches p q limit _ search.nodes.items h.comes);
     },
   )

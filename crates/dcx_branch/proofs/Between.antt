@@ -118,18 +118,6 @@ divided_between f not_one =
     between_ratio (num_of f) (den_of f) f.positive q parts.rest den.size den.is is
     (λ none. not_one (no_rest f q (rest_gone (q *ℤ den_of f) (num_of f) parts.rest is none))) parts.small
 
--- a fraction with the denominator 1 is its numerator
-pub one_whole : (f : Frac) → den_of f ≡ pos 1 → value f ≡ whole (num_of f)
-one_whole f e = by (den_of f) f.positive e
-  where
-    by : (d : ℤ) (p : pos 0 <ℤ d) → d ≡ pos 1 → ratio (num_of f) d p ≡ whole (num_of f)
-    by d p h =
-        let times : num_of f *ℤ d ≡ num_of f = ap (λ y. num_of f *ℤ y) h ∙ times_one (num_of f) in
-        ap (λ z. ratio z d p) (sym times) ∙ sym (whole-ratio d p (num_of f))
-      where
-        times_one : (z : ℤ) → z *ℤ pos 1 ≡ z
-        times_one z = omega (arith, ints)
-
 -- ---- room
 twice_below : (a b : ℕ) → 2 ≤ b → 2 * (a / b) ≤ a
 twice_below a b h = let e = div-add-mod' a b in omega (arith, mul-le-mul_left (a / b) h, e)

@@ -4,7 +4,7 @@ use Rattle.std.specs.Prelude.{ℤ, pos}
 use Rattle.std.proofs.lemmas.Option.{none-some, same_Some}
 use Rattle.dcx_math.specs.Rational.{ℚ, whole, ◌-ℚ◌, ◌≤ℚ◌}
 use Rattle.dcx_math.proofs.Ring.{reads}
-use Rattle.dcx_math.proofs.Orders.{linear}
+use Rattle.dcx_math.proofs.Orders.{linear, -ℚ-nonpositive}
 use Rattle.dcx_linear.specs.FormTerms.{Unknowns}
 use Rattle.dcx_tree.specs.declared.problem.Problem.{Problem}
 use Rattle.dcx_right.specs.Boxes.{IsAtLeast, IsAtMost, IsWithin, Box}
@@ -44,9 +44,6 @@ Keeps x b = excess b.upper b.limit (x b.place.unknown) ≤ℚ whole (pos 0)
 less : (x y : ℚ) → x -ℚ y ≤ℚ whole (pos 0) → x ≤ℚ y
 less x y h = linear (x ∷ y ∷ []) h (search reads depth 30) tt
 
-not_above : (x y : ℚ) → x ≤ℚ y → x -ℚ y ≤ℚ whole (pos 0)
-not_above x y h = linear (x ∷ y ∷ []) h (search reads depth 30) tt
-
 module _ (x : Unknowns) where
   lower_kept : (q : Place) (o : Option ℤ) → Each (Keeps x) (bound_of q false o) → IsAtLeast o (x q.unknown)
   lower_kept q None h = tt
@@ -71,12 +68,14 @@ module _ (x : Unknowns) where
 
   lower_keeps : (q : Place) (o : Option ℤ) → IsAtLeast o (x q.unknown) → Each (Keeps x) (bound_of q false o)
   lower_keeps q None h i b at = absurd (none-some b at)
-  lower_keeps q (Some n) h zero b at = subst (λ (c : BoundAt). Keeps x c) (same_Some (let c : BoundAt = record { place = q; upper = false; limit = n } in c) b at) (not_above (whole n) (x q.unknown) h)
+  lower_keeps q (Some n) h zero b at =
+      subst (λ (c : BoundAt). Keeps x c) (same_Some (let c : BoundAt = record { place = q; upper = false; limit = n } in c) b at) (-ℚ-nonpositive (whole n) (x q.unknown) h)
   lower_keeps q (Some n) h (suc i) b at = absurd (none-some b at)
 
   upper_keeps : (q : Place) (o : Option ℤ) → IsAtMost o (x q.unknown) → Each (Keeps x) (bound_of q true o)
   upper_keeps q None h i b at = absurd (none-some b at)
-  upper_keeps q (Some n) h zero b at = subst (λ (c : BoundAt). Keeps x c) (same_Some (let c : BoundAt = record { place = q; upper = true; limit = n } in c) b at) (not_above (x q.unknown) (whole n) h)
+  upper_keeps q (Some n) h zero b at =
+      subst (λ (c : BoundAt). Keeps x c) (same_Some (let c : BoundAt = record { place = q; upper = true; limit = n } in c) b at) (-ℚ-nonpositive (x q.unknown) (whole n) h)
   upper_keeps q (Some n) h (suc i) b at = absurd (none-some b at)
 
   -- and numbers within a box keep its bounds

@@ -48,9 +48,6 @@ with_bounds r extra = record { nonneg = r.nonneg; nonpos = r.nonpos; point = r.p
 over_all : (v o c p e : ℚ) → v ≤ℚ o +ℚ (c +ℚ e) → c ≤ℚ p → v ≤ℚ (o +ℚ p) +ℚ e
 over_all v o c p e h k = linear (v ∷ o ∷ c ∷ p ∷ e ∷ []) (+ℚ-≤ℚ h k) (search reads depth 30) tt
 
-no_more : (p : ℚ) → p +ℚ whole (pos 0) ≡ p
-no_more p = +ℚ_idr p
-
 module _ (rules : Rules) (p : Problem) (s : Setting) (ok : IsTrue (accepted_by rules (convex_problem p))) (fit : Fits p s) (formed : IsWellFormed (convex_problem p)) (l : LinearProgram)
     (is : IsReductionAt rules p s l) (extra : List (Unknowns → ℚ)) where
   abbrev P : convex.Problem
@@ -102,7 +99,7 @@ module _ (rules : Rules) (p : Problem) (s : Setting) (ok : IsTrue (accepted_by r
       let split = ap (λ rows. combined_from m 0 rows t) is.program.rows ∙ combined_append m t 0 gaps (map bound_row r.rows) in
       let first = combined_gaps m t r.forms 0 P.constraints ∙ same_penalty y (multipliers_of P m) t lifted in
       let second = bounds_nonpositive m t (0 + length gaps) r.rows (all_right (IsSigned m) 0 gaps (map bound_row r.rows) (of_program (IsSigned m) (of_all (IsSigned m) h))) lifted.rows in
-      ≤ℚ_trans (≤ℚ-from_≡ split) (≤ℚ_trans (+ℚ-≤ℚ (≤ℚ-from_≡ first) second) (≤ℚ-from_≡ (no_more (answers.penalty P s y (multipliers_of P m)))))
+      ≤ℚ_trans (≤ℚ-from_≡ split) (≤ℚ_trans (+ℚ-≤ℚ (≤ℚ-from_≡ first) second) (≤ℚ-from_≡ (+ℚ_idr (answers.penalty P s y (multipliers_of P m)))))
 
   -- the further rows with their multipliers, at unknowns
   abbrev pub further_rows : (ℕ → ℚ) → Unknowns → ℚ

@@ -1,22 +1,20 @@
 -- The rows of a node are those of its linear program.
-use Rattle.std.proofs.Common.{◌≡◌, ℕ, zero, suc, ◌<◌, ◌^◌, Bool, true, false, List, [], ◌∷◌, ◌++◌, map, refl, sym, ap, ap₂, ◌∙◌, subst, lit<}
-use Rattle.std.specs.Prelude.{ℤ, pos, negsuc, neg_ℤ, unsigned_abs}
+use Rattle.std.proofs.Common.{◌≡◌, ℕ, Bool, true, false, List, [], ◌∷◌, ◌++◌, map, refl, ap, ap₂, ◌∙◌, lit<}
+use Rattle.std.specs.Prelude.{ℤ, pos}
 use Rattle.std.specs.List.{All}
 use Rattle.std.proofs.Math.Path.{fun_ext}
 use Rattle.std.proofs.lemmas.List.{map-append}
 use Rattle.std.proofs.lemmas.List.Elements.{All-head, All-tail}
-use native.Mathlib.Nat.{eq-one_of_dvd-one}
 use Rattle.dcx_math.specs.Rational.{ℚ, whole, ◌+ℚ◌, ◌-ℚ◌, ◌*ℚ◌, neg_ℚ}
 use Rattle.dcx_math.proofs.Ring.{ring, reads}
-use Rattle.dcx_math.proofs.Orders.{whole-neg_ℤ}
-use Rattle.dcx_math.proofs.Ratios.{ratio-one}
 use Rattle.dcx_frac.specs.Frac.{value}
-use Rattle.dcx_frac.specs.Fits.{Fits, IsRepresentable, representable}
+use Rattle.dcx_frac.specs.Fits.{Fits}
 use Rattle.dcx_atom.specs.Formed.{frac_at}
-use Rattle.dcx_atom.proofs.Fractions.{value-frac_at}
+use Rattle.dcx_atom.proofs.Fractions.{value-frac_at, negative_fits}
 use Rattle.dcx_linear.specs.FormTerms.{Unknowns}
 use Rattle.dcx_linear.specs.Rows.{RowAt, LinearProgram}
 use Rattle.dcx_linear.specs.declared.row.RowKind.TheVariants.{AtMost}
+use Rattle.dcx_lp_answer.proofs.Fractions.{whole_fits, value-whole}
 use Rattle.dcx_std.specs.Solutions.{row_at, form_number, linear_program}
 use Rattle.dcx_postsolve.specs.Programs as mapping
 use Rattle.dcx_graph.specs.Program.{Program}
@@ -26,20 +24,9 @@ use Rattle.dcx_branch.specs.declared.bound.BoundAt.{BoundAt}
 use Rattle.dcx_branch.specs.Rows.{bound_form, bound_row, bound_rows, node_rows}
 use Rattle.dcx_branch.specs.Nodes.{excess, bound_number, node_program}
 
--- ---- integers as fractions
-pub fits_representable : (n : ℤ) → Fits n → IsRepresentable (whole n)
-fits_representable n h = representable (whole n) n (pos 1) (record { positive = record { lt = tt }; coprime = λ d a b. eq-one_of_dvd-one b; is = sym (ratio-one n (record { lt = tt })) }) h (lit< tt)
-
-pub same_size : (n : ℤ) → unsigned_abs (neg_ℤ n) ≡ unsigned_abs n
-same_size (pos zero) = refl
-same_size (pos (suc n)) = refl
-same_size (negsuc n) = refl
-
-pub integer_at : (n : ℤ) → Fits n → value (frac_at (whole n)) ≡ whole n
-integer_at n h = value-frac_at (whole n) (fits_representable n h)
-
-pub opposite_at : (n : ℤ) → Fits n → value (frac_at (neg_ℚ (whole n))) ≡ neg_ℚ (whole n)
-opposite_at n h = value-frac_at (neg_ℚ (whole n)) (subst IsRepresentable (whole-neg_ℤ n) (fits_representable (neg_ℤ n) (subst (λ k. k < 2 ^ 127) (sym (same_size n)) h)))
+-- the negative of an integer is a fraction
+opposite_at : (n : ℤ) → Fits n → value (frac_at (neg_ℚ (whole n))) ≡ neg_ℚ (whole n)
+opposite_at n h = value-frac_at (neg_ℚ (whole n)) (negative_fits (whole n) (whole_fits n h))
 
 -- ---- one bound
 upper_number : (n y : ℚ) → neg_ℚ n +ℚ (whole (pos 1) *ℚ y +ℚ whole (pos 0)) ≡ y -ℚ n
@@ -50,11 +37,11 @@ lower_number n y = ring (n ∷ y ∷ []) (search reads depth 30) tt
 
 form_is : (upper : Bool) (unknown : ℕ) (limit : ℤ) → Fits limit → (u : Unknowns) → form_number (bound_form upper unknown limit).form u ≡ excess upper limit (u unknown)
 form_is true unknown limit h u =
-    ap₂ (λ c k. c +ℚ (k *ℚ u unknown +ℚ whole (pos 0))) (opposite_at limit h) (integer_at (pos 1) (lit< tt)) ∙ upper_number (whole limit) (u unknown)
+    ap₂ (λ c k. c +ℚ (k *ℚ u unknown +ℚ whole (pos 0))) (opposite_at limit h) (value-whole (pos 1) (lit< tt)) ∙ upper_number (whole limit) (u unknown)
 form_is false unknown limit h u =
-    ap₂ (λ c k. c +ℚ (k *ℚ u unknown +ℚ whole (pos 0))) (integer_at limit h) (opposite_at (pos 1) (lit< tt)) ∙ lower_number (whole limit) (u unknown)
+    ap₂ (λ c k. c +ℚ (k *ℚ u unknown +ℚ whole (pos 0))) (value-whole limit h) (opposite_at (pos 1) (lit< tt)) ∙ lower_number (whole limit) (u unknown)
 
-kind_is : (upper : Bool) (unknown : ℕ) (limit : ℤ) → (bound_form upper unknown limit).kind ≡ AtMost
+pub kind_is : (upper : Bool) (unknown : ℕ) (limit : ℤ) → (bound_form upper unknown limit).kind ≡ AtMost
 kind_is true unknown limit = refl
 kind_is false unknown limit = refl
 

@@ -35,7 +35,9 @@ use Rattle.dcx_branch.specs.Rows.{node_rows}
 use Rattle.dcx_branch.specs.Between.{IsBetween}
 use Rattle.dcx_branch.specs.Leaves.{first_passing}
 use Rattle.dcx_lp_solve.specs.Stops.{run_stop}
-use Rattle.dcx_branch.specs.Run.{Best, State, start, best_value, IsPruned, IsBetter, AreWhole, IsFirstSplit, unknowns_in, Turn, Cut, Found, Divided, TurnsOut, after, IsLeafTurn, bounds_in, IsNode, leaf_passing, FormsLeaf, Steps, Reaches, here, next, Ends, Takes, no_node, one_node, EndsWith, PassesNodes, FallsAtRoot, NodeStops, at_rows, at_leaf, StopsAtNode}
+use Rattle.dcx_branch.specs.Run.{Best, State, start, best_value, IsPruned, IsBetter, AreWhole, IsFirstSplit, unknowns_in, Turn, Cut, Found, Divided, TurnsOut}
+use Rattle.dcx_branch.specs.Run.{after, IsLeafTurn, bounds_in, IsNode, leaf_passing, FormsLeaf, Steps, Reaches, here, next, Ends, Takes, no_node, one_node}
+use Rattle.dcx_branch.specs.Run.{EndsWith, PassesNodes, FallsAtRoot, NodeStops, at_rows, at_leaf, StopsAtNode}
 use Rattle.dcx_branch.specs.Answers.{IsPointAt, EndsAt, RunsAreOne}
 use Rattle.dcx_branch.proofs.Between.{one_between, between_not_whole}
 
@@ -354,20 +356,27 @@ module _ (p : Problem) (q : Program Frac) (limit : ℕ) where
 
 pub runs_are_one : RunsAreOne
 runs_are_one p q limit allowed (Ok (Optimal v x t n)) (Ok (Optimal w y u m)) h k = optimal_same p q limit allowed v w x y t u n m h.0 k.0 h.1 k.1
-runs_are_one p q limit allowed (Ok (Optimal v x t n)) (Ok (Infeasible u m)) h k = none-some h.1.best (sym (closed_same p q limit allowed (Some h.1.best) None n m h.0 k.0 (ended_by p q limit (Some h.1.best) n t h.1.ends) (ended_by p q limit None m u k.1)).0)
-runs_are_one p q limit allowed (Ok (Infeasible t n)) (Ok (Optimal w y u m)) h k = none-some k.1.best (closed_same p q limit allowed None (Some k.1.best) n m h.0 k.0 (ended_by p q limit None n t h.1) (ended_by p q limit (Some k.1.best) m u k.1.ends)).0
-runs_are_one p q limit allowed (Ok (Infeasible t n)) (Ok (Infeasible u m)) h k = (closed_same p q limit allowed None None n m h.0 k.0 (ended_by p q limit None n t h.1) (ended_by p q limit None m u k.1)).1
-runs_are_one p q limit allowed (Ok (Optimal v x t n)) (Err RelaxationUnbounded) h k = absurd (closed_falls p q limit allowed (Some h.1.best) n h.0 (ended_by p q limit (Some h.1.best) n t h.1.ends) k.0 k.1)
+runs_are_one p q limit allowed (Ok (Optimal v x t n)) (Ok (Infeasible u m)) h k = none-some h.1.best
+    (sym (closed_same p q limit allowed (Some h.1.best) None n m h.0 k.0 (ended_by p q limit (Some h.1.best) n t h.1.ends) (ended_by p q limit None m u k.1)).0)
+runs_are_one p q limit allowed (Ok (Infeasible t n)) (Ok (Optimal w y u m)) h k = none-some k.1.best (closed_same p q limit allowed None (Some k.1.best) n m h.0 k.0
+    (ended_by p q limit None n t h.1) (ended_by p q limit (Some k.1.best) m u k.1.ends)).0
+runs_are_one p q limit allowed (Ok (Infeasible t n)) (Ok (Infeasible u m)) h k = (closed_same p q limit allowed None None n m h.0 k.0 (ended_by p q limit None n t h.1)
+    (ended_by p q limit None m u k.1)).1
+runs_are_one p q limit allowed (Ok (Optimal v x t n)) (Err RelaxationUnbounded) h k = absurd (closed_falls p q limit allowed (Some h.1.best) n h.0
+    (ended_by p q limit (Some h.1.best) n t h.1.ends) k.0 k.1)
 runs_are_one p q limit allowed (Ok (Optimal v x t n)) (Err (NodeLimit c)) h k = absurd (closed_passes p q limit allowed (Some h.1.best) n h.0 (ended_by p q limit (Some h.1.best) n t h.1.ends) k.1)
-runs_are_one p q limit allowed (Ok (Optimal v x t n)) (Err (Node m stop)) h k = absurd (closed_stops p q limit allowed (Some h.1.best) n m stop h.0 (ended_by p q limit (Some h.1.best) n t h.1.ends) k.0 k.1)
+runs_are_one p q limit allowed (Ok (Optimal v x t n)) (Err (Node m stop)) h k = absurd (closed_stops p q limit allowed (Some h.1.best) n m stop h.0
+    (ended_by p q limit (Some h.1.best) n t h.1.ends) k.0 k.1)
 runs_are_one p q limit allowed (Ok (Optimal v x t n)) (Err Memory) h k = refl
 runs_are_one p q limit allowed (Ok (Infeasible t n)) (Err RelaxationUnbounded) h k = absurd (closed_falls p q limit allowed None n h.0 (ended_by p q limit None n t h.1) k.0 k.1)
 runs_are_one p q limit allowed (Ok (Infeasible t n)) (Err (NodeLimit c)) h k = absurd (closed_passes p q limit allowed None n h.0 (ended_by p q limit None n t h.1) k.1)
 runs_are_one p q limit allowed (Ok (Infeasible t n)) (Err (Node m stop)) h k = absurd (closed_stops p q limit allowed None n m stop h.0 (ended_by p q limit None n t h.1) k.0 k.1)
 runs_are_one p q limit allowed (Ok (Infeasible t n)) (Err Memory) h k = refl
-runs_are_one p q limit allowed (Err RelaxationUnbounded) (Ok (Optimal v x t n)) h k = absurd (closed_falls p q limit allowed (Some k.1.best) n k.0 (ended_by p q limit (Some k.1.best) n t k.1.ends) h.0 h.1)
+runs_are_one p q limit allowed (Err RelaxationUnbounded) (Ok (Optimal v x t n)) h k = absurd (closed_falls p q limit allowed (Some k.1.best) n k.0
+    (ended_by p q limit (Some k.1.best) n t k.1.ends) h.0 h.1)
 runs_are_one p q limit allowed (Err (NodeLimit c)) (Ok (Optimal v x t n)) h k = absurd (closed_passes p q limit allowed (Some k.1.best) n k.0 (ended_by p q limit (Some k.1.best) n t k.1.ends) h.1)
-runs_are_one p q limit allowed (Err (Node m stop)) (Ok (Optimal v x t n)) h k = absurd (closed_stops p q limit allowed (Some k.1.best) n m stop k.0 (ended_by p q limit (Some k.1.best) n t k.1.ends) h.0 h.1)
+runs_are_one p q limit allowed (Err (Node m stop)) (Ok (Optimal v x t n)) h k = absurd (closed_stops p q limit allowed (Some k.1.best) n m stop k.0
+    (ended_by p q limit (Some k.1.best) n t k.1.ends) h.0 h.1)
 runs_are_one p q limit allowed (Err Memory) (Ok (Optimal v x t n)) h k = refl
 runs_are_one p q limit allowed (Err RelaxationUnbounded) (Ok (Infeasible t n)) h k = absurd (closed_falls p q limit allowed None n k.0 (ended_by p q limit None n t k.1) h.0 h.1)
 runs_are_one p q limit allowed (Err (NodeLimit c)) (Ok (Infeasible t n)) h k = absurd (closed_passes p q limit allowed None n k.0 (ended_by p q limit None n t k.1) h.1)

@@ -119,7 +119,8 @@ module _ (p : Problem) (s : Setting) (q : Program Frac) (limit : ℕ) (given : I
     placed = inl refl;
   }
 
-  stepped : (a b : State) (nodes : List BranchNode) (node : BranchNode) → IsSound p s q a nodes → (step : Steps p q limit a b) → IsListed p q step.box step.solved step.turn node → IsSound p s q b (nodes ++ node ∷ [])
+  stepped : (a b : State) (nodes : List BranchNode) (node : BranchNode) → IsSound p s q a nodes → (step : Steps p q limit a b) → IsListed p q step.box step.solved step.turn node
+      → IsSound p s q b (nodes ++ node ∷ [])
   stepped a b nodes node h step is =
       subst (λ (c : State). IsSound p s q c (nodes ++ node ∷ [])) (sym step.next)
       (one_more a nodes h step.box step.rest step.first step.solved step.known step.node step.turn node step.turns is)

@@ -1,7 +1,7 @@
 -- What the answer of a node's scaled program shows of the node's box, in the numbers that a leaf is handed out with.
 use Rattle.std.proofs.Common.{◌≡◌, ℕ, zero, suc, ◌+◌, ◌-◌, ◌<◌, ◌≤◌, arith, List, [], ◌∷◌, ◌++◌, length, map, Some, Ok, slice_get}
 use Rattle.std.proofs.Common.{refl, sym, ap, ap₂, ◌∙◌, subst, pos, true, add-zero, append_assoc, length-append, drop}
-use Rattle.std.specs.Prelude.{Bool, false, ℤ, Result, sum_by, slice_range, option_map}
+use Rattle.std.specs.Prelude.{Result, sum_by, slice_range, option_map}
 use Rattle.std.specs.List.{All}
 use Rattle.std.proofs.lemmas.List.{length-map, length-take-le, length-drop}
 use Rattle.std.proofs.lemmas.Option.{none-some, same_Some, slice_get-map, slice_get_within}
@@ -48,13 +48,13 @@ use Rattle.dcx_right.specs.Boxes.{Box}
 use Rattle.dcx_right.specs.Trees.{Weight, all_exceeded, BoundsBelow, ShowsEmpty}
 use Rattle.dcx_branch.specs.declared.bound.BoundAt.{BoundAt}
 use Rattle.dcx_answer.specs.declared.branch_tree.BoundWeight.{BoundWeight}
-use Rattle.dcx_branch.specs.Rows.{bound_form, bound_row, bound_rows, node_rows}
+use Rattle.dcx_branch.specs.Rows.{bound_row, bound_rows, node_rows}
 use Rattle.dcx_branch.specs.Nodes.{excess, bound_number, node_program, IsBoundOf, weights_from, NodesShow}
 use Rattle.dcx_branch.specs.Leaves.{bound_duals, AreBoundDuals, IsLeaf}
 use Rattle.dcx_branch.specs.Run.{unknowns_in}
 use Rattle.dcx_right.specs.WholeAnswers.{weight_of, shown_by}
 use Rattle.dcx_branch.proofs.Lifting.{back}
-use Rattle.dcx_branch.proofs.Linear.{node_linear}
+use Rattle.dcx_branch.proofs.Linear.{kind_is, node_linear}
 use Rattle.dcx_branch.proofs.Leaves.{answers_are_leaves}
 use Rattle.dcx_branch.proofs.Members.{Each}
 
@@ -91,10 +91,6 @@ row_of_bound (a ∷ bs) (suc i) b e = row_of_bound bs i b e
 pub rows_counted : (bs : List BoundAt) → length (bound_rows bs) ≡ length bs
 rows_counted [] = refl
 rows_counted (b ∷ bs) = ap suc (rows_counted bs)
-
-kind_of_bound : (upper : Bool) (unknown : ℕ) (limit : ℤ) → (bound_form upper unknown limit).kind ≡ AtMost
-kind_of_bound true unknown limit = refl
-kind_of_bound false unknown limit = refl
 
 module _ (p : Problem) (s : Setting) (q : Program Frac) (given : IsReducedAt p s q) (box : Box) (bs : List BoundAt) (each : Each (IsBoundOf p box) bs) (fit : All (λ (b : BoundAt). Fits b.limit) bs)
     (known : HasKinds (node_rows q bs)) (program : tab.Program) (a : LpAnswer) (made : IsMade (node_rows q bs) program) (right : IsRight program a) where
@@ -146,7 +142,7 @@ module _ (p : Problem) (s : Setting) (q : Program Frac) (given : IsReducedAt p s
       let i = length q.rows + n in
       let row = back q.rows (bound_rows bs) n (bound_row b) (row_of_bound bs n b at) in
       let scaled = scaled_program (node_rows q bs) program made in
-      inequality_there (node_rows q bs) program known scaled i (facts_of (node_rows q bs) program known scaled i (bound_row b) row) (kind_of_bound b.upper b.place.unknown b.limit)
+      inequality_there (node_rows q bs) program known scaled i (facts_of (node_rows q bs) program known scaled i (bound_row b) row) (kind_is b.upper b.place.unknown b.limit)
 
   bounds_same : (ds : List BoundWeight) → length q.rows + length bs ≤ length a.rows → AreBoundDuals a (length q.rows) bs ds → map weight_of ds ≡ weights_from m (length q.rows) bs
   bounds_same ds enough are =

@@ -10,8 +10,10 @@ use Rattle.dcx_math.proofs.Ring.{ring, reads}
 use Rattle.dcx_frac.specs.declared.fraction.Frac.{Frac}
 use Rattle.dcx_frac.specs.Frac.{num_of, den_of, value}
 use Rattle.dcx_frac.specs.Fits.{Fits}
+use Rattle.dcx_frac.proofs.Integers.{whole_value}
 use Rattle.dcx_atom.specs.Formed.{zero_frac}
 use Rattle.dcx_atom.proofs.FormedSums.{value-zero_frac}
+use Rattle.dcx_atom.proofs.Fractions.{unsigned_abs-neg}
 use Rattle.dcx_linear.specs.declared.row.UnknownKind.{UnknownKind}
 use Rattle.dcx_linear.specs.declared.row.UnknownKind.TheVariants.{Free, Nonneg, Nonpos}
 use Rattle.dcx_linear.specs.Size.{columns_for}
@@ -23,9 +25,8 @@ use Rattle.dcx_branch.specs.declared.bound.BoundAt.{BoundAt}
 use Rattle.dcx_branch.specs.Rows.{node_rows}
 use Rattle.dcx_branch.specs.Between.{IsBetween, HasRoom}
 use Rattle.dcx_branch.specs.Run.{unknowns_in}
-use Rattle.dcx_branch.proofs.Between.{one_between, between_not_whole, divided_between, one_whole, divided_room}
+use Rattle.dcx_branch.proofs.Between.{one_between, between_not_whole, divided_between, divided_room}
 use Rattle.dcx_branch.proofs.Rooms.{size_fits, room_fits, next_fits}
-use Rattle.dcx_branch.proofs.Linear.{same_size}
 use Rattle.dcx_branch.proofs.Told.{tells}
 
 -- ---- the numbers of unknowns
@@ -64,7 +65,7 @@ pub record FitBoth (n : ℤ) : Type 0 where
 
 below_room : (f : Frac) (n : ℤ) → IsBetween (value f) n → HasRoom n
 below_room f n h =
-    let some : den_of f ≢ pos 1 = λ e. between_not_whole n (num_of f) (value f) h (one_whole f e) in
+    let some : den_of f ≢ pos 1 = λ e. between_not_whole n (num_of f) (value f) h (whole_value f e) in
     subst HasRoom (one_between (int_div_euclid (num_of f) (den_of f)) n (value f) (divided_between f some) h) (divided_room f some)
 
 opposite_next : (n : ℤ) → neg_ℤ (n +ℤ pos 1) +ℤ pos 1 ≡ neg_ℤ n
@@ -84,7 +85,7 @@ before_size (negsuc (suc a)) = omega (arith, ints)
 
 turned_fit : (n : ℤ) → HasRoom (neg_ℤ (n +ℤ pos 1)) → FitBoth n
 turned_fit n h =
-    let same = same_size (n +ℤ pos 1) in
+    let same = unsigned_abs-neg (n +ℤ pos 1) in
     let before = before_size n in
     record { this = size_fits (unsigned_abs n) (omega (arith, h, same, before)); following = size_fits (unsigned_abs (n +ℤ pos 1)) (omega (arith, h, same)) }
 
@@ -93,7 +94,8 @@ signed_fit y n (plain f e) h = let room = below_room f n (subst (λ z. IsBetween
 signed_fit y n (turned f e) h = turned_fit n (below_room f (neg_ℤ (n +ℤ pos 1)) (turned_between (value f) n (subst (λ z. IsBetween z n) e h)))
 
 -- those beside an unknown of a node that is solved
-pub split_fits : (q : Program Frac) (limit : ℕ) (bs : List BoundAt) (s : Solved) → IsSolved limit (node_rows q bs) s → (unknown : ℕ) (n : ℤ) → IsBetween (unknowns_in s.program s.answer unknown) n → FitBoth n
+pub split_fits : (q : Program Frac) (limit : ℕ) (bs : List BoundAt) (s : Solved) → IsSolved limit (node_rows q bs) s → (unknown : ℕ) (n : ℤ)
+    → IsBetween (unknowns_in s.program s.answer unknown) n → FitBoth n
 split_fits q limit bs s is unknown n h =
     let t = tells q limit bs s is in
     signed_fit _ n (signed_from s.answer.columns 0 q.kinds t.columns.one_sided unknown) (subst (λ y. IsBetween y n) (sym (t.same unknown)) h)

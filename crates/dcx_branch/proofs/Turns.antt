@@ -94,7 +94,8 @@ module _ (p : Problem) (s : Setting) (q : Program Frac) (limit : ℕ) (given : I
   leaf_bounds : (duals : List Array) (bounds : List BoundWeight) → a.status ≡ status.Optimal → IsLeaf p a (length q.rows) bs duals bounds → BoundsBelow p s box (value a.number) (shown_by duals bounds)
   leaf_bounds duals bounds e leaf = shown.leaf_bounds p s q given box bs (each_bound p box) fitting known solved.program a is.made right e enough duals bounds leaf
 
-  leaf_empty : (duals : List Array) (bounds : List BoundWeight) → a.status ≡ status.Infeasible → IsLeaf p a (length q.rows) bs duals bounds → ShowsEmpty p s box (shown_by duals bounds) (value a.number)
+  leaf_empty : (duals : List Array) (bounds : List BoundWeight) → a.status ≡ status.Infeasible → IsLeaf p a (length q.rows) bs duals bounds
+      → ShowsEmpty p s box (shown_by duals bounds) (value a.number)
   leaf_empty duals bounds e leaf = shown.leaf_empty p s q given box bs (each_bound p box) fitting known solved.program a is.made right e enough duals bounds leaf
 
   within : a.status ≡ status.Optimal → Each (λ (k : Place). IsWithin (box k.variable k.entry) (x k.unknown)) (places p.variables)
@@ -119,7 +120,8 @@ module _ (p : Problem) (s : Setting) (q : Program Frac) (limit : ℕ) (given : I
   cut_tree best (Split k j n) turns listed = absurd listed
 
   -- one with a better point
-  pub found_tree : (best : Option ℚ) (leaf : BranchNode) → TurnsOut (places p.variables) best solved.program a Found → IsLeafOf p a (length q.rows) bs leaf → HasTree p s box (Some (value a.number)) best leaf
+  pub found_tree : (best : Option ℚ) (leaf : BranchNode) → TurnsOut (places p.variables) best solved.program a Found → IsLeafOf p a (length q.rows) bs leaf
+      → HasTree p s box (Some (value a.number)) best leaf
   found_tree best (Bound duals bounds) turns listed = record {
     tree = trees.Bound (shown_by duals bounds);
     lists = bound duals bounds;

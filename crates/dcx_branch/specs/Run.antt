@@ -154,7 +154,8 @@ IsListed p q box s (Divided place n) node = node ≡ Split place.variable place.
 -- the run comes to this state, and the nodes that are taken are listed so, in order
 pub data Takes (p : Problem) (q : Program Frac) (limit : ℕ) : State → List BranchNode → Type 0 where
   no_node : Takes p q limit (start p) []
-  one_node : (a b : State) (nodes : List BranchNode) (node : BranchNode) → Takes p q limit a nodes → (step : Steps p q limit a b) → IsListed p q step.box step.solved step.turn node → Takes p q limit b (nodes ++ node ∷ [])
+  one_node : (a b : State) (nodes : List BranchNode) (node : BranchNode) → Takes p q limit a nodes → (step : Steps p q limit a b) → IsListed p q step.box step.solved step.turn node
+      → Takes p q limit b (nodes ++ node ∷ [])
 
 -- the run ends with this best point, so many nodes and this tree
 abbrev pub EndsWith : Problem → Program Frac → ℕ → Option Best → ℕ → List BranchNode → Type 0

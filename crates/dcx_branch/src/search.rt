@@ -174,7 +174,8 @@ impl Search {
         requires unknowns { variable_unknowns problem.now.variables ≤ length reduced.now.program.kinds }
         requires rows { sum_by constraint_rows problem.now.constraints ≤ length reduced.now.program.rows }
         ensures taken { IfOk result (TakenAs problem.now reduced.now.program limit (box_bounds places.now self.now.sides.items) (found_value self.now.best)) }
-        ensures stops { (s : ParameterNumbers) → IsReducedAt problem.now s reduced.now.program → IsAt problem.now reduced.now.program limit self.now → IfErr result (StopsNext problem.now reduced.now.program limit self.now.taken) }
+        ensures stops { (s : ParameterNumbers) → IsReducedAt problem.now s reduced.now.program → IsAt problem.now reduced.now.program limit self.now
+            → IfErr result (StopsNext problem.now reduced.now.program limit self.now.taken) }
     {
         let best = self.best_value();
         match take(alloc, problem, reduced, places, &self.sides, &best, limit) {
@@ -199,7 +200,8 @@ impl Search {
         requires rows { sum_by constraint_rows problem.now.constraints ≤ length reduced.now.program.rows }
         ensures count { OnOk result (self.new.taken ≡ self.old.taken + 1) }
         ensures goes { IsAt problem.now reduced.now.program limit self.old → IfOk result (λ more. IsAtOrDone problem.now reduced.now.program limit more self.new) }
-        ensures stops { (s : ParameterNumbers) → IsReducedAt problem.now s reduced.now.program → IsAt problem.now reduced.now.program limit self.old → IfErr result (StopsNext problem.now reduced.now.program limit self.old.taken) }
+        ensures stops { (s : ParameterNumbers) → IsReducedAt problem.now s reduced.now.program → IsAt problem.now reduced.now.program limit self.old
+            → IfErr result (StopsNext problem.now reduced.now.program limit self.old.taken) }
     {
         let taken = self.next_taken(alloc, problem, reduced, places, limit)?;
         Ok(self.enter(taken)?)
@@ -221,7 +223,8 @@ impl Search {
         requires rows { sum_by constraint_rows problem.now.constraints ≤ length reduced.now.program.rows }
         ensures few { OnOk result (self.new.taken ≤ nodes) }
         ensures done { IsAt problem.now reduced.now.program limit self.old → OnOk result (IsDone problem.now reduced.now.program limit self.new) }
-        ensures stops { (s : ParameterNumbers) → IsReducedAt problem.now s reduced.now.program → IsAt problem.now reduced.now.program limit self.old → IfErr result (λ e. IsEndOf problem.now reduced.now.program limit nodes (Err e)) }
+        ensures stops { (s : ParameterNumbers) → IsReducedAt problem.now s reduced.now.program → IsAt problem.now reduced.now.program limit self.old
+            → IfErr result (λ e. IsEndOf problem.now reduced.now.program limit nodes (Err e)) }
     {
         let mut open = true;
         'nodes: while open {

@@ -8,15 +8,16 @@ ghost use Rattle.dcx_cache.specs.Answers.{IsAnswerOf, Stops};
 ghost use Rattle.dcx_cache.specs.Sessions.{KeepsMap};
 
 use crate::program::formed;
+use crate::scaled::answered_scaled;
 use crate::session::Last;
-use crate::stops::reading_stop;
 use dcx_answer::{Answer, Stop};
 use dcx_frac::Frac;
-use dcx_graph::{Reduced, map_back};
+use dcx_graph::Reduced;
 use dcx_linear::ParamForm;
-use dcx_lp_solve::{run_stop, solve_rows};
+use dcx_lp_solve::{rows_stop, run_stop};
 use dcx_point::Setting;
 use dcx_rules::Verdict;
+use dcx_std::integer_rows;
 use dcx_steps::Steps;
 use dcx_tree::Problem;
 use std::alloc::Global;
@@ -37,19 +38,11 @@ pub(crate) fn answered(
     ensures answer { IfOk result (λ r. IsAnswerOf problem.now setting.now limit reduced.program r.1.solved r.0) }
     ensures stops { IfErr result (Stops problem.now setting.now limit) }
 {
-    let solved = match solve_rows(alloc, reduced.rows(), limit) {
-        Ok(solved) => solved,
+    match integer_rows(alloc, reduced.rows()) {
+        Ok(program) => answered_scaled(alloc, problem, setting, reduced, program, limit),
         Err(stop) => {
             drop(reduced);
-            return Err(run_stop(stop));
-        }
-    };
-    match map_back(alloc, problem, setting, &reduced, &solved.answer) {
-        Ok(answer) => Ok((answer, Last { reduced, solved })),
-        Err(stop) => {
-            drop(reduced);
-            drop(solved);
-            Err(reading_stop(stop))
+            Err(run_stop(rows_stop(stop)))
         }
     }
 }

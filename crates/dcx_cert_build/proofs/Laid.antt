@@ -2,6 +2,7 @@
 use Rattle.std.proofs.Common.{◌≡◌, ℕ, ◌+◌, ◌<◌, Bool, true, false, List, [], ◌++◌, length, map, Option, Some, Result, Ok, slice_get, slice_index_or, sym, ap, ap₂, ◌∙◌, arith, length-append}
 use Rattle.std.proofs.lemmas.List.{length-map}
 use Rattle.std.proofs.lemmas.Option.{slice_get-get_or}
+use Rattle.dcx_math.proofs.Lists.{element_at}
 use Rattle.dcx_frac.specs.declared.fraction.Frac.{Frac}
 use Rattle.dcx_frac.specs.declared.fraction.Passes.{Passes}
 use Rattle.dcx_shape.specs.Sides.{entries_of}
@@ -20,7 +21,6 @@ use Rattle.dcx_entries.specs.Entries.{alone}
 use Rattle.dcx_entries.specs.Nodes.{Table, table_forms, NodeEntryBy, AreFormed}
 use Rattle.dcx_entries.specs.Standing.{args_among}
 use Rattle.dcx_entries.specs.Kept as kept
-use Rattle.dcx_entries.proofs.Each.{some_before}
 use Rattle.dcx_formed.proofs.Lists.{joined_same, joined_none, map-joined}
 use Rattle.dcx_graph.specs.declared.origin.Origin.{Origin}
 use Rattle.dcx_graph.specs.declared.origin.Origin.TheVariants as origins
@@ -71,7 +71,7 @@ module _ {C : Type 0} (of_number : Frac → C) (number_of : C → Option Frac) (
 
     at_node : (i : ℕ) → i < length p.tree → map graph_origin (kept.node_rows of_number i (Own i)) ≡ node_rows p.tree i (is_reduced rules p i) (slice_get p.tree i)
     at_node i lt =
-        let n = some_before p.tree i lt in
+        let n = element_at p.tree i lt in
         let count = formed.count in
         let gives = formed.each i n.0 (Own i) lt n.1 (slice_get-get_or table i [] (omega (arith, lt, count))) in
         node_origins _ i n.0 (Own i) (is_reduced rules p i) gives.0 gives.1 ∙ ap (node_rows p.tree i (is_reduced rules p i)) (sym n.1)

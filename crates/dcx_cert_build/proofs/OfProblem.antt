@@ -25,7 +25,8 @@ module _ (p : Problem) (s : Setting) (q : Program Frac) (a : LpAnswer) (is : IsA
   pub rows_noted : length a.rows ≡ length q.rows
   rows_noted = is.parts.notes ∙ (scaled_program (rows_of q) is.integer is.made).count
 
-module _ (p : Problem) (setting : Pairs) (given : HaveArrays p setting) (q : Program Frac) (laid : IsLaidOut p q) (a : LpAnswer) (noted : length a.rows ≡ length q.rows) (kinds : List UnknownKind) where
+module _ (p : Problem) (setting : Pairs) (given : HaveArrays p setting) (q : Program Frac) (laid : IsLaidOut p q) (a : LpAnswer) (noted : length a.rows ≡ length q.rows)
+    (kinds : List UnknownKind) where
   pub cert_of : (x : Answer) (cert : Cert) → IsRead p kinds a x → IsBuilt p setting q.origins a x cert → IsCertOf (problem_outline p) cert
   cert_of (answers.Optimal number point duals) cert read (weights, are, is) =
       subst (IsCertOf (problem_outline p)) (sym is) (record {

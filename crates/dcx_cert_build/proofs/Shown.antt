@@ -6,6 +6,7 @@ use Rattle.std.proofs.Props.{props}
 use Rattle.std.proofs.Math.Logic.{∥∥₁_elim}
 use Rattle.std.proofs.lemmas.List.Elements.{All-head, All-tail}
 use Rattle.std.proofs.lemmas.Option.{same_Some, slice_get-map, slice_get_within, get_or_from_slice_get}
+use Rattle.dcx_math.proofs.Lists.{map-map}
 use Rattle.dcx_frac.specs.declared.fraction.Frac.{Frac}
 use Rattle.dcx_shape.specs.declared.shape.Shape.{Shape}
 use Rattle.dcx_shape.specs.Shape.{sides_of}
@@ -22,7 +23,7 @@ use Rattle.dcx_tree.proofs.Sublists.{distinct_front, distinct_back}
 use Rattle.dcx_lp_answer.specs.declared.answer.LpStatus.{LpStatus}
 use Rattle.dcx_lp_answer.specs.declared.answer.RowNote.{RowNote}
 use Rattle.dcx_lines.specs.Shown.{variables_of, constraints_of}
-use Rattle.dcx_formed.proofs.Lists.{map-map, all_at}
+use Rattle.dcx_formed.proofs.Lists.{all_at}
 use Rattle.dcx_postsolve.specs.Points.{IsPointOf}
 use Rattle.dcx_postsolve.specs.Duals.{AreDuals}
 use Rattle.dcx_graph.specs.Fixed.{HaveArrays}

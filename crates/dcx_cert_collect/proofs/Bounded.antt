@@ -1,5 +1,6 @@
 -- The pass raises no bound: the total, what reaches the variables and what isn't handed on yet, times the values, never rise.
-use Rattle.std.proofs.Common.{◌≡◌, ◌⊎◌, ℕ, zero, suc, ◌+◌, ◌<◌, ◌≤◌, arith, Bool, true, false, List, [], ◌∷◌, ◌++◌, map, length, take, drop, get_or, refl, sym, ap, ap₂, ◌∙◌, subst, inl, inr, Option, Some, None, IsSome, Result, Ok, Err, IfOk, slice_get, pos}
+use Rattle.std.proofs.Common.{◌≡◌, ◌⊎◌, ℕ, zero, suc, ◌+◌, ◌<◌, ◌≤◌, arith, Bool, true, false, List, [], ◌∷◌, ◌++◌, map, length, take, drop, get_or, refl, sym}
+use Rattle.std.proofs.Common.{ap, ap₂, ◌∙◌, subst, inl, inr, Option, Some, None, IsSome, Result, Ok, Err, IfOk, slice_get, pos}
 use Rattle.std.specs.Prelude.{option_map, unwrap_or}
 use Rattle.std.proofs.lemmas.List.{length-take-le, take-append-drop, get_or-map}
 use Rattle.std.proofs.lemmas.Option.{slice_get-get_or}
@@ -43,7 +44,8 @@ use Rattle.dcx_cert_collect.specs.Shares.{frac_in, Share, with_shares}
 use Rattle.dcx_cert_collect.specs.Starts.{start_of, place_of}
 use Rattle.dcx_cert_collect.specs.Calls.{unless, slopes_stop, slope_shares, slope_frac, linear_shares, pairing_shares}
 use Rattle.dcx_cert_collect.specs.declared.pairs.Scaling.TheVariants.{ByRight, ByLeft, Divided}
-use Rattle.dcx_cert_collect.specs.Pass.{Kept, begin, or_passes, handed, with_below, with_total, counted, reached_by, reached_if, call_shares, pairing_hands, shares_if, node_reached, node_shares, HaveFractions, passed, step, then_on, pass_down}
+use Rattle.dcx_cert_collect.specs.Pass.{Kept, begin, or_passes, handed, with_below, with_total, counted, reached_by, reached_if, call_shares, pairing_hands}
+use Rattle.dcx_cert_collect.specs.Pass.{shares_if, node_reached, node_shares, HaveFractions, passed, step, then_on, pass_down}
 use Rattle.dcx_cert_collect.specs.Laws.{table_times, reached_times, HasKnownSide, MayHandOn, AreKnown}
 use Rattle.dcx_cert_collect.proofs.Starting.{start_all}
 use Rattle.dcx_cert_collect.proofs.Passing.{same_Ok, own_count, start_inside, passed_count}
@@ -63,10 +65,12 @@ sum_mapped g h [] = refl
 sum_mapped g h (x ∷ xs) = ap (λ r. g (h x) +ℚ r) (sum_mapped g h xs)
 
 -- products and quotients over pairs
-products_are : (p : Pairing) (ss : List Sides) (a : ℕ → Numbers) (j : ℕ) → products_at (pairs_of p ss j) a ≡ rat_sum_by (λ (q : Pair). a 0 q.left *ℚ a 1 q.right) (pairs_at p (sides_at ss 0) (sides_at ss 1) j)
+products_are : (p : Pairing) (ss : List Sides) (a : ℕ → Numbers) (j : ℕ) → products_at (pairs_of p ss j) a ≡ rat_sum_by (λ (q : Pair). a 0 q.left *ℚ a 1 q.right)
+    (pairs_at p (sides_at ss 0) (sides_at ss 1) j)
 products_are p ss a j = sum_mapped (λ (x : CallPair). a 0 x.left *ℚ a 1 x.right) (λ (q : Pair). record { left = q.left; right = q.right }) (pairs_at p (sides_at ss 0) (sides_at ss 1) j)
 
-quotients_are : (ss : List Sides) (a : ℕ → Numbers) (j : ℕ) → quotients_at (pairs_of Over ss j) a ≡ rat_sum_by (λ (q : Pair). a 0 q.left /ℚ a 1 q.right) (pairs_at Over (sides_at ss 0) (sides_at ss 1) j)
+quotients_are : (ss : List Sides) (a : ℕ → Numbers) (j : ℕ) → quotients_at (pairs_of Over ss j) a ≡ rat_sum_by (λ (q : Pair). a 0 q.left /ℚ a 1 q.right)
+    (pairs_at Over (sides_at ss 0) (sides_at ss 1) j)
 quotients_are ss a j = sum_mapped (λ (x : CallPair). a 0 x.left /ℚ a 1 x.right) (λ (q : Pair). record { left = q.left; right = q.right }) (pairs_at Over (sides_at ss 0) (sides_at ss 1) j)
 
 -- neither of two is there
@@ -105,7 +109,8 @@ same_shares : (nodes : List Node) (values : List (Option Array)) (i : ℕ) (o : 
 same_shares nodes values i None cs ws = refl
 same_shares nodes values i (Some call) cs ws = refl
 
-pub shares_told : (nodes : List Node) (values : List (Option Array)) (i : ℕ) (n : Node) (cs ws : List Frac) → IsNode nodes i n → node_shares nodes values i cs ws ≡ call_shares nodes values i n.call n.args (arg_sides nodes n) cs ws
+pub shares_told : (nodes : List Node) (values : List (Option Array)) (i : ℕ) (n : Node) (cs ws : List Frac) → IsNode nodes i n → node_shares nodes values i cs ws
+    ≡ call_shares nodes values i n.call n.args (arg_sides nodes n) cs ws
 shares_told nodes values i n cs ws at =
     same_shares nodes values i (call_at nodes i) cs ws
     ∙ ap (λ (o : Option Node). shares_at nodes values i (option_map (λ (m : Node). m.call) o) (unwrap_or (option_map (λ (m : Node). m.args) o) []) cs ws) at
@@ -166,7 +171,8 @@ module _ (names : Names) (nodes : List Node) (are : AreNodes shape_of nodes) (s 
     product_bound : (p : Pairing) (right : Bool) → ((j : ℕ) → j < entries_of n.sides → f i j ≡ rat_sum_by (λ (q : Pair). a 0 q.left *ℚ a 1 q.right) (pairs_at p (sides_at ss 0) (sides_at ss 1) j)) →
         dot u F ≡ dot t F +ℚ rat_sum_below (length cs) (λ j. number_at cs j *ℚ rat_sum_by (λ (q : Pair). a 0 q.left *ℚ a 1 q.right) (pairs_at p (sides_at ss 0) (sides_at ss 1) j)) →
         dot u F +ℚ whole (pos 0) ≤ℚ dot t F +ℚ own_times i cs
-    product_bound p right is e = level _ _ _ _ e (entries_are (entries_of n.sides) cs i (λ j. rat_sum_by (λ (q : Pair). a 0 q.left *ℚ a 1 q.right) (pairs_at p (sides_at ss 0) (sides_at ss 1) j)) size is)
+    product_bound p right is e = level _ _ _ _ e (entries_are (entries_of n.sides) cs i (λ j. rat_sum_by (λ (q : Pair). a 0 q.left *ℚ a 1 q.right)
+        (pairs_at p (sides_at ss 0) (sides_at ss 1) j)) size is)
 
     quotient_bound : ((j : ℕ) → j < entries_of n.sides → f i j ≡ rat_sum_by (λ (q : Pair). a 0 q.left /ℚ a 1 q.right) (pairs_at Over (sides_at ss 0) (sides_at ss 1) j)) →
         dot u F ≡ dot t F +ℚ rat_sum_below (length cs) (λ j. number_at cs j *ℚ rat_sum_by (λ (q : Pair). a 0 q.left /ℚ a 1 q.right) (pairs_at Over (sides_at ss 0) (sides_at ss 1) j)) →
@@ -182,11 +188,13 @@ module _ (names : Names) (nodes : List Node) (are : AreNodes shape_of nodes) (s 
     times_bound (Some x) r left right same h e =
         product_bound Times false
         (λ j c. value_is (calls.Pairing Times) same j ∙ first_in (entries_of n.sides) (λ k. products_at (pairs_of Times ss k) a) j c ∙ products_are Times ss a j)
-        (products_worth_left nodes n.args F (start_of nodes i) a before placed x.entries cs (pairs_at Times (sides_at ss 0) (sides_at ss 1)) (side_is n.args 0 x (omega (arith, two Times same)) left) t u start (below_of t u (pairing_shares nodes n.args ByLeft x.entries cs (pairs_at Times (sides_at ss 0) (sides_at ss 1))) e))
+        (products_worth_left nodes n.args F (start_of nodes i) a before placed x.entries cs (pairs_at Times (sides_at ss 0) (sides_at ss 1))
+        (side_is n.args 0 x (omega (arith, two Times same)) left) t u start (below_of t u (pairing_shares nodes n.args ByLeft x.entries cs (pairs_at Times (sides_at ss 0) (sides_at ss 1))) e))
     times_bound None (Some x) left right same h e =
         product_bound Times true
         (λ j c. value_is (calls.Pairing Times) same j ∙ first_in (entries_of n.sides) (λ k. products_at (pairs_of Times ss k) a) j c ∙ products_are Times ss a j)
-        (products_worth_right nodes n.args F (start_of nodes i) a before placed x.entries cs (pairs_at Times (sides_at ss 0) (sides_at ss 1)) (side_is n.args 1 x (omega (arith, two Times same)) right) t u start (below_of t u (pairing_shares nodes n.args ByRight x.entries cs (pairs_at Times (sides_at ss 0) (sides_at ss 1))) e))
+        (products_worth_right nodes n.args F (start_of nodes i) a before placed x.entries cs (pairs_at Times (sides_at ss 0) (sides_at ss 1))
+        (side_is n.args 1 x (omega (arith, two Times same)) right) t u start (below_of t u (pairing_shares nodes n.args ByRight x.entries cs (pairs_at Times (sides_at ss 0) (sides_at ss 1))) e))
     times_bound None None left right same h e = absurd (neither h)
 
     mat_times_bound : (o r : Option Array) → array_at values (get_or n.args 0 0) ≡ o → array_at values (get_or n.args 1 0) ≡ r → n.call ≡ calls.Pairing MatTimes → HasKnownSide MatTimes o r →
@@ -194,11 +202,15 @@ module _ (names : Names) (nodes : List Node) (are : AreNodes shape_of nodes) (s 
     mat_times_bound (Some x) r left right same h e =
         product_bound MatTimes false
         (λ j c. value_is (calls.Pairing MatTimes) same j ∙ first_in (entries_of n.sides) (λ k. products_at (pairs_of MatTimes ss k) a) j c ∙ products_are MatTimes ss a j)
-        (products_worth_left nodes n.args F (start_of nodes i) a before placed x.entries cs (pairs_at MatTimes (sides_at ss 0) (sides_at ss 1)) (side_is n.args 0 x (omega (arith, two MatTimes same)) left) t u start (below_of t u (pairing_shares nodes n.args ByLeft x.entries cs (pairs_at MatTimes (sides_at ss 0) (sides_at ss 1))) e))
+        (products_worth_left nodes n.args F (start_of nodes i) a before placed x.entries cs (pairs_at MatTimes (sides_at ss 0) (sides_at ss 1))
+        (side_is n.args 0 x (omega (arith, two MatTimes same)) left) t u start
+        (below_of t u (pairing_shares nodes n.args ByLeft x.entries cs (pairs_at MatTimes (sides_at ss 0) (sides_at ss 1))) e))
     mat_times_bound None (Some x) left right same h e =
         product_bound MatTimes true
         (λ j c. value_is (calls.Pairing MatTimes) same j ∙ first_in (entries_of n.sides) (λ k. products_at (pairs_of MatTimes ss k) a) j c ∙ products_are MatTimes ss a j)
-        (products_worth_right nodes n.args F (start_of nodes i) a before placed x.entries cs (pairs_at MatTimes (sides_at ss 0) (sides_at ss 1)) (side_is n.args 1 x (omega (arith, two MatTimes same)) right) t u start (below_of t u (pairing_shares nodes n.args ByRight x.entries cs (pairs_at MatTimes (sides_at ss 0) (sides_at ss 1))) e))
+        (products_worth_right nodes n.args F (start_of nodes i) a before placed x.entries cs (pairs_at MatTimes (sides_at ss 0) (sides_at ss 1))
+        (side_is n.args 1 x (omega (arith, two MatTimes same)) right) t u start
+        (below_of t u (pairing_shares nodes n.args ByRight x.entries cs (pairs_at MatTimes (sides_at ss 0) (sides_at ss 1))) e))
     mat_times_bound None None left right same h e = absurd (neither h)
 
     over_bound : (o r : Option Array) → array_at values (get_or n.args 1 0) ≡ r → n.call ≡ calls.Pairing Over → HasKnownSide Over o r →
@@ -206,11 +218,13 @@ module _ (names : Names) (nodes : List Node) (are : AreNodes shape_of nodes) (s 
     over_bound o (Some x) right same h e =
         quotient_bound
         (λ j c. value_is (calls.Pairing Over) same j ∙ first_in (entries_of n.sides) (λ k. quotients_at (pairs_of Over ss k) a) j c ∙ quotients_are ss a j)
-        (quotients_worth nodes n.args F (start_of nodes i) a before placed x.entries cs (pairs_at Over (sides_at ss 0) (sides_at ss 1)) (side_is n.args 1 x (omega (arith, two Over same)) right) t u start (below_of t u (pairing_shares nodes n.args Divided x.entries cs (pairs_at Over (sides_at ss 0) (sides_at ss 1))) e))
+        (quotients_worth nodes n.args F (start_of nodes i) a before placed x.entries cs (pairs_at Over (sides_at ss 0) (sides_at ss 1))
+        (side_is n.args 1 x (omega (arith, two Over same)) right) t u start (below_of t u (pairing_shares nodes n.args Divided x.entries cs (pairs_at Over (sides_at ss 0) (sides_at ss 1))) e))
     over_bound o None right same h e = cc
 
     -- what a node hands on or keeps is worth at most what its coefficients are
-    pub call_bound : (call : Call) → n.call ≡ call → MayHandOn values call n.args → ((m : AtomCall) → call ≡ calls.Atom m → AreFractionSlopes (atom_meaning m) ss ws) → handed t (call_shares nodes values i call n.args ss cs ws) ≡ Ok u →
+    pub call_bound : (call : Call) → n.call ≡ call → MayHandOn values call n.args → ((m : AtomCall) → call ≡ calls.Atom m → AreFractionSlopes (atom_meaning m) ss ws)
+        → handed t (call_shares nodes values i call n.args ss cs ws) ≡ Ok u →
         dot u F +ℚ reached_times (reached_by i call cs) f ≤ℚ dot t F +ℚ own_times i cs
     call_bound (calls.Variable v) same may fit e = ≤ℚ-from_≡ (ap₂ ◌+ℚ◌ (ap (λ xs. dot xs F) (sym (same_Ok {E = CollectStop} t u e))) (+ℚ_idr (own_times i cs)))
     call_bound (calls.Parameter q) same may fit e = absurd may
@@ -246,7 +260,8 @@ module _ (names : Names) (nodes : List Node) (are : AreNodes shape_of nodes) (s 
       ∙ rat_sum_below-same (length cs) _ _ (λ j c. ap (λ z. number_at cs j *ℚ z) (ap (λ k. F (k + j)) start ∙ flat-place nodes f i j b (omega (arith, c, size))))
 
   -- where its value is known, it counts
-  counted_bound : (i : ℕ) (x : Array) (cs t : List Frac) (kept after : Kept) → array_at values i ≡ Some x → kept.below ≡ t → with_total kept (or_passes (products_from kept.total (counted cs x.entries))) ≡ Ok after →
+  counted_bound : (i : ℕ) (x : Array) (cs t : List Frac) (kept after : Kept) → array_at values i ≡ Some x → kept.below ≡ t
+      → with_total kept (or_passes (products_from kept.total (counted cs x.entries))) ≡ Ok after →
       worth after ≡ value kept.total +ℚ reached_times kept.reached f +ℚ (dot t F +ℚ own_times i cs)
   counted_bound i x cs t kept after at is e = by (products_from kept.total (counted cs x.entries)) (products_from-exact kept.total (counted cs x.entries)) e
     where
@@ -255,7 +270,8 @@ module _ (names : Names) (nodes : List Node) (are : AreNodes shape_of nodes) (s 
           sum_listed (λ (g : Frac × Frac). value g.0 *ℚ value g.1) (length cs) (λ e. (frac_in cs e, frac_in x.entries e))
           ∙ rat_sum_below-same (length cs) _ _ (λ j c. ap₂ ◌*ℚ◌ (frac_value cs j) (frac_value x.entries j ∙ known.known i x at y j))
 
-      by : (r : Result Frac Passes) → IfOk r (λ z. value z ≡ value kept.total +ℚ rat_sum_by (λ (g : Frac × Frac). value g.0 *ℚ value g.1) (counted cs x.entries)) → with_total kept (or_passes r) ≡ Ok after →
+      by : (r : Result Frac Passes) → IfOk r (λ z. value z ≡ value kept.total +ℚ rat_sum_by (λ (g : Frac × Frac). value g.0 *ℚ value g.1) (counted cs x.entries))
+          → with_total kept (or_passes r) ≡ Ok after →
           worth after ≡ value kept.total +ℚ reached_times kept.reached f +ℚ (dot t F +ℚ own_times i cs)
       by (Ok z) exact h =
           ap worth (sym (same_Ok {E = CollectStop} (record { below = kept.below; reached = kept.reached; total = z }) after h))
@@ -265,7 +281,8 @@ module _ (names : Names) (nodes : List Node) (are : AreNodes shape_of nodes) (s 
       by (Err p) exact h = cc
 
   -- and else it hands on
-  handed_bound : (i : ℕ) → i < length nodes → (n : Node) → IsNode nodes i n → array_at values i ≡ None → (cs ws : List Frac) (kept after : Kept) → length cs ≡ entries_of n.sides → length kept.below ≡ start_of nodes i →
+  handed_bound : (i : ℕ) → i < length nodes → (n : Node) → IsNode nodes i n → array_at values i ≡ None → (cs ws : List Frac) (kept after : Kept) → length cs ≡ entries_of n.sides
+      → length kept.below ≡ start_of nodes i →
       ((m : AtomCall) → n.call ≡ calls.Atom m → AreFractionSlopes (atom_meaning m) (arg_sides nodes n) ws) →
       with_below kept (node_reached nodes i cs) (handed kept.below (node_shares nodes values i cs ws)) ≡ Ok after →
       worth after ≤ℚ value kept.total +ℚ reached_times kept.reached f +ℚ (dot kept.below F +ℚ own_times i cs)
@@ -277,7 +294,8 @@ module _ (names : Names) (nodes : List Node) (are : AreNodes shape_of nodes) (s 
       by (Ok u) is h =
           ≤ℚ_trans
           (≤ℚ-from_≡ (ap worth (sym (same_Ok {E = CollectStop} (record { below = u; reached = kept.reached ++ node_reached nodes i cs; total = kept.total }) after h))
-          ∙ ap (λ q. value kept.total +ℚ q +ℚ dot u F) (rat_sum_by-++ _ kept.reached (node_reached nodes i cs) ∙ ap (λ (rs : List Reached). reached_times kept.reached f +ℚ reached_times rs f) (reached_told nodes i n cs at))))
+          ∙ ap (λ q. value kept.total +ℚ q +ℚ dot u F) (rat_sum_by-++ _ kept.reached (node_reached nodes i cs)
+          ∙ ap (λ (rs : List Reached). reached_times kept.reached f +ℚ reached_times rs f) (reached_told nodes i n cs at))))
           (joined (value kept.total) (reached_times kept.reached f) (reached_times (reached_by i n.call cs) f) (dot u F) (dot kept.below F) (own_times i cs)
           (call_bound i b n at cs ws kept.below u size start n.call refl (known.others i n at none) fit is))
       by (Err stop) is h = cc
@@ -295,8 +313,10 @@ module _ (names : Names) (nodes : List Node) (are : AreNodes shape_of nodes) (s 
   own_sides : (i : ℕ) (n : Node) → IsNode nodes i n → sides_of_node nodes i ≡ n.sides
   own_sides i n at = ap (λ (o : Option Node). unwrap_or (option_map (λ (k : Node). k.sides) o) Scalar) at
 
-  passed_bound : (weights : ℕ → List Frac) → HasOwnFractions weights → (i : ℕ) → i < length nodes → (o : Option Array) → array_at values i ≡ o → (cs : List Frac) (kept after : Kept) → length cs ≡ entries_of (sides_of_node nodes i) →
-      length kept.below ≡ start_of nodes i → passed nodes values weights i o cs kept ≡ Ok after → worth after ≤ℚ value kept.total +ℚ reached_times kept.reached f +ℚ (dot kept.below F +ℚ own_times i cs)
+  passed_bound : (weights : ℕ → List Frac) → HasOwnFractions weights → (i : ℕ) → i < length nodes → (o : Option Array) → array_at values i ≡ o
+      → (cs : List Frac) (kept after : Kept) → length cs ≡ entries_of (sides_of_node nodes i) →
+      length kept.below ≡ start_of nodes i → passed nodes values weights i o cs kept ≡ Ok after → worth after ≤ℚ value kept.total +ℚ reached_times kept.reached f +ℚ
+      (dot kept.below F +ℚ own_times i cs)
   passed_bound weights fractions i b (Some x) at cs kept after size start e = ≤ℚ-from_≡ (counted_bound i x cs kept.below kept after at refl e)
   passed_bound weights fractions i b None none cs kept after size start e =
       let (n, at) = node_there i b in
@@ -305,9 +325,14 @@ module _ (names : Names) (nodes : List Node) (are : AreNodes shape_of nodes) (s 
   -- the coefficients of the nodes before node i, and those of its own
   pub parts : (i : ℕ) → i < length nodes → (below : List Frac) → length below ≡ start_of nodes (i + 1) →
       (length (take (start_of nodes i) below) ≡ start_of nodes i) × (length (drop (start_of nodes i) below) ≡ entries_of (sides_of_node nodes i))
-  parts i b below count = (length-take-le (start_of nodes i) below (start_inside nodes below i (start_of nodes i) b refl count), own_count nodes below (drop (start_of nodes i) below) i (start_of nodes i) b refl count refl)
+  parts i b below count = (
+    length-take-le (start_of nodes i) below (start_inside nodes below i (start_of nodes i) b refl count),
+    own_count nodes below
+        (drop (start_of nodes i) below) i (start_of nodes i) b refl count refl,
+  )
 
-  step_bound : (weights : ℕ → List Frac) → HasOwnFractions weights → (i : ℕ) → i < length nodes → (kept after : Kept) → length kept.below ≡ start_of nodes (i + 1) → step nodes values weights i kept ≡ Ok after → worth after ≤ℚ worth kept
+  step_bound : (weights : ℕ → List Frac) → HasOwnFractions weights → (i : ℕ) → i < length nodes → (kept after : Kept) → length kept.below ≡ start_of nodes (i + 1)
+      → step nodes values weights i kept ≡ Ok after → worth after ≤ℚ worth kept
   step_bound weights fractions i b kept after count e =
       let t = take (start_of nodes i) kept.below in
       let cs = drop (start_of nodes i) kept.below in
@@ -317,12 +342,15 @@ module _ (names : Names) (nodes : List Node) (are : AreNodes shape_of nodes) (s 
       (≤ℚ-from_≡ (ap (λ z. value kept.total +ℚ reached_times kept.reached f +ℚ z)
       (ap (λ z. dot t F +ℚ z) (sym (own_dot i b t cs both.0 both.1)) ∙ sym (dot-append t cs F) ∙ ap (λ xs. dot xs F) (take-append-drop (start_of nodes i) kept.below))))
 
-  pub step_count : (weights : ℕ → List Frac) (i : ℕ) → i < length nodes → (kept after : Kept) → length kept.below ≡ start_of nodes (i + 1) → step nodes values weights i kept ≡ Ok after → length after.below ≡ start_of nodes i
+  pub step_count : (weights : ℕ → List Frac) (i : ℕ) → i < length nodes → (kept after : Kept) → length kept.below ≡ start_of nodes (i + 1) → step nodes values weights i kept
+      ≡ Ok after → length after.below ≡ start_of nodes i
   step_count weights i b kept after count e =
-      passed_count nodes values weights i (array_at values i) (drop (start_of nodes i) kept.below) (record { below = take (start_of nodes i) kept.below; reached = kept.reached; total = kept.total }) after e
+      passed_count nodes values weights i (array_at values i) (drop (start_of nodes i) kept.below)
+      (record { below = take (start_of nodes i) kept.below; reached = kept.reached; total = kept.total }) after e
       ∙ (parts i b kept.below count).0
 
-  pass_bound : (weights : ℕ → List Frac) → HasOwnFractions weights → (m : ℕ) → m ≤ length nodes → (kept after : Kept) → length kept.below ≡ start_of nodes m → pass_down nodes values weights m kept ≡ Ok after → worth after ≤ℚ worth kept
+  pass_bound : (weights : ℕ → List Frac) → HasOwnFractions weights → (m : ℕ) → m ≤ length nodes → (kept after : Kept) → length kept.below ≡ start_of nodes m
+      → pass_down nodes values weights m kept ≡ Ok after → worth after ≤ℚ worth kept
   pass_bound weights fractions zero b kept after count e = ≤ℚ-from_≡ (ap worth (sym (same_Ok {E = CollectStop} kept after e)))
   pass_bound weights fractions (suc m) b kept after count e =
       by (step nodes values weights m kept) refl (λ mid k h. pass_bound weights fractions m (omega (arith, b)) mid after k h) e
@@ -333,7 +361,8 @@ module _ (names : Names) (nodes : List Node) (are : AreNodes shape_of nodes) (s 
       counted_more : length kept.below ≡ start_of nodes (m + 1)
       counted_more = count ∙ ap (start_of nodes) more
 
-      by : (r : Result Kept CollectStop) → step nodes values weights m kept ≡ r → ((mid : Kept) → length mid.below ≡ start_of nodes m → pass_down nodes values weights m mid ≡ Ok after → worth after ≤ℚ worth mid) →
+      by : (r : Result Kept CollectStop) → step nodes values weights m kept ≡ r → ((mid : Kept) → length mid.below ≡ start_of nodes m → pass_down nodes values weights m mid
+          ≡ Ok after → worth after ≤ℚ worth mid) →
           then_on nodes values weights r (pass_down nodes values weights m) ≡ Ok after → worth after ≤ℚ worth kept
       by (Ok mid) is rest h = ≤ℚ_trans (rest mid (step_count weights m (omega (arith, b)) kept mid counted_more is) h) (step_bound weights fractions m (omega (arith, b)) kept mid counted_more is)
       by (Err stop) is rest h = cc
@@ -348,4 +377,5 @@ module _ (names : Names) (nodes : List Node) (are : AreNodes shape_of nodes) (s 
       pass_down nodes values weights (length nodes) (begin table) ≡ Ok (record { below = []; reached = reached; total = total }) → value total +ℚ reached_times reached f ≤ℚ table_times nodes table f
   total_bounds weights fractions table count reached total e =
       ≤ℚ_trans (≤ℚ-from_≡ (sym (ap (λ z. value total +ℚ reached_times reached f +ℚ z) (dot-nil F) ∙ +ℚ_idr _)))
-      (≤ℚ_trans (pass_bound weights fractions (length nodes) (omega arith) (begin table) (record { below = []; reached = reached; total = total }) (count ∙ sym (start_all nodes)) e) (≤ℚ-from_≡ (begin_worth table count)))
+      (≤ℚ_trans (pass_bound weights fractions (length nodes) (omega arith) (begin table) (record { below = []; reached = reached; total = total })
+      (count ∙ sym (start_all nodes)) e) (≤ℚ-from_≡ (begin_worth table count)))

@@ -1,5 +1,6 @@
 -- What the calls hand on is what is told of them.
-use Rattle.std.proofs.Common.{◌≡◌, ℕ, zero, suc, ◌+◌, ◌<◌, arith, List, [], ◌∷◌, ◌++◌, map, length, get_or, refl, sym, ap, ap₂, ◌∙◌, subst, inl, inr, ⊎_elim, Option, Some, None, IfSome, IsSome, is_some, Result, Ok, Err, OnOk, IfErr}
+use Rattle.std.proofs.Common.{◌≡◌, ℕ, zero, suc, ◌+◌, ◌<◌, arith, List, [], ◌∷◌, ◌++◌, map, length, get_or, refl, sym, ap, ap₂, ◌∙◌, subst, inl, inr, ⊎_elim}
+use Rattle.std.proofs.Common.{Option, Some, None, IfSome, IsSome, is_some, Result, Ok, Err, OnOk, IfErr}
 use Rattle.std.specs.Option.{IsSomeAnd}
 use Rattle.std.proofs.lemmas.List.{length-map}
 use Rattle.std.proofs.Math.ListN.{get_or-map}
@@ -32,7 +33,8 @@ use Rattle.dcx_tree.specs.Nodes.{Node}
 use Rattle.dcx_cert_collect.specs.declared.pairs.Scaling.{Scaling}
 use Rattle.dcx_cert_collect.specs.declared.stop.CollectStop.{CollectStop}
 use Rattle.dcx_cert_collect.specs.Shares.{frac_in, Share, with_shares}
-use Rattle.dcx_cert_collect.specs.Calls.{share_to, term_share, linear_shares, first_of_entries, slope_frac, slope_shares, stop_of, unless, atom_shares, scaling_of, scaling_numbers, pair_share, pairing_shares}
+use Rattle.dcx_cert_collect.specs.Calls.{share_to, term_share, linear_shares, first_of_entries, slope_frac, slope_shares, stop_of, unless, atom_shares}
+use Rattle.dcx_cert_collect.specs.Calls.{scaling_of, scaling_numbers, pair_share, pairing_shares}
 use Rattle.dcx_cert_collect.specs.Pass.{or_passes, IsOrMemory, handed, pairing_hands}
 use Rattle.dcx_atom.specs.Fractions.{AreFractionSlopes}
 use Rattle.dcx_cert_collect.proofs.Starting.{listed, many}
@@ -100,7 +102,8 @@ slopes_told nodes args m ss size cs ws gs shown count is are =
     ∙ joined-same (length args) _ _ (λ k b. list_below-same (entries_of (sides_at ss k)) _ _ (λ e below. ap (λ x. share_to nodes args k e (Ok x))
     (sym (frac_at-number gs (entries_before ss k + e)) ∙ ap frac_at (are.slopes k e (omega (arith, b, count)) below))))
 
-pub atom_told : (nodes : List Node) (i : ℕ) (args : List ℕ) (m : Meaning) (ss : List Sides) (cs ws gs shown : List Frac) → length args ≡ length ss → shown ≡ gs → AreSlopesOf m ss (length cs) cs ws gs →
+pub atom_told : (nodes : List Node) (i : ℕ) (args : List ℕ) (m : Meaning) (ss : List Sides) (cs ws gs shown : List Frac) → length args ≡ length ss → shown ≡ gs
+    → AreSlopesOf m ss (length cs) cs ws gs →
     Ok (slope_shares nodes args ss (λ k e. frac_in shown (entries_before ss k + e))) ≡ atom_shares nodes i args m ss cs ws
 atom_told nodes i args m ss cs ws gs shown count is are =
     ap Ok (slopes_told nodes args m ss (length cs) cs ws gs shown count is are)
@@ -118,11 +121,13 @@ atom_stops nodes i args m ss cs ws below (slope_stops.Refused entry stated found
 atom_stops nodes i args m ss cs ws below (slope_stops.Passes passes) h = inr (ap (handed below) (first_told nodes i args m ss cs ws _ h))
 atom_stops nodes i args m ss cs ws below slope_stops.Memory h = inl refl
 
-pub handed_ok : (told : Result (Unit {0}) Passes) (below after : List Frac) (given : List Share) (asked : Result (List Share) CollectStop) → Ok given ≡ asked → OnOk told (with_shares below given ≡ Ok after) →
+pub handed_ok : (told : Result (Unit {0}) Passes) (below after : List Frac) (given : List Share) (asked : Result (List Share) CollectStop) → Ok given ≡ asked
+    → OnOk told (with_shares below given ≡ Ok after) →
     (r : Result (Unit {0}) CollectStop) → r ≡ or_passes told → OnOk r (handed below asked ≡ Ok after)
 handed_ok told below after given asked same h r is = subst (λ a. OnOk r (handed below a ≡ Ok after)) same (told_ok told below after given given refl h r is)
 
-pub handed_stop : (told : Result (Unit {0}) Passes) (below : List Frac) (given : List Share) (asked : Result (List Share) CollectStop) → Ok given ≡ asked → IfErr told (λ p. with_shares below given ≡ Err p) →
+pub handed_stop : (told : Result (Unit {0}) Passes) (below : List Frac) (given : List Share) (asked : Result (List Share) CollectStop) → Ok given ≡ asked
+    → IfErr told (λ p. with_shares below given ≡ Err p) →
     (r : Result (Unit {0}) CollectStop) → r ≡ or_passes told → IfErr r (IsOrMemory (handed below asked))
 handed_stop told below given asked same h r is = subst (λ a. IfErr r (IsOrMemory (handed below a))) same (told_stop told below given given refl h r is)
 
@@ -144,21 +149,25 @@ some_of None P h = absurd h
 some_of (Some s) P h = refl
 
 -- the pairs of each entry
-pub pairs_listed : (p : Pairing) (ss : List Sides) (a b : Sides) (cs : List Frac) (ts : List (List Pair)) → a ≡ sides_at ss 0 → b ≡ sides_at ss 1 → IsSomeAnd (sides_of_two p ss) (λ s. length cs ≡ entries_of s) →
+pub pairs_listed : (p : Pairing) (ss : List Sides) (a b : Sides) (cs : List Frac) (ts : List (List Pair)) → a ≡ sides_at ss 0 → b ≡ sides_at ss 1
+    → IsSomeAnd (sides_of_two p ss) (λ s. length cs ≡ entries_of s) →
     IfSome (paired_sides p a b) (λ s. ts ≡ list_below (entries_of s) (pairs_at p a b)) → ts ≡ list_below (length cs) (pairs_at p (sides_at ss 0) (sides_at ss 1))
 pairs_listed p ss a b cs ts left right h k =
     sized (paired_sides p (sides_at ss 0) (sides_at ss 1)) (length cs) (λ n. ts ≡ list_below n (pairs_at p (sides_at ss 0) (sides_at ss 1))) (paired_of p ss (λ s. length cs ≡ entries_of s) h)
     (subst (λ u. IfSome (paired_sides p (sides_at ss 0) u) (λ s. ts ≡ list_below (entries_of s) (pairs_at p (sides_at ss 0) u))) right
     (subst (λ u. IfSome (paired_sides p u b) (λ s. ts ≡ list_below (entries_of s) (pairs_at p u b))) left k))
 
-pub pairs_count : (p : Pairing) (ss : List Sides) (cs : List Frac) (ts shown : List (List Pair)) → shown ≡ ts → ts ≡ list_below (length cs) (pairs_at p (sides_at ss 0) (sides_at ss 1)) → length shown ≡ length cs
+pub pairs_count : (p : Pairing) (ss : List Sides) (cs : List Frac) (ts shown : List (List Pair)) → shown ≡ ts
+    → ts ≡ list_below (length cs) (pairs_at p (sides_at ss 0) (sides_at ss 1)) → length shown ≡ length cs
 pairs_count p ss cs ts shown is are = ap length (is ∙ are) ∙ many (length cs) (pairs_at p (sides_at ss 0) (sides_at ss 1))
 
-pub pairing_told : (nodes : List Node) (args : List ℕ) (p : Pairing) (ss : List Sides) (cs : List Frac) (left right : Option Array) (scaling : Scaling) (numbers : List Frac) (ts shown : List (List Pair)) →
+pub pairing_told : (nodes : List Node) (args : List ℕ) (p : Pairing) (ss : List Sides) (cs : List Frac) (left right : Option Array) (scaling : Scaling) (numbers : List Frac)
+    (ts shown : List (List Pair)) →
     shown ≡ ts → ts ≡ list_below (length cs) (pairs_at p (sides_at ss 0) (sides_at ss 1)) → scaling ≡ scaling_of p (is_some left) → numbers ≡ scaling_numbers scaling left right →
     pairing_shares nodes args scaling numbers cs (λ j. get_or shown j []) ≡ pairing_hands nodes args p ss left right cs
 pairing_told nodes args p ss cs left right scaling numbers ts shown is are how which =
-    joined-same (length cs) (λ j. map (pair_share nodes args scaling numbers (frac_in cs j)) (get_or shown j [])) (λ j. map (pair_share nodes args scaling numbers (frac_in cs j)) (pairs_at p (sides_at ss 0) (sides_at ss 1) j))
+    joined-same (length cs) (λ j. map (pair_share nodes args scaling numbers (frac_in cs j)) (get_or shown j [])) (λ j. map (pair_share nodes args scaling numbers (frac_in cs j))
+    (pairs_at p (sides_at ss 0) (sides_at ss 1) j))
     (λ j b. ap (map (pair_share nodes args scaling numbers (frac_in cs j))) (ap (λ xs. get_or xs j []) (is ∙ are) ∙ listed (length cs) (pairs_at p (sides_at ss 0) (sides_at ss 1)) j [] b))
     ∙ ap (λ xs. pairing_shares nodes args scaling xs cs (pairs_at p (sides_at ss 0) (sides_at ss 1))) which
     ∙ ap (λ h. pairing_shares nodes args h (scaling_numbers h left right) cs (pairs_at p (sides_at ss 0) (sides_at ss 1))) how

@@ -86,7 +86,8 @@ module _ (nodes : List Node) (args : List ℕ) (F : Numbers) (L : ℕ) (a : Entr
       let w = λ (x : LinearTerm). value c *ℚ (x.coefficient *ℚ a x.argument x.entry) in
       map_dot F L (term_share nodes args c) w terms
       (each_item (λ x. IsRepresentable x.coefficient) (λ x. IsWorth F L (term_share nodes args c x) (w x)) terms
-      (λ x h. to_argument x.argument x.entry (product_of c (frac_at x.coefficient)) (w x) (product_worth c (frac_at x.coefficient) x.coefficient (a x.argument x.entry) (value-frac_at x.coefficient h))) fit)
+      (λ x h. to_argument x.argument x.entry (product_of c (frac_at x.coefficient)) (w x) (product_worth c (frac_at x.coefficient) x.coefficient (a x.argument x.entry)
+      (value-frac_at x.coefficient h))) fit)
       t u count e
       ∙ ap (λ r. dot t F +ℚ r) (rat_sum_by-*ℚ (value c) (λ x. x.coefficient *ℚ a x.argument x.entry) terms)
 
@@ -122,20 +123,24 @@ module _ (nodes : List Node) (args : List ℕ) (F : Numbers) (L : ℕ) (a : Entr
   pairs_worth scaling xs cs pairs h t u count e =
       joined_dot F L (λ j. map (pair_share nodes args scaling xs (frac_in cs j)) (pairs j)) (λ j. number_at cs j *ℚ rat_sum_by (pair_value scaling) (pairs j)) (length cs)
       (λ j b t u count e. map_dot F L (pair_share nodes args scaling xs (frac_in cs j)) (λ p. value (frac_in cs j) *ℚ pair_value scaling p) (pairs j)
-      (all_items (λ p. IsWorth F L (pair_share nodes args scaling xs (frac_in cs j) p) (value (frac_in cs j) *ℚ pair_value scaling p)) (pairs j) (λ p. pair_worth scaling xs (frac_in cs j) p h)) t u count e
+      (all_items (λ p. IsWorth F L (pair_share nodes args scaling xs (frac_in cs j) p) (value (frac_in cs j) *ℚ pair_value scaling p)) (pairs j)
+      (λ p. pair_worth scaling xs (frac_in cs j) p h)) t u count e
       ∙ ap (λ r. dot t F +ℚ r) (rat_sum_by-*ℚ (value (frac_in cs j)) (pair_value scaling) (pairs j) ∙ ap (λ z. z *ℚ rat_sum_by (pair_value scaling) (pairs j)) (frac_value cs j))) t u count e
 
-  pub products_worth_right : (xs cs : List Frac) (pairs : ℕ → List Pair) → ((e : ℕ) → number_at xs e ≡ a 1 e) → (t u : List Frac) → length t ≡ L → with_shares t (pairing_shares nodes args ByRight xs cs pairs) ≡ Ok u →
+  pub products_worth_right : (xs cs : List Frac) (pairs : ℕ → List Pair) → ((e : ℕ) → number_at xs e ≡ a 1 e) → (t u : List Frac) → length t ≡ L
+      → with_shares t (pairing_shares nodes args ByRight xs cs pairs) ≡ Ok u →
       dot u F ≡ dot t F +ℚ rat_sum_below (length cs) (λ j. number_at cs j *ℚ rat_sum_by (λ p. a 0 p.left *ℚ a 1 p.right) (pairs j))
   unfolding pair_value IsScaledBy
   products_worth_right xs cs pairs h t u count e = pairs_worth ByRight xs cs pairs h t u count e
 
-  pub products_worth_left : (xs cs : List Frac) (pairs : ℕ → List Pair) → ((e : ℕ) → number_at xs e ≡ a 0 e) → (t u : List Frac) → length t ≡ L → with_shares t (pairing_shares nodes args ByLeft xs cs pairs) ≡ Ok u →
+  pub products_worth_left : (xs cs : List Frac) (pairs : ℕ → List Pair) → ((e : ℕ) → number_at xs e ≡ a 0 e) → (t u : List Frac) → length t ≡ L
+      → with_shares t (pairing_shares nodes args ByLeft xs cs pairs) ≡ Ok u →
       dot u F ≡ dot t F +ℚ rat_sum_below (length cs) (λ j. number_at cs j *ℚ rat_sum_by (λ p. a 0 p.left *ℚ a 1 p.right) (pairs j))
   unfolding pair_value IsScaledBy
   products_worth_left xs cs pairs h t u count e = pairs_worth ByLeft xs cs pairs h t u count e
 
-  pub quotients_worth : (xs cs : List Frac) (pairs : ℕ → List Pair) → ((e : ℕ) → number_at xs e ≡ a 1 e) → (t u : List Frac) → length t ≡ L → with_shares t (pairing_shares nodes args Divided xs cs pairs) ≡ Ok u →
+  pub quotients_worth : (xs cs : List Frac) (pairs : ℕ → List Pair) → ((e : ℕ) → number_at xs e ≡ a 1 e) → (t u : List Frac) → length t ≡ L
+      → with_shares t (pairing_shares nodes args Divided xs cs pairs) ≡ Ok u →
       dot u F ≡ dot t F +ℚ rat_sum_below (length cs) (λ j. number_at cs j *ℚ rat_sum_by (λ p. a 0 p.left /ℚ a 1 p.right) (pairs j))
   unfolding pair_value IsScaledBy
   quotients_worth xs cs pairs h t u count e = pairs_worth Divided xs cs pairs h t u count e
@@ -147,15 +152,18 @@ module _ (nodes : List Node) (args : List ℕ) (F : Numbers) (L : ℕ) (a : Entr
       let both = earlier-none (first_of_entries n f) (f n) e in
       ⊎_elim (λ l. none_stopped n f both.0 j l) (λ r. ap f r ∙ both.1) (below_or_last j n b)
 
-  pub slopes_worth : (m : Meaning) → HasSubgradients m → (ss : List Sides) (sides : Sides) → m.shape ss ≡ Some sides → length args ≡ length ss → (cs ws : List Frac) → length cs ≡ entries_of sides → AreFractionSlopes m ss ws →
+  pub slopes_worth : (m : Meaning) → HasSubgradients m → (ss : List Sides) (sides : Sides) → m.shape ss ≡ Some sides → length args ≡ length ss → (cs ws : List Frac)
+      → length cs ≡ entries_of sides → AreFractionSlopes m ss ws →
       slopes_stop m ss cs ws ≡ None → (t u : List Frac) → length t ≡ L → with_shares t (slope_shares nodes args ss (slope_frac m ss ws)) ≡ Ok u →
       dot u F ≤ℚ dot t F +ℚ rat_sum_below (length cs) (λ j. number_at cs j *ℚ m.value ss a j)
   slopes_worth m law ss sides is same cs ws size fit none t u count e =
       let w = weights_of m ss ws in
       let slope = λ (k i : ℕ). exact (m.slope ss w k i) in
-      let sums = joined_dot F L (λ k. list_below (entries_of (sides_at ss k)) (λ i. share_to nodes args k i (Ok (slope_frac m ss ws k i)))) (λ k. rat_sum_below (entries_of (sides_at ss k)) (λ i. slope k i *ℚ a k i)) (length args)
+      let sums = joined_dot F L (λ k. list_below (entries_of (sides_at ss k)) (λ i. share_to nodes args k i (Ok (slope_frac m ss ws k i))))
+      (λ k. rat_sum_below (entries_of (sides_at ss k)) (λ i. slope k i *ℚ a k i)) (length args)
       (λ k b t u count e. below_dot F L (λ i. share_to nodes args k i (Ok (slope_frac m ss ws k i))) (λ i. slope k i *ℚ a k i) (entries_of (sides_at ss k))
       (λ i c. to_argument k i (Ok (slope_frac m ss ws k i)) (slope k i *ℚ a k i) (ap (λ z. z *ℚ a k i) (value-frac_at (slope k i) (fit k i (omega (arith, b, same)) c)))) t u count e) t u count e in
-      let bound = law ss sides is (number_at cs) w (accepted_of m ss (entries_of sides) (number_at cs) w (λ j b. none_stopped (length cs) (entry_stop m ss (number_at cs) w) none j (omega (arith, b, size)))) a in
+      let bound = law ss sides is (number_at cs) w (accepted_of m ss (entries_of sides) (number_at cs) w (λ j b. none_stopped (length cs) (entry_stop m ss (number_at cs) w) none j
+      (omega (arith, b, size)))) a in
       ≤ℚ_trans (≤ℚ-from_≡ (sums ∙ ap (λ n. dot t F +ℚ rat_sum_below n (λ k. rat_sum_below (entries_of (sides_at ss k)) (λ i. slope k i *ℚ a k i))) same))
       (+ℚ-≤ℚ_left (dot t F) (≤ℚ_trans bound (≤ℚ-from_≡ (ap (λ n. rat_sum_below n (λ j. number_at cs j *ℚ m.value ss a j)) (sym size)))))

@@ -118,9 +118,11 @@ fn hand_atom(
     requires shapes { length shapes.now ≡ length places.now.args.now }
     requires shape { IsSomeAnd ((atom_meaning atom.now).shape (sides_list shapes.now)) (λ s. length coefficients.now ≡ entries_of s) }
     requires weights { length weights.now ≡ rows_before (atom_meaning atom.now) (sides_list shapes.now) (length coefficients.now) }
-    ensures ok { OnOk result (handed table.old.items (atom_shares places.now.tree.now node.0 (positions places.now.args.now) (atom_meaning atom.now) (sides_list shapes.now) coefficients.now weights.now) ≡ Ok table.new.items) }
+    ensures ok { OnOk result (handed table.old.items (atom_shares places.now.tree.now node.0 (positions places.now.args.now) (atom_meaning atom.now)
+        (sides_list shapes.now) coefficients.now weights.now) ≡ Ok table.new.items) }
     ensures fractions { OnOk result (AreFractionSlopes (atom_meaning atom.now) (sides_list shapes.now) weights.now) }
-    ensures stop { IfErr result (IsOrMemory (handed table.old.items (atom_shares places.now.tree.now node.0 (positions places.now.args.now) (atom_meaning atom.now) (sides_list shapes.now) coefficients.now weights.now))) }
+    ensures stop { IfErr result (IsOrMemory (handed table.old.items (atom_shares places.now.tree.now node.0 (positions places.now.args.now) (atom_meaning atom.now)
+        (sides_list shapes.now) coefficients.now weights.now))) }
 {
     match atom.slopes(alloc, shapes, coefficients, weights) {
         Ok(slopes) => or_passes(hand_slopes(places, shapes, slopes.as_slice(), table)),
@@ -141,8 +143,10 @@ fn hand_op(
 ) -> Result<(), CollectStop>
     requires places { ArePlaces places.now.tree.now places.now.starts.now (positions places.now.args.now) }
     requires shape { IsSomeAnd ((linear_meaning op.now).shape (sides_list shapes.now)) (λ s. length coefficients.now ≡ entries_of s) }
-    ensures ok { OnOk result (handed table.old.items (Ok (linear_shares places.now.tree.now (positions places.now.args.now) coefficients.now ((linear_meaning op.now).terms (sides_list shapes.now)))) ≡ Ok table.new.items) }
-    ensures stop { IfErr result (IsOrMemory (handed table.old.items (Ok (linear_shares places.now.tree.now (positions places.now.args.now) coefficients.now ((linear_meaning op.now).terms (sides_list shapes.now)))))) }
+    ensures ok { OnOk result (handed table.old.items (Ok (linear_shares places.now.tree.now (positions places.now.args.now) coefficients.now
+        ((linear_meaning op.now).terms (sides_list shapes.now)))) ≡ Ok table.new.items) }
+    ensures stop { IfErr result (IsOrMemory
+        (handed table.old.items (Ok (linear_shares places.now.tree.now (positions places.now.args.now) coefficients.now ((linear_meaning op.now).terms (sides_list shapes.now)))))) }
 {
     match op.map(alloc, shapes) {
         Ok(terms) => or_passes(hand_linear(places, coefficients, terms.as_slice(), table)),
@@ -165,8 +169,10 @@ fn hand_pairing(
     requires places { ArePlaces places.now.tree.now places.now.starts.now (positions places.now.args.now) }
     requires shapes { length shapes.now ≡ length places.now.args.now }
     requires shape { IsSomeAnd (sides_of_two pairing (sides_list shapes.now)) (λ s. length coefficients.now ≡ entries_of s) }
-    ensures ok { OnOk result (handed table.old.items (Ok (pairing_hands places.now.tree.now (positions places.now.args.now) pairing (sides_list shapes.now) (array_at values.now (slice_index (positions places.now.args.now) 0)) (array_at values.now (slice_index (positions places.now.args.now) 1)) coefficients.now)) ≡ Ok table.new.items) }
-    ensures stop { IfErr result (IsOrMemory (handed table.old.items (Ok (pairing_hands places.now.tree.now (positions places.now.args.now) pairing (sides_list shapes.now) (array_at values.now (slice_index (positions places.now.args.now) 0)) (array_at values.now (slice_index (positions places.now.args.now) 1)) coefficients.now)))) }
+    ensures ok { OnOk result (handed table.old.items (Ok (pairing_hands places.now.tree.now (positions places.now.args.now) pairing (sides_list shapes.now)
+        (array_at values.now (slice_index (positions places.now.args.now) 0)) (array_at values.now (slice_index (positions places.now.args.now) 1)) coefficients.now)) ≡ Ok table.new.items) }
+    ensures stop { IfErr result (IsOrMemory (handed table.old.items (Ok (pairing_hands places.now.tree.now (positions places.now.args.now) pairing (sides_list shapes.now)
+        (array_at values.now (slice_index (positions places.now.args.now) 0)) (array_at values.now (slice_index (positions places.now.args.now) 1)) coefficients.now)))) }
 {
     let scaling = scaling_of(pairing, is_known(values, places.args[0]));
     let numbers = scaling_numbers(values, scaling, places.args[0], places.args[1]);

@@ -6,6 +6,7 @@ use Rattle.dcx_math.specs.Rational.{ℚ, ◌+ℚ◌, ◌*ℚ◌, ◌≤ℚ◌}
 use Rattle.dcx_math.specs.Sums.{IsNonnegative}
 use Rattle.dcx_math.proofs.Orders.{≤ℚ_trans, ≤ℚ-from_≡, +ℚ_assoc}
 use Rattle.dcx_math.proofs.Sums.{rat_sum_below-same}
+use Rattle.dcx_math.proofs.Lists.{element_at}
 use Rattle.dcx_atom.specs.declared.array.Array.{Array}
 use Rattle.dcx_atom.specs.Arrays.{numbers_of}
 use Rattle.dcx_convex.specs.Nodes.{Setting}
@@ -23,7 +24,6 @@ use Rattle.dcx_unknowns.proofs.Places.{in_right}
 use Rattle.dcx_unknowns.specs.Equations.{Forms, graph_numbers, reduced_with}
 use Rattle.dcx_unknowns.proofs.Lists.{same_place, flat_first}
 use Rattle.dcx_unknowns.proofs.OfKinds.{nonneg_from, nonpos_from}
-use Rattle.dcx_entries.proofs.Each.{some_before}
 use Rattle.dcx_postsolve.specs.Programs.{gap_rows, bound_row, IsProgramOf, multipliers_of}
 use Rattle.dcx_postsolve.proofs.Rows.{combined_append, combined_gaps}
 use Rattle.dcx_postsolve.specs.Laws.{AreSameMultipliers}
@@ -75,7 +75,7 @@ module _ (rules : Rules) (p : Problem) (s : Setting) (forms : Forms) (l : Linear
   -- row q of node i, which is at most 0
   pub row_there : (i q : ℕ) → i < length p.tree → q < length (rows_at rules p i) → (row : Unknowns → ℚ) × (slice_get l.rows (first + (rows_until rules p i + q)) ≡ Some (bound_row row))
   row_there i q b c =
-      let (row, here) = some_before (numbers i) q (omega (arith, c, numbers_at-length rules p s forms i)) in
+      let (row, here) = element_at (numbers i) q (omega (arith, c, numbers_at-length rules p s forms i)) in
       let at = flat_first numbers (length p.tree) i q row b here in
       let moved : slice_get (graph_numbers rules p s forms) (rows_until rules p i + q) ≡ Some row =
       ap (λ k. slice_get (graph_numbers rules p s forms) (k + q)) (sym (same_place numbers (rows_at rules p) (numbers_at-length rules p s forms) (range_with_len 0 i))) ∙ at in (

@@ -70,7 +70,8 @@ formed_stop j (Err passes) stop e = let same : value_stops.Passes j passes ≡ s
 divided_stop : (j : ℕ) (x y : ℚ) (stop : ValueStop) → y ≢ whole (pos 0) → divided j x y ≡ Err stop → (passes : Passes) × (stop ≡ value_stops.Passes j passes)
 divided_stop j x y stop n e = by (rat_eq y (whole (pos 0))) refl e
   where
-    by : (t : Bool) → rat_eq y (whole (pos 0)) ≡ t → (if t then Err (value_stops.ZeroDivisor j) else or_passes j (quotient_of (frac_at x) (frac_at y))) ≡ Err stop → (passes : Passes) × (stop ≡ value_stops.Passes j passes)
+    by : (t : Bool) → rat_eq y (whole (pos 0)) ≡ t → (if t then Err (value_stops.ZeroDivisor j) else or_passes j (quotient_of (frac_at x) (frac_at y))) ≡ Err stop
+        → (passes : Passes) × (stop ≡ value_stops.Passes j passes)
     by true is h = absurd (n ((IsTrue-rat_eq y (whole (pos 0))).0 is))
     by false is h = formed_stop j (quotient_of (frac_at x) (frac_at y)) stop h
 
@@ -86,7 +87,8 @@ module _ (p : Problem) (setting point : Pairs) (fits : Fits p (setting_of p sett
   entry_stop (calls.Pairing MatTimes) ss a j stop n e = formed_stop j _ stop e
   entry_stop (calls.Pairing Over) ss a j stop n e = divided_stop j (a 0 j) (a 1 j) stop (n refl) e
 
-  pub divisor_nonzero : (i : ℕ) (n : Node) → IsNode p.tree i n → n.call ≡ calls.Pairing Over → (j : ℕ) → j < entries_of n.sides → arguments (map (source_value p.tree (names_in p) setting point) n.args) 1 j ≢ whole (pos 0)
+  pub divisor_nonzero : (i : ℕ) (n : Node) → IsNode p.tree i n → n.call ≡ calls.Pairing Over → (j : ℕ) → j < entries_of n.sides
+      → arguments (map (source_value p.tree (names_in p) setting point) n.args) 1 j ≢ whole (pos 0)
   divisor_nonzero i n at is j b =
       let names = names_in p in
       let node = convex_node names p.tree n in
@@ -142,14 +144,16 @@ module _ (p : Problem) (reached : List Reached) (falling : AreFalling reached) (
       by (Some v) e k = entry_wide h.position v e k.position k.there f k.here
 
 -- ---- all checks
-module _ (p : Problem) (setting : Pairs) (duals : List Array) (weights : List NodeWeights) (with_objective : Bool) (stated : Frac) (ok : IsAccepted p) (fits : Fits p (setting_of p setting)) (are : AreDuals p duals)
+module _ (p : Problem) (setting : Pairs) (duals : List Array) (weights : List NodeWeights) (with_objective : Bool) (stated : Frac) (ok : IsAccepted p)
+    (fits : Fits p (setting_of p setting)) (are : AreDuals p duals)
     (bounded : (values : List (Option Array)) → AreFixedValues p setting values → BoundsPrograms p (setting_of p setting) duals (weights_at weights) with_objective (value stated) values)
     (values : List (Option Array)) (fixed : AreFixedValues p setting values) where
   abbrev s : convex.Setting
   s = setting_of p setting
 
   abbrev End : Result Kept CollectStop → Type 0
-  End r = IsEnd (names_in p) p.tree p.nodes s values (are_known p setting values fixed ok) (weights_at weights) (IsInDomain p) (value stated) (bounded values fixed).families (λ k. zeros) (zeros_in p) (bounded values fixed).weighed (λ m. (atom_lawful m).fraction_slopes) r
+  End r = IsEnd (names_in p) p.tree p.nodes s values (are_known p setting values fixed ok) (weights_at weights) (IsInDomain p) (value stated) (bounded values fixed).families
+      (λ k. zeros) (zeros_in p) (bounded values fixed).weighed (λ m. (atom_lawful m).fraction_slopes) r
 
   table_is : (b : Bool) (table : List Frac) → start_table b p duals ≡ Ok table → (g : ℕ → Numbers) → table_times p.tree table g ≡ started b p duals g
   table_is true table e g = (starts_are_lagrangians p duals are).lagrangian table e g
@@ -158,13 +162,16 @@ module _ (p : Problem) (setting : Pairs) (duals : List Array) (weights : List No
   ended : End (collected p values duals (weights_at weights) with_objective)
   ended = by (start_table with_objective p duals) refl
     where
-      by : (r : Result (List Frac) Passes) → start_table with_objective p duals ≡ r → End (then_on p.tree values (weights_at weights) (begun r) (pass_down p.tree values (weights_at weights) (length p.tree)))
+      by : (r : Result (List Frac) Passes) → start_table with_objective p duals ≡ r
+          → End (then_on p.tree values (weights_at weights) (begun r) (pass_down p.tree values (weights_at weights) (length p.tree)))
       by (Err passes) e = tt
       by (Ok table) e =
-          passes_down (names_in p) p.tree p.nodes s values (are_known p setting values fixed ok) (weights_at weights) (IsInDomain p) (value stated) (bounded values fixed).families (λ k. zeros) (zeros_in p) (bounded values fixed).weighed (λ m. (atom_lawful m).fraction_slopes)
+          passes_down (names_in p) p.tree p.nodes s values (are_known p setting values fixed ok) (weights_at weights) (IsInDomain p) (value stated) (bounded values fixed).families
+          (λ k. zeros) (zeros_in p) (bounded values fixed).weighed (λ m. (atom_lawful m).fraction_slopes)
           table (start_count p duals with_objective table e)
           (λ x d t filled g family.
-          subst (λ q. value stated ≤ℚ q +ℚ rows_below p.tree values (weights_at weights) (length p.tree) g t) (sym (table_is with_objective table e g)) ((bounded values fixed).bound x d t filled g family))
+          subst (λ q. value stated ≤ℚ q +ℚ rows_below p.tree values (weights_at weights) (length p.tree) g t) (sym (table_is with_objective table e g))
+          ((bounded values fixed).bound x d t filled g family))
 
   stop_wide : (stop : CollectStop) → IsPassing stop → IsWide (fault_of stop)
   stop_wide (collect_stops.Slope node entry told found) h = absurd h
@@ -175,7 +182,8 @@ module _ (p : Problem) (setting : Pairs) (duals : List Array) (weights : List No
   total_bound : (kept : Kept) → End (Ok kept) → value stated ≤ℚ value kept.total
   total_bound kept h = ≤ℚ_trans (h (λ k. zeros) (zeros_in p)) (≤ℚ-from_≡ (ap (λ z. value kept.total +ℚ z) (all_zero p kept.reached) ∙ +ℚ_idr _))
 
-  shown_wide : (r : Result Kept CollectStop) → collected p values duals (weights_at weights) with_objective ≡ r → End r → (f : CertFault) → (shown_by p values (weights_at weights) stated r).fails f → IsWide f
+  shown_wide : (r : Result Kept CollectStop) → collected p values duals (weights_at weights) with_objective ≡ r → End r → (f : CertFault)
+      → (shown_by p values (weights_at weights) stated r).fails f → IsWide f
   shown_wide (Err stop) e end f h = let (passes, is) = stop_wide stop end in (passes, h ∙ is)
   shown_wide (Ok kept) e end f (inl h) = absurd h
   shown_wide (Ok kept) e end f (inr (fractions, inl h)) =

@@ -155,7 +155,8 @@ module _ (names : Names) (nodes : List Node) (are : AreNodes shape_of nodes) (s 
           let shape : m.shape ss ≡ Some n.sides = shaped (calls.Linear l) same in
           let law : (j : ℕ) → j < entries_of n.sides → m.value ss (a g) j ≡ _ = λ j c. (linear_lawful l).linearity ss n.sides shape j c (a g) in
           exact_of u (m.value ss (a g)) (λ j c. told (calls.Linear l) same j c ∙ sym (law j c))
-          (linear_worth nodes n.args (flat nodes g) (start_of nodes i) (a g) before placed m ss cs (λ j c. coefficients_fit l ss n.sides j shape (omega (arith, c, size)) (few_sides nodes are i b n at))
+          (linear_worth nodes n.args (flat nodes g) (start_of nodes i) (a g) before placed m ss cs (λ j c. coefficients_fit l ss n.sides j shape (omega (arith, c, size))
+          (few_sides nodes are i b n at))
           (λ j c. law j (omega (arith, c, size))) t0 u start e)
 
       pub times_exact : (o r : Option Array) → array_at values (get_or n.args 0 0) ≡ o → array_at values (get_or n.args 1 0) ≡ r → n.call ≡ calls.Pairing Times → HasKnownSide Times o r

@@ -59,10 +59,13 @@ all_fixed J (a ∷ args) t =
 
 module _ (p : Problem) where
   call_fixed : (call : Call) (args : List ℕ) (sides : Sides) → shape_of call (map (sides_at p.tree) args) ≡ Some sides →
-      IsTrue (judgement_by Plain (head_of (names_in p) call (map (sides_at p.tree) args) sides) (map (judgement_at Plain (nodes_of p)) args)).fixed → All (λ a. IsTrue (judgement_at Plain (nodes_of p) a).fixed) args
+      IsTrue (judgement_by Plain (head_of (names_in p) call (map (sides_at p.tree) args) sides) (map (judgement_at Plain (nodes_of p)) args)).fixed
+      → All (λ a. IsTrue (judgement_at Plain (nodes_of p) a).fixed) args
   call_fixed (calls.Variable v) args sides e t = absurd (false≢true t)
-  call_fixed (calls.Parameter q) args sides e t = λ k d b. let none = no_sides (sides_of q.shape) (map (sides_at p.tree) args) sides e in absurd (omega (arith, none, length-map args (sides_at p.tree), b))
-  call_fixed (calls.Constant c) args sides e t = λ k d b. let none = no_sides (sides_of c.shape) (map (sides_at p.tree) args) sides e in absurd (omega (arith, none, length-map args (sides_at p.tree), b))
+  call_fixed (calls.Parameter q) args sides e t = λ k d b. let none = no_sides (sides_of q.shape) (map (sides_at p.tree) args) sides e in absurd
+      (omega (arith, none, length-map args (sides_at p.tree), b))
+  call_fixed (calls.Constant c) args sides e t = λ k d b. let none = no_sides (sides_of c.shape) (map (sides_at p.tree) args) sides e in absurd
+      (omega (arith, none, length-map args (sides_at p.tree), b))
   call_fixed (calls.Atom m) args sides e t = all_fixed (judgement_at Plain (nodes_of p)) args t
   call_fixed (calls.Linear l) args sides e t = all_fixed (judgement_at Plain (nodes_of p)) args t
   call_fixed (calls.Pairing Times) args sides e t = all_fixed (judgement_at Plain (nodes_of p)) args t
@@ -128,7 +131,8 @@ module _ (rules : Rules) (p : Problem) (setting : Pairs) (values : List (Option 
   value_there : (i : ℕ) → i < length p.tree → IsTrue (is_fixed (nodes_of p) i) → (y : Array) × (array_at values i ≡ Some y)
   value_there i b h = let v = fixed.fixed i b h in (v.array, v.there)
 
-  known_step : (i : ℕ) (n : Node) → IsNode p.tree i n → is_reduced rules p i ≡ true → (y : Array) → array_at values i ≡ Some y → map (forms u) n.args ≡ map value n.args → (j : ℕ) → forms u i j ≡ value i j
+  known_step : (i : ℕ) (n : Node) → IsNode p.tree i n → is_reduced rules p i ≡ true → (y : Array) → array_at values i ≡ Some y → map (forms u) n.args ≡ map value n.args → (j : ℕ)
+      → forms u i j ≡ value i j
   known_step i n at reduced y is args j =
       let names = names_in p in
       let z = point_at p.variables u in
@@ -151,7 +155,8 @@ module _ (rules : Rules) (p : Problem) (setting : Pairs) (values : List (Option 
           let below = p.nodes.earlier i n at in
           let free = args_fixed p i n at h in
           fun_ext (known_step i n at e y is
-          (map-same (λ a. (a < i) × IsTrue (is_fixed (nodes_of p) a)) (forms u) value (λ a both. earlier a (omega (arith, both.0, b)) (omega (arith, both.0, c)) both.1) n.args (λ k d l. (below k d l, free k d l))))
+          (map-same (λ a. (a < i) × IsTrue (is_fixed (nodes_of p) a)) (forms u) value (λ a both. earlier a (omega (arith, both.0, b)) (omega (arith, both.0, c)) both.1) n.args
+          (λ k d l. (below k d l, free k d l))))
       by false e earlier = constant_form p rules s forms all u x i c (not_reduced (is_constant rules (judgement_at rules (nodes_of p) i)) e)
 
   pub known_same : (i : ℕ) → i < length p.tree → (y : Array) → array_at values i ≡ Some y → forms u i ≡ value i
@@ -163,7 +168,8 @@ module _ (rules : Rules) (p : Problem) (setting : Pairs) (values : List (Option 
       let c = slice_get_within p.tree i n at in
       let below = p.nodes.earlier i n at in
       let free = args_fixed p i n at (value_of_fixed p setting values fixed i y is).0 in
-      map-same (λ a. (a < i) × IsTrue (is_fixed (nodes_of p) a)) (forms u) value (λ a both. known_below (suc a) a (omega arith) (omega (arith, both.0, c)) both.1) n.args (λ k d l. (below k d l, free k d l))
+      map-same (λ a. (a < i) × IsTrue (is_fixed (nodes_of p) a)) (forms u) value (λ a both. known_below (suc a) a (omega arith) (omega (arith, both.0, c)) both.1) n.args
+      (λ k d l. (below k d l, free k d l))
 
   -- ---- the others
   -- they are reduced
@@ -174,20 +180,23 @@ module _ (rules : Rules) (p : Problem) (setting : Pairs) (values : List (Option 
       by true e = let (y, is) = value_there i b e in absurd (none-some y (sym none ∙ is))
       by false e = unfixed_is_reduced rules p i e
 
-  entry_same : (i : ℕ) (n : Node) → IsNode p.tree i n → array_at values i ≡ None → (call : Call) → n.call ≡ call → shape_of call (arg_sides p.tree n) ≡ Some n.sides → AreSameAt p (point_at p.variables u) x call →
+  entry_same : (i : ℕ) (n : Node) → IsNode p.tree i n → array_at values i ≡ None → (call : Call) → n.call ≡ call → shape_of call (arg_sides p.tree n) ≡ Some n.sides
+      → AreSameAt p (point_at p.variables u) x call →
       Agree (length (call_aux p.tree n call)) (t i) (filling_of rules p i u) → (a : ℕ → Numbers) (j : ℕ) → j < entries_of n.sides →
       call_entry (names_in p) s (point_at p.variables u) call (arg_sides p.tree n) a (filling_of rules p i u) j ≡ call_entry (names_in p) s x call (arg_sides p.tree n) a (t i) j
   entry_same i n at none (calls.Variable v) e shape same agree a j b = same j (subst (λ (r : Sides). j < entries_of r) (sym (own_is (sides_of v.shape) (arg_sides p.tree n) n.sides shape)) b)
   entry_same i n at none (calls.Parameter q) e shape same agree a j b = refl
   entry_same i n at none (calls.Constant c) e shape same agree a j b = refl
   entry_same i n at none (calls.Atom m) e shape same agree a j b =
-      sym (form_same (length ((atom_meaning m).kinds (arg_sides p.tree n))) ((atom_meaning m).result (arg_sides p.tree n) j) (t i) (filling_of rules p i u) (((atom_lawful m).own_unknowns (arg_sides p.tree n) n.sides shape).results j b) agree)
+      sym (form_same (length ((atom_meaning m).kinds (arg_sides p.tree n))) ((atom_meaning m).result (arg_sides p.tree n) j) (t i) (filling_of rules p i u)
+      (((atom_lawful m).own_unknowns (arg_sides p.tree n) n.sides shape).results j b) agree)
   entry_same i n at none (calls.Linear l) e shape same agree a j b = refl
   entry_same i n at none (calls.Pairing q) e shape same agree a j b = refl
 
   pub unknown_filling : (i : ℕ) (n : Node) → IsNode p.tree i n → array_at values i ≡ None → Agree (length (call_aux p.tree n n.call)) (t i) (filling_of rules p i u)
   unknown_filling i n at none =
-      subst (λ (f : Filling). Agree (length (call_aux p.tree n n.call)) f (filling_of rules p i u)) (ap (λ v. filling_by v i) none) (own_filling i n at (others_reduced i (slice_get_within p.tree i n at) none))
+      subst (λ (f : Filling). Agree (length (call_aux p.tree n n.call)) f (filling_of rules p i u)) (ap (λ v. filling_by v i) none)
+      (own_filling i n at (others_reduced i (slice_get_within p.tree i n at) none))
 
   pub family : IsFamily (names_in p) p.tree s values x t (forms u)
   family = record {
@@ -196,5 +205,6 @@ module _ (rules : Rules) (p : Problem) (setting : Pairs) (values : List (Option 
         reduced_form p rules s forms all i n at (others_reduced i (slice_get_within p.tree i n at) none) u j
         ∙ first_same (entries_of n.sides) (call_entry (names_in p) s (point_at p.variables u) n.call (arg_sides p.tree n) (args_of rules p s forms n u) (filling_of rules p i u))
         (call_entry (names_in p) s x n.call (arg_sides p.tree n) (args_of rules p s forms n u) (t i)) j
-        (λ b. entry_same i n at none n.call refl (p.nodes.shaped i n at) (node_same p (point_at p.variables u) x (lifted_point rules p x F dom) i n at) (unknown_filling i n at none) (args_of rules p s forms n u) j b);
+        (λ b. entry_same i n at none n.call refl (p.nodes.shaped i n at) (node_same p (point_at p.variables u) x (lifted_point rules p x F dom) i n at)
+        (unknown_filling i n at none) (args_of rules p s forms n u) j b);
   }

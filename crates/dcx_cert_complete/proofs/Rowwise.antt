@@ -1,5 +1,6 @@
 -- The rows of the graphs of a program times their multipliers are at most the weighted rows of the nodes whose values aren't known.
-use Rattle.std.proofs.Common.{◌≡◌, ◌⊎◌, inl, inr, ℕ, zero, suc, ◌+◌, ◌<◌, arith, Bool, true, false, if◌then◌else◌, List, [], ◌∷◌, ◌++◌, length, map, Option, Some, None, refl, sym, ap, ap₂, ◌∙◌, subst, pos}
+use Rattle.std.proofs.Common.{◌≡◌, ◌⊎◌, inl, inr, ℕ, zero, suc, ◌+◌, ◌<◌, arith, Bool, true, false, if◌then◌else◌, List, [], ◌∷◌, ◌++◌, length, map, Option}
+use Rattle.std.proofs.Common.{Some, None, refl, sym, ap, ap₂, ◌∙◌, subst, pos}
 use Rattle.std.specs.List.{flat_map, range_with_len}
 use Rattle.std.proofs.lemmas.Bool.{false≢true}
 use Rattle.std.proofs.lemmas.List.{length-append, length-map, map-append}
@@ -72,7 +73,8 @@ module _ (m : ℕ → ℚ) (w : Unknowns) where
 
   flat_rows : (f : ℕ → List (Unknowns → ℚ)) (n k : ℕ) → combined_from m k (map bound_row (flat_map f (range_with_len 0 n))) w
       ≡ rat_sum_below n (λ i. combined_from m (k + length (flat_map f (range_with_len 0 i))) (map bound_row (f i)) w)
-  flat_rows f n k = flat_from f 0 n k ∙ rat_sum_below-same n _ _ (λ i b. let z : 0 + i ≡ i = omega arith in ap (λ j. combined_from m (k + length (flat_map f (range_with_len 0 i))) (map bound_row (f j)) w) z)
+  flat_rows f n k = flat_from f 0 n k ∙ rat_sum_below-same n _ _ (λ i b. let z : 0 + i ≡ i = omega arith in ap (λ j. combined_from m (k + length (flat_map f (range_with_len 0 i)))
+      (map bound_row (f j)) w) z)
 
   -- ---- the rows of one graph
   module _ (number : PlacedRow → Unknowns → ℚ) (a : Entries) (t : Filling) (same : (r : PlacedRow) → number r w ≡ row_at r.row a t) where
@@ -111,7 +113,8 @@ module _ (m : ℕ → ℚ) (w : Unknowns) where
         regroup k b r = omega arith
 
 -- weighted rows whose weights and unknowns are the same
-weighted_same : (n : ℕ) (rows : List Row) (v w : ℕ → ℚ) (a : Entries) (t s : Filling) → AreOwnRows n rows → Agree n t s → ((r : ℕ) → r < length rows → v r ≡ w r) → weighted rows v a t ≡ weighted rows w a s
+weighted_same : (n : ℕ) (rows : List Row) (v w : ℕ → ℚ) (a : Entries) (t s : Filling) → AreOwnRows n rows → Agree n t s → ((r : ℕ) → r < length rows → v r ≡ w r)
+    → weighted rows v a t ≡ weighted rows w a s
 weighted_same n [] v w a t s own agree h = refl
 weighted_same n (row ∷ rows) v w a t s own agree h =
     ap₂ ◌+ℚ◌ (ap₂ ◌*ℚ◌ (h 0 (omega arith)) (row_same n row a t s own.0 agree)) (weighted_same n rows (λ r. v (suc r)) (λ r. w (suc r)) a t s own.1 agree (λ r b. h (suc r) (omega arith)))
@@ -139,7 +142,8 @@ rows_count rules p i n at c same reduced =
     ∙ counted (entries_of n.sides) ((atom_meaning c).rows (arg_sides p.tree n)) (atom_meaning c) (arg_sides p.tree n) (λ j. refl)
 
 module _ (rules : Rules) (p : Problem) (setting : Pairs) (values : List (Option Array)) (fixed : AreFixedValues p setting values) (forms : Forms) (all : AllStand rules p (setting_of p setting) forms)
-    (x : Point) (dom : IsInDomain p x) (t : ℕ → Filling) (filled : AreFilled p.tree values t) (weights : ℕ → List Frac) (m : ℕ → ℚ) (first : ℕ) (are : AreRowWeights rules p values weights m first) where
+    (x : Point) (dom : IsInDomain p x) (t : ℕ → Filling) (filled : AreFilled p.tree values t) (weights : ℕ → List Frac) (m : ℕ → ℚ) (first : ℕ)
+    (are : AreRowWeights rules p values weights m first) where
   abbrev s : Setting
   s = setting_of p setting
 
@@ -173,7 +177,8 @@ module _ (rules : Rules) (p : Problem) (setting : Pairs) (values : List (Option 
         let shape : M.shape ss ≡ Some n.sides = subst (λ call. shape_of call ss ≡ Some n.sides) same (p.nodes.shaped i n at) in
         let agree = subst (λ call. Agree (length (call_aux p.tree n call)) (t i) f) same (unknown_filling rules p setting values fixed forms all x dom t filled i n at none) in
         rat_sum_below-same (entries_of n.sides) _ _ (λ j l.
-        weighted_same (length (M.kinds ss)) (M.rows ss j) (λ r. m (k + (rows_before M ss j + r))) (weights_of M ss (weights i) j) a f (t i) (((atom_lawful c).own_unknowns ss n.sides shape).rows j l) (λ q h. sym (agree q h))
+        weighted_same (length (M.kinds ss)) (M.rows ss j) (λ r. m (k + (rows_before M ss j + r))) (weights_of M ss (weights i) j) a f (t i)
+        (((atom_lawful c).own_unknowns ss n.sides shape).rows j l) (λ q h. sym (agree q h))
         (λ r h. place (rows_before M ss j + r) ∙ sym (are.weights_are i n at none c same (rows_before M ss j + r) (rows_within M ss (entries_of n.sides) j r l h))))
 
     known_atom : (c : AtomCall) → n.call ≡ calls.Atom c → is_reduced rules p i ≡ true → (y : Array) → array_at values i ≡ Some y → atom_sum c ≤ℚ whole (pos 0)
@@ -184,12 +189,15 @@ module _ (rules : Rules) (p : Problem) (setting : Pairs) (values : List (Option 
         let shape : M.shape ss ≡ Some n.sides = subst (λ call. shape_of call ss ≡ Some n.sides) same (p.nodes.shaped i n at) in
         let agree : Agree (length (M.kinds ss)) (M.filling ss a) f =
         subst (λ call. Agree (length (call_aux p.tree n call)) (call_filling call ss a) f) same
-        (subst (λ (fs : List Numbers). Agree (length (call_aux p.tree n n.call)) (call_filling n.call ss (arguments fs)) f) (sym (known_args rules p setting values fixed forms all x dom t filled i n at y is))
-        (subst (λ (v : Filling). Agree (length (call_aux p.tree n n.call)) v f) (filling_known rules p setting values fixed forms all x dom t filled i n at y is) (own_filling rules p setting values fixed forms all x dom t filled i n at reduced))) in
+        (subst (λ (fs : List Numbers). Agree (length (call_aux p.tree n n.call)) (call_filling n.call ss (arguments fs)) f)
+        (sym (known_args rules p setting values fixed forms all x dom t filled i n at y is))
+        (subst (λ (v : Filling). Agree (length (call_aux p.tree n n.call)) v f) (filling_known rules p setting values fixed forms all x dom t filled i n at y is)
+        (own_filling rules p setting values fixed forms all x dom t filled i n at reduced))) in
         let tight = (atom_lawful c).tightness ss n.sides shape a in
         ≤ℚ_trans (rat_sum_below-monotone size _ (λ j. whole (pos 0)) (λ j l.
         weighted-nonpositive (M.rows ss j) (λ r. m (k + (rows_before M ss j + r))) a f
-        (λ r h. subst IsNonnegative (sym (place (rows_before M ss j + r))) (are.signs i (rows_before M ss j + r) b (subst (λ q. rows_before M ss j + r < q) (sym (rows_count rules p i n at c same reduced)) (rows_within M ss size j r l h))))
+        (λ r h. subst IsNonnegative (sym (place (rows_before M ss j + r)))
+        (are.signs i (rows_before M ss j + r) b (subst (λ q. rows_before M ss j + r < q) (sym (rows_count rules p i n at c same reduced)) (rows_within M ss size j r l h))))
         (rows_same (length (M.kinds ss)) (M.rows ss j) a (M.filling ss a) f (((atom_lawful c).own_unknowns ss n.sides shape).rows j l) agree (tight.holds.rows j l))))
         (≤ℚ-from_≡ (rat_sum_below-zero size))
 
@@ -221,6 +229,8 @@ module _ (rules : Rules) (p : Problem) (setting : Pairs) (values : List (Option 
       ≤ℚ_trans (≤ℚ-from_≡ (flat_rows m U numbers (length p.tree) first))
       (rat_sum_below-monotone (length p.tree) _ _ (λ i b.
       let (n, at) = node_at p i b in
-      subst (λ z. combined_from m (first + z) (map bound_row (numbers i)) U ≤ℚ families.node_rows p.tree values weights (forms U) t i) (sym (same_place numbers (rows_at rules p) (numbers_at-length rules p s forms) (range_with_len 0 i)))
-      (subst (λ o. combined_from m (first + rows_until rules p i) (map bound_row (numbers_if rules p s forms i o (rows_if p.tree (is_reduced rules p i) o))) U ≤ℚ families.rows_if p.tree (array_at values i) o (weights i) (forms U) (t i)) (sym at)
+      subst (λ z. combined_from m (first + z) (map bound_row (numbers i)) U ≤ℚ families.node_rows p.tree values weights (forms U) t i)
+      (sym (same_place numbers (rows_at rules p) (numbers_at-length rules p s forms) (range_with_len 0 i)))
+      (subst (λ o. combined_from m (first + rows_until rules p i) (map bound_row (numbers_if rules p s forms i o (rows_if p.tree (is_reduced rules p i) o))) U ≤ℚ families.rows_if
+      p.tree (array_at values i) o (weights i) (forms U) (t i)) (sym at)
       (node_sum i b n at (is_reduced rules p i) refl n.call refl (array_at values i) refl))))

@@ -1,5 +1,6 @@
 -- Lines that are read one after another, and where reading stops.
-use Rattle.std.proofs.Common.{◌≡◌, ℕ, zero, suc, ◌+◌, ◌-◌, ◌^◌, ◌<◌, true, false, nat_eq, List, [], ◌∷◌, ◌++◌, length, take, drop, get_or, map, min, refl, sym, ap, ◌∙◌, subst, arith, append_assoc, length-append}
+use Rattle.std.proofs.Common.{◌≡◌, ℕ, zero, suc, ◌+◌, ◌-◌, ◌^◌, ◌<◌, true, false, nat_eq, List, [], ◌∷◌, ◌++◌, length, take, drop, get_or, map, min, refl, sym}
+use Rattle.std.proofs.Common.{ap, ◌∙◌, subst, arith, append_assoc, length-append}
 use Rattle.std.proofs.Math.Seq.{take-append_seam}
 use Rattle.std.proofs.lemmas.Bool.{false≢true}
 use Rattle.std.proofs.lemmas.List.Folds.{concat-append}
@@ -19,7 +20,8 @@ front_read front before h =
     sym (take-append-drop (length front) before) ∙ ap (λ t. t ++ drop (length front) before) ((bytes_decides (take (length front) before) front).0 h)
 
 -- the front and the numbers behind it are a line
-pub line_read : (front before behind rest : List ℕ) (count line : ℕ) (ns : List Frac) → before ≡ front ++ behind → HasEntries count behind ns rest → IsRead (filled front ns ∷ []) before line rest (min (line + 1) (2 ^ 32 - 1))
+pub line_read : (front before behind rest : List ℕ) (count line : ℕ) (ns : List Frac) → before ≡ front ++ behind → HasEntries count behind ns rest
+    → IsRead (filled front ns ∷ []) before line rest (min (line + 1) (2 ^ 32 - 1))
 line_read front before behind rest count line ns e h = record {
   written =
       let whole : concat (filled front ns ∷ []) ++ rest ≡ front ++ (flat_map entry_text ns ++ 10 ∷ rest) = simp (append-nil, append_assoc) in
@@ -98,7 +100,8 @@ stop_behind ts us ls b n r k s h read stop = record {
 
 -- ---- items of a list, each with its line
 -- one more is read
-pub read_more : {A : Type 0} (f : A → Line) (xs : List A) (x : A) (b : List ℕ) (n : ℕ) (r : List ℕ) (k : ℕ) (s : List ℕ) (m : ℕ) → IsRead (map f xs) b n r k → IsRead (f x ∷ []) r k s m → IsRead (map f (xs ++ x ∷ [])) b n s m
+pub read_more : {A : Type 0} (f : A → Line) (xs : List A) (x : A) (b : List ℕ) (n : ℕ) (r : List ℕ) (k : ℕ) (s : List ℕ) (m : ℕ) → IsRead (map f xs) b n r k
+    → IsRead (f x ∷ []) r k s m → IsRead (map f (xs ++ x ∷ [])) b n s m
 read_more f xs x b n r k s m h g = subst (λ ls. IsRead ls b n s m) (sym (map-append f xs (x ∷ []))) (read_then (map f xs) (f x ∷ []) b n r k s m h g)
 
 -- the next isn't: the items before it are read

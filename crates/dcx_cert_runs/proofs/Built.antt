@@ -137,7 +137,8 @@ module _ (p : Problem) (limit : ℕ) where
       each (suc k) t y at here = rest.each k t y at here
 
   -- the sections are those of the settings
-  pub sections_in_turn : (ss : List Pairs) (before : Option (List ℕ) × Bool) (xs : List Section) (after : Option (List ℕ) × Bool) → EndInTurn (IsTold p limit) ss before xs after → AreSectionsAt p limit ss xs
+  pub sections_in_turn : (ss : List Pairs) (before : Option (List ℕ) × Bool) (xs : List Section) (after : Option (List ℕ) × Bool) → EndInTurn (IsTold p limit) ss before xs after
+      → AreSectionsAt p limit ss xs
   sections_in_turn [] before [] after h = record { count = refl; each = λ k s x at here. absurd (none-some s at) }
   sections_in_turn (s ∷ ss) before (x ∷ xs) after (mid, e, h) = next_section s ss x xs e.is_section (sections_in_turn ss mid xs after h)
   sections_in_turn [] before (x ∷ xs) after h = absurd h

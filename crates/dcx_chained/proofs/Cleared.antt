@@ -30,7 +30,8 @@ eliminated_none c by row e =
 pub length-cleared : (c : ℕ) (by row : Row) → length row ≡ length by → length (cleared c by row) ≡ length row
 length-cleared c by row same = length-mixed _ _ row by same
 
-pub entry-eliminated : (c : ℕ) (by row : Row) → length row ≡ length by → entry row c ≢ pos 0 → (j : ℕ) → j < length row → entry (eliminated c by row) j ≡ divided (gcd_of (cleared c by row)) (entry (cleared c by row) j)
+pub entry-eliminated : (c : ℕ) (by row : Row) → length row ≡ length by → entry row c ≢ pos 0 → (j : ℕ) → j < length row → entry (eliminated c by row) j
+    ≡ divided (gcd_of (cleared c by row)) (entry (cleared c by row) j)
 entry-eliminated c by row same met j lt =
     let l = length-cleared c by row same in
     ap (λ (r : Row). entry r j) (eliminated_some c by row met) ∙ sym (entry-divided (gcd_of (cleared c by row)) (cleared c by row) j (omega (arith, lt, l)))
@@ -41,7 +42,8 @@ cleared_there c by row positive =
     let p = entry by c in
     let a = entry row c in
     let g_pos : pos 0 <ℤ pos g = let q = shared-pos p a positive in omega (arith, ints, q) in
-    let e = crossed (pos g) (divided g p) (divided g a) p a g_pos (divided_is g p (gcd-dvd_left (unsigned_abs p) (unsigned_abs a))) (divided_is g a (gcd-dvd_right (unsigned_abs p) (unsigned_abs a))) in
+    let e = crossed (pos g) (divided g p) (divided g a) p a g_pos (divided_is g p (gcd-dvd_left (unsigned_abs p) (unsigned_abs a)))
+    (divided_is g a (gcd-dvd_right (unsigned_abs p) (unsigned_abs a))) in
     entry-less (divided g p) row (divided g a) by c ∙ omega (arith, ints, e)
 
 -- a cleared row has 0 at the column

@@ -38,7 +38,8 @@ module _ (row : Row) (from d : ℕ) (before : DividesBefore row from d) where
             | inr other ↦ subst (λ z. g ∣ unsigned_abs z) (sym (next.zeros j le (omega (arith, lt, other)))) (dvd-zero g)
           ]
         ];
-        greatest = λ h common. dvd-gcd (unsigned_abs e.value) d h (subst (λ z. h ∣ unsigned_abs z) next.here (common e.at (omega arith))) (before.greatest h (λ j lt. common j (let b = next.beyond in omega (arith, lt, b))));
+        greatest = λ h common. dvd-gcd (unsigned_abs e.value) d h (subst (λ z. h ∣ unsigned_abs z) next.here (common e.at (omega arith)))
+            (before.greatest h (λ j lt. common j (let b = next.beyond in omega (arith, lt, b))));
       }
 
   pub divides_over : IsOver (record { numbers = row; from = from }) → d ≡ gcd_of row

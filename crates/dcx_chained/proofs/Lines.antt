@@ -28,7 +28,8 @@ line_read f (x ∷ xs) z w y n m k en em ek h a b c (suc j) lt =
     line_read (λ i. f (suc i)) xs z w y l (l + 1) (l + 2) refl refl refl (λ i i_in. h (suc i) (omega (arith, i_in))) (ap f e0 ∙ a) (ap f e1 ∙ b) (ap f e2 ∙ c) j (omega (arith, lt))
 
 module _ (rows : List IntRow) (kinds : List ColumnKind) (objective phase : CostRow) (form : IsProgram rows kinds objective phase) (m : Matrix) (high : m.height ≡ length rows + 2)
-    (put : (k : ℕ) → k < length rows → row_of m k ≡ row_at (map tableau_row rows) k) (at_objective : row_of m (length rows) ≡ objective_row objective) (at_phase : row_of m (length rows + 1) ≡ phase_row phase) where
+    (put : (k : ℕ) → k < length rows → row_of m k ≡ row_at (map tableau_row rows) k) (at_objective : row_of m (length rows) ≡ objective_row objective)
+    (at_phase : row_of m (length rows + 1) ≡ phase_row phase) where
   each : (i : ℕ) → i < length rows + 2 → row_of m i ≡ row_at (first_table rows kinds objective phase).rows i
   each = each_row_by rows kinds objective phase form (λ i row. row_of m i ≡ row) (λ i r lt f e. put i lt ∙ map_row i r lt e) at_objective at_phase
     where
@@ -44,7 +45,8 @@ module _ (rows : List IntRow) (kinds : List ColumnKind) (objective phase : CostR
   first_small i lt = subst AllSmall (sym (each i lt)) (all_small rows kinds objective phase form i lt)
 
 -- the rows of a program are as long as the tableau's
-pub row_width : (rows : List IntRow) (kinds : List ColumnKind) (objective phase : CostRow) → IsProgram rows kinds objective phase → (k : ℕ) → k < length rows → length (row_at (map tableau_row rows) k) ≡ length kinds + 3
+pub row_width : (rows : List IntRow) (kinds : List ColumnKind) (objective phase : CostRow) → IsProgram rows kinds objective phase → (k : ℕ) → k < length rows
+    → length (row_at (map tableau_row rows) k) ≡ length kinds + 3
 row_width rows kinds objective phase form k lt =
     let s = has_row rows k lt in
     let e = ap length (map_at tableau_row rows k s.row [] s.is) in

@@ -28,7 +28,8 @@ listed_start row es = record {
 }
 
 -- one more entry
-module _ (row : Row) (from : ℕ) (es : List Entry) (count : ℕ) (listed : AreListed row from es count) (e : Entry) (next : ComesNext (record { numbers = row; from = from }) e) (x : Entry) (is_at : x.at ≡ e.at)
+module _ (row : Row) (from : ℕ) (es : List Entry) (count : ℕ) (listed : AreListed row from es count) (e : Entry) (next : ComesNext (record { numbers = row; from = from }) e)
+    (x : Entry) (is_at : x.at ≡ e.at)
     (is_value : x.value ≡ e.value) (room : count < length es) where
   same_at : column_at (set es count x) count ≡ e.at
   same_at = ap (λ (y : Entry). y.at) (get_or-set_same es count x blank room) ∙ is_at
@@ -78,7 +79,8 @@ module _ (row : Row) (from : ℕ) (es : List Entry) (count : ℕ) (listed : AreL
   listed_step = record { within = step_within; rising = step_rising; value = step_value; zeros = step_zeros }
 
 -- nothing is left
-pub listed_over : (row : Row) (from n : ℕ) (es : List Entry) (count : ℕ) → AreListed row from es count → from ≤ n → n ≡ length row → IsOver (record { numbers = row; from = from }) → AreListed row n es count
+pub listed_over : (row : Row) (from n : ℕ) (es : List Entry) (count : ℕ) → AreListed row from es count → from ≤ n → n ≡ length row → IsOver (record { numbers = row; from = from })
+    → AreListed row n es count
 listed_over row from n es count listed le long over = record {
   within = λ k lt. let w = listed.within k lt in omega (arith, w, le);
   rising = listed.rising;

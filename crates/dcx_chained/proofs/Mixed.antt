@@ -32,7 +32,8 @@ module _ (u : ℤ) (row : Row) (v : ℤ) (pivot : Row) where
   abbrev FormedAt : ℕ → Type 0
   FormedAt k = IsFormed u (entry row k) v (entry pivot k)
 
-  pub formed_before : (from : ℕ) (p : Pair) → PairComesNext (record { first = row; second = pivot; from = from }) p → ((k : ℕ) → k < from → IsFormed u (entry row k) v (entry pivot k)) → (k : ℕ) → k < p.at → IsFormed u (entry row k) v (entry pivot k)
+  pub formed_before : (from : ℕ) (p : Pair) → PairComesNext (record { first = row; second = pivot; from = from }) p
+      → ((k : ℕ) → k < from → IsFormed u (entry row k) v (entry pivot k)) → (k : ℕ) → k < p.at → IsFormed u (entry row k) v (entry pivot k)
   formed_before from p next formed k lt = elim (cases_lt k from) [
     | inl before ↦ formed k before
     | inr le ↦ formed_zero u (entry row k) v (entry pivot k) (next.first_zeros k le lt) (next.second_zeros k le lt)
@@ -44,7 +45,8 @@ module _ (u : ℤ) (row : Row) (v : ℤ) (pivot : Row) where
   pub formed_here : (from : ℕ) (p : Pair) → PairComesNext (record { first = row; second = pivot; from = from }) p → IsFormed u (entry row p.at) v (entry pivot p.at) → IsFormed u p.first v p.second
   formed_here from p next f = subst (λ x. IsFormed u x v p.second) next.first (subst (λ y. IsFormed u (entry row p.at) v y) next.second f)
 
-  pub formed_step : (from : ℕ) (p : Pair) → PairComesNext (record { first = row; second = pivot; from = from }) p → ((k : ℕ) → k < from → IsFormed u (entry row k) v (entry pivot k)) → IsFormed u p.first v p.second
+  pub formed_step : (from : ℕ) (p : Pair) → PairComesNext (record { first = row; second = pivot; from = from }) p
+      → ((k : ℕ) → k < from → IsFormed u (entry row k) v (entry pivot k)) → IsFormed u p.first v p.second
       → (k : ℕ) → k < p.at + 1 → IsFormed u (entry row k) v (entry pivot k)
   formed_step from p next formed f k lt = elim (cases_eq k p.at) [
     | inl e ↦ subst (λ n. FormedAt n) (sym e) (formed_there from p next f)

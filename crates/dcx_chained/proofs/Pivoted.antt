@@ -22,7 +22,8 @@ module _ (m n : Matrix) (r c : ℕ) (by : Row) (in_r : r < m.height) (same : n.h
         ap (row_of n) e ∙ at_r ∙ sym (ap (row_at (set (map (eliminated c by) (rows_of m)) r by)) e ∙ get_or-set_same (map (eliminated c by) (rows_of m)) r by [] (omega (arith, l, k, in_r)))
     | inr d ↦
         let k = length-rows_of m in
-        others i lt d ∙ sym (get_or-set_other (map (eliminated c by) (rows_of m)) r i by [] d ∙ get_or-map (eliminated c by) (rows_of m) i [] [] (omega (arith, k, lt)) ∙ ap (eliminated c by) (row_at-rows_of m i lt))
+        others i lt d ∙ sym (get_or-set_other (map (eliminated c by) (rows_of m)) r i by [] d ∙ get_or-map (eliminated c by) (rows_of m) i [] [] (omega (arith, k, lt))
+        ∙ ap (eliminated c by) (row_at-rows_of m i lt))
   ]
 
   pub rows_pivoted : rows_of n ≡ pivoted r c (rows_of m)

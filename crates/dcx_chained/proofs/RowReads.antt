@@ -34,7 +34,8 @@ row_at-rows_of m i lt = get_or-listed m.height (λ k. row_of m k) i [] lt
 
 -- a row with the entries of another list
 pub row_is : (m : Matrix) (i : ℕ) (xs : Row) → length xs ≡ m.width → ((j : ℕ) → j < m.width → number_at m i j ≡ entry xs j) → row_of m i ≡ xs
-row_is m i xs e h = ext_get_or (pos 0) (row_of m i) xs (length-row_of m i ∙ sym e) (λ j lt. let l = length-row_of m i in let j_in : j < m.width = omega (arith, lt, l) in entry-row_of m i j j_in ∙ h j j_in)
+row_is m i xs e h = ext_get_or (pos 0) (row_of m i) xs (length-row_of m i ∙ sym e) (λ j lt. let l = length-row_of m i in let j_in : j < m.width = omega
+    (arith, lt, l) in entry-row_of m i j j_in ∙ h j j_in)
 
 -- a row that stays
 pub row_same : (m n : Matrix) (i : ℕ) → n.width ≡ m.width → ((j : ℕ) → number_at n i j ≡ number_at m i j) → row_of n i ≡ row_of m i

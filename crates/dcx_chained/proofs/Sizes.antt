@@ -21,7 +21,8 @@ use Rattle.dcx_chained.proofs.RowReads.{length-row_of, entry-row_of}
 
 -- ---- a walk along a row
 -- one more number
-pub within_step : (row : Row) (from : ℕ) (e : Entry) (size more : ℕ) → ComesNext (record { numbers = row; from = from }) e → ((j : ℕ) → j < from → unsigned_abs (entry row j) ≤ size) → size ≤ more → unsigned_abs e.value ≤ more
+pub within_step : (row : Row) (from : ℕ) (e : Entry) (size more : ℕ) → ComesNext (record { numbers = row; from = from }) e
+    → ((j : ℕ) → j < from → unsigned_abs (entry row j) ≤ size) → size ≤ more → unsigned_abs e.value ≤ more
     → (j : ℕ) → j < e.at + 1 → unsigned_abs (entry row j) ≤ more
 within_step row from e size more next before le here j lt = elim (cases_lt j from) [
   | inl passed ↦ let b = before j passed in omega (arith, b, le)
@@ -89,7 +90,8 @@ module _ (m a n : Matrix) (i r : ℕ) (u v : ℤ) (wide : a.width ≡ m.width) (
   mixed_bound : (j : ℕ) → unsigned_abs (entry (row_of a i) j) ≤ unsigned_abs (u *ℤ entry (row_of m i) j -ℤ v *ℤ entry (row_of m r) j)
   mixed_bound j = elim (cases_lt j m.width) [
     | inl lt ↦
-        let q : unsigned_abs (entry (row_of a i) j) ≡ unsigned_abs (u *ℤ entry (row_of m i) j -ℤ v *ℤ entry (row_of m r) j) = ap unsigned_abs (entry-row_of a i j (omega (arith, lt, wide)) ∙ mixed j lt) in
+        let q : unsigned_abs (entry (row_of a i) j) ≡ unsigned_abs (u *ℤ entry (row_of m i) j -ℤ v *ℤ entry (row_of m r) j) = ap unsigned_abs
+        (entry-row_of a i j (omega (arith, lt, wide)) ∙ mixed j lt) in
         omega (arith, q)
     | inr past ↦
         let l = length-row_of a i in

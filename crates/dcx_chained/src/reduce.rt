@@ -1,5 +1,5 @@
 //! Rows divided by their common divisor.
-ghost use Rattle.std.specs.Prelude.{◌≡◌, ◌≢◌, ℕ, ◌<◌, ◌%◌, true};
+ghost use Rattle.std.specs.Prelude.{◌≡◌, ◌≢◌, ℕ, ◌<◌};
 ghost use Rattle.dcx_math.specs.Divisors.{gcd, gcd_of};
 ghost use Rattle.dcx_math.proofs.Primitive.{primitive_part};
 ghost use Rattle.dcx_tab.specs.Rows.{AllSmall};
@@ -11,31 +11,24 @@ use dcx_links::Links;
 /// The greatest number of one machine word.
 const WORD: u128 = u64::MAX as u128;
 
-/// Whether a divisor of one machine word divides a number of one machine word.
-fn divides(divisor: u128, number: u128) -> bool
-    ensures { result ≡ true → number % divisor ≡ 0 }
-{
-    if divisor == 0 {
-        return false;
-    }
-    if WORD < divisor {
-        return false;
-    }
-    if WORD < number {
-        return false;
-    }
-    (number as u64) % (divisor as u64) == 0
-}
-
 /// The greatest common divisor of a number and of those before, whose own it is most of the time.
 fn shared_with(found: u128, number: u128) -> u128
     ensures { result ≡ gcd number found }
 {
-    if divides(found, number) {
-        found
-    } else {
-        gcd(number, found)
+    if found == 0 {
+        return number;
     }
+    if WORD < found {
+        return gcd(number, found);
+    }
+    if WORD < number {
+        return gcd(number, found);
+    }
+    let rest = (number as u64) % (found as u64);
+    if rest == 0 {
+        return found;
+    }
+    gcd(found, rest as u128)
 }
 
 /// The greatest common divisor of the numbers of a row, looked for until it is 1.

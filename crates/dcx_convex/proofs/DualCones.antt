@@ -1,16 +1,16 @@
 -- The coefficients that may reach a variable are in the dual cone of its attribute.
-use Rattle.std.proofs.Common.{◌≡◌, inl, inr, ℕ, zero, suc, ◌+◌, ◌*◌, ◌<◌, arith, [], ◌∷◌, refl, sym, ap, ◌∙◌, subst, pos}
+use Rattle.std.proofs.Common.{◌≡◌, inl, inr, ℕ, zero, suc, ◌+◌, ◌*◌, ◌<◌, arith, [], ◌∷◌, sym, ap, ◌∙◌, subst, pos}
 use Rattle.std.proofs.lemmas.Bool.{cases_eq}
 use Rattle.dcx_math.specs.Rational.{ℚ, whole, ◌+ℚ◌, ◌*ℚ◌, ◌≤ℚ◌}
 use Rattle.dcx_math.specs.Sums.{rat_sum_below}
 use Rattle.dcx_math.proofs.Ring.{ring, reads}
-use Rattle.dcx_math.proofs.Orders.{≤ℚ_trans, ≤ℚ-from_≡, ≤ℚ_total, linear, +ℚ_idr, zero-*ℚ, *ℚ-zero}
+use Rattle.dcx_math.proofs.Orders.{≤ℚ_trans, ≤ℚ-from_≡, ≤ℚ_total, linear, +ℚ_assoc, +ℚ_idr, zero-*ℚ, *ℚ-zero}
 use Rattle.dcx_math.proofs.Products.{*ℚ-nonnegative, *ℚ-nonnegative_both_negative}
 use Rattle.dcx_math.proofs.Sums.{rat_sum_below-same, rat_sum_below-+ℚ, rat_sum_below-zero, rat_sum_below-nonnegative, rat_sum_below-exchange}
 use Rattle.dcx_shape.specs.declared.shape.Sides.{Sides}
-use Rattle.dcx_shape.specs.declared.shape.Sides.TheVariants.{Scalar, Vector, Matrix}
 use Rattle.dcx_shape.specs.Sides.{rows_of, cols_of, entries_of}
 use Rattle.dcx_shape.specs.Places.{HasEntry}
+use Rattle.dcx_shape.proofs.Entries.{entries_are}
 use Rattle.dcx_atom.specs.Arrays.{entry_at}
 use Rattle.dcx_convex.specs.Nodes.{Attribute, Free, Nonneg, Nonpos, Symmetric, Diag, Numbers, Keeps}
 use Rattle.dcx_convex.specs.Certificates.{times, IsInDualCone, MayReach, HasSides}
@@ -20,10 +20,7 @@ split : (a b : ℕ) (f : Numbers) → rat_sum_below (a + b) f ≡ rat_sum_below 
 split a zero f = let e : a + 0 ≡ a = omega arith in ap (λ n. rat_sum_below n f) e ∙ sym (+ℚ_idr (rat_sum_below a f))
 split a (suc b) f =
     let e : a + suc b ≡ suc (a + b) = omega arith in
-    ap (λ n. rat_sum_below n f) e ∙ ap (λ u. u +ℚ f (a + b)) (split a b f) ∙ group (rat_sum_below a f) (rat_sum_below b (λ j. f (a + j))) (f (a + b))
-  where
-    group : (x y z : ℚ) → (x +ℚ y) +ℚ z ≡ x +ℚ (y +ℚ z)
-    group x y z = ring (x ∷ y ∷ z ∷ []) (search reads depth 30) tt
+    ap (λ n. rat_sum_below n f) e ∙ ap (λ u. u +ℚ f (a + b)) (split a b f) ∙ +ℚ_assoc (rat_sum_below a f) (rat_sum_below b (λ j. f (a + j))) (f (a + b))
 
 by_rows : (m n : ℕ) (f : Numbers) → rat_sum_below (m * n) f ≡ rat_sum_below m (λ i. rat_sum_below n (λ j. f (i * n + j)))
 by_rows zero n f = ap (λ k. rat_sum_below k f) (zero_rows n)
@@ -34,11 +31,6 @@ by_rows (suc m) n f = ap (λ k. rat_sum_below k f) (more_rows m n) ∙ split (m 
   where
     more_rows : (m n : ℕ) → suc m * n ≡ m * n + n
     more_rows m n = grind arith
-
-entries_are : (sides : Sides) → entries_of sides ≡ rows_of sides * cols_of sides
-entries_are Scalar = refl
-entries_are (Vector n) = grind arith
-entries_are (Matrix m n) = refl
 
 -- the sum over the entries, by row and column
 by_entries : (sides : Sides) (c x : Numbers) → times (entries_of sides) c x ≡ rat_sum_below (rows_of sides) (λ i. rat_sum_below (cols_of sides) (λ j. entry_at sides c i j *ℚ entry_at sides x i j))

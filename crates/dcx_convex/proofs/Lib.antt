@@ -3,6 +3,7 @@ pub mod Told
 pub mod Mapped
 pub mod Arguments
 pub mod Signs
+pub mod Domains
 pub mod Beyond
 pub mod Convexity
 pub mod Acceptance

@@ -31,9 +31,6 @@ past p k le h = none-some h.variable (sym (slice_get_past p.variables k le) ∙ 
 pub whole_within : (p : Problem) (k : ℕ) → IsWholeAt p k → k < length p.variables
 whole_within p k h = let no : length p.variables ≤ k → ⊥ = (λ le. past p k le h) in omega (arith, no)
 
-pub none_whole : (p : Problem) (n : ℕ) → length p.variables ≤ n → ((j : ℕ) → j < n → ¬ IsWholeAt p j) → HasNoWhole p
-none_whole p n le h k w = let l = whole_within p k w in h k (omega (arith, l, le)) w
-
 -- whether there is one
 pub no_whole : (p : Problem) → HasNoWhole p → IsTrue false ↔ HasWhole p
 no_whole p h = (λ t. let e : false ≡ true = t in absurd (cc), λ k. absurd (h k.0 k.1))

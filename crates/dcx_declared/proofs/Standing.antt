@@ -1,9 +1,8 @@
 -- Where a declared name stands among the nodes of a tree.
-use Rattle.std.proofs.Common.{◌≡◌, ◌↔◌, inl, inr, IsTrue, ℕ, ◌<◌, ◌≤◌, List, length, Bool, true, false, Option, Some, sym, ap, subst, ◌∙◌, arith}
-use Rattle.std.proofs.lemmas.Option.{none-some, same_Some, slice_get_past, slice_get_within, get_or_from_slice_get}
+use Rattle.std.proofs.Common.{◌≡◌, ◌↔◌, inl, inr, IsTrue, ℕ, ◌<◌, List, Bool, true, false, Option, Some, sym, ap, subst, ◌∙◌, arith}
+use Rattle.std.proofs.lemmas.Option.{same_Some}
 use Rattle.std.proofs.Math.Logic.{∥∥₁_elim}
-use Rattle.std.specs.Prelude.{option_map, slice_get}
-use Rattle.std.specs.List.{All}
+use Rattle.dcx_math.proofs.Lists.{holds_at}
 use Rattle.dcx_point.specs.Pairs.{same_name}
 use Rattle.dcx_point.proofs.Puts.{same_name-refl, same_name-true}
 use Rattle.dcx_arena.specs.Nodes.{call_at, place_at}
@@ -34,15 +33,6 @@ call_named nodes name i call b there h = (
 pub not_named_at : (nodes : List Node) (name : List ℕ) (i : ℕ) (b : Bool) → IsTrue b ↔ IsNamedAt nodes name i → b ≡ false → ¬ IsNamedAt nodes name i
 not_named_at nodes name i b h e k = let t : b ≡ true = h.1 k in absurd (cc)
 
-past : (nodes : List Node) (name : List ℕ) (i : ℕ) → length nodes ≤ i → ¬ IsNamedAt nodes name i
-past nodes name i le h = none-some h.call (sym (ap (option_map (λ (n : Node). n.call)) (slice_get_past nodes i le)) ∙ h.there)
-
-pub named_within : (nodes : List Node) (name : List ℕ) (i : ℕ) → IsNamedAt nodes name i → i < length nodes
-named_within nodes name i h = let no : length nodes ≤ i → ⊥ = (λ le. past nodes name i le h) in omega (arith, no)
-
-pub lacks_name : (nodes : List Node) (name : List ℕ) (n : ℕ) → length nodes ≤ n → ((j : ℕ) → j < n → ¬ IsNamedAt nodes name j) → LacksName nodes name
-lacks_name nodes name n le h i k = let l = named_within nodes name i k in h i (omega (arith, l, le)) k
-
 -- the first node is one, and so is its place
 one_first_named : (nodes : List Node) (name : List ℕ) (i j : ℕ) → IsFirstNamed nodes name i → IsFirstNamed nodes name j → i ≡ j
 one_first_named nodes name i j h k =
@@ -57,13 +47,10 @@ stands_once p name a b h k = same_Some a b (sym h.stands ∙ ap (place_at p.tree
 call_reached : (p : Problem) (name : List ℕ) (call : Call) → name_of call ≡ Some name → HasCall p.tree call → LacksName p.tree name → ⊥
 call_reached p name call named (i, there) none = none i (record { call = call; there = there; named = named })
 
-all_at : {A : Type 0} (P : A → Type 0) (xs : List A) (k : ℕ) (x : A) → All P xs → slice_get xs k ≡ Some x → P x
-all_at P xs k x h at = subst P (get_or_from_slice_get xs k x x at) (h k x (slice_get_within xs k x at))
-
 pub reached : (p : Problem) (name : List ℕ) → HasName p name → LacksName p.tree name → ⊥
 reached p name (inl (k, v, at, is)) none =
     ∥∥₁_elim p.declared (λ x. absurd x) (λ d. call_reached p name (calls.Variable v) (ap Some is)
-    (all_at (λ (x : Variable). HasCall p.tree (calls.Variable x)) p.variables k v d.variables_stand at) none)
+    (holds_at (λ (x : Variable). HasCall p.tree (calls.Variable x)) p.variables k v d.variables_stand at) none)
 reached p name (inr (k, q, at, is)) none =
     ∥∥₁_elim p.declared (λ x. absurd x) (λ d. call_reached p name (calls.Parameter q) (ap Some is)
-    (all_at (λ (x : Parameter). HasCall p.tree (calls.Parameter x)) p.parameters k q d.parameters_stand at) none)
+    (holds_at (λ (x : Parameter). HasCall p.tree (calls.Parameter x)) p.parameters k q d.parameters_stand at) none)

@@ -11,6 +11,7 @@ use Rattle.dcx_point.specs.Pairs.{Pairs}
 use Rattle.dcx_arena.specs.Nodes.{call_at}
 use Rattle.dcx_convex.specs.Nodes as convex
 use Rattle.dcx_convex.specs.Nodes.{Numbers, EachNode, Keeps, VariableKeeps}
+use Rattle.dcx_convex.proofs.Domains.{variable_prop}
 use Rattle.dcx_call.specs.declared.attribute.Attribute.{Attribute}
 use Rattle.dcx_call.specs.declared.attribute.Attribute.TheVariants.{Free, Nonneg, Nonpos, Symmetric, Diag}
 use Rattle.dcx_call.specs.declared.attribute.Whole.{Whole}
@@ -89,25 +90,12 @@ module _ (nodes : List Node) (vs : List Variable) (ps : List Parameter) (d : Are
       subst (λ (z : convex.Node). VariableKeeps (numbers_by names.variables given) z.head) is (call_keeps h n.call (arg_sides nodes n) n.sides (d.listed i n in_nodes))
 
 -- ---- of a problem
-pub keeps_prop : (a : convex.Attribute) (s : Sides) (x : Numbers) → IsProp (Keeps a s x)
-keeps_prop convex.Free s x = hlevel props
-keeps_prop convex.Nonneg s x = hlevel ≤ℚ_prop
-keeps_prop convex.Nonpos s x = hlevel ≤ℚ_prop
-keeps_prop convex.Symmetric s x = hlevel ≡ℚ_prop
-keeps_prop convex.Diag s x = hlevel ≡ℚ_prop
-
 pub within_prop : (a : Attribute) (s : Sides) (x : Numbers) → IsProp (IsWithin a s x)
 within_prop Free s x = hlevel props
 within_prop Nonneg s x = hlevel ≤ℚ_prop
 within_prop Nonpos s x = hlevel ≤ℚ_prop
 within_prop Symmetric s x = hlevel ≡ℚ_prop
 within_prop Diag s x = hlevel ≡ℚ_prop
-
-variable_prop : (x : convex.Point) (h : convex.Head) → IsProp (VariableKeeps x h)
-variable_prop x (convex.Variable d) = keeps_prop d.attribute d.sides (x d.number)
-variable_prop x (convex.Parameter d) = hlevel props
-variable_prop x (convex.Constant ys) = hlevel props
-variable_prop x (convex.Apply c) = hlevel props
 
 nodes_prop : (nodes : List convex.Node) (x : convex.Point) → IsProp (EachNode nodes (λ n. VariableKeeps x n.head))
 nodes_prop nodes x f g = λ z i n at. variable_prop x n.head (f i n at) (g i n at) z

@@ -8,17 +8,13 @@ use Rattle.dcx_script_values.specs.declared.fault.ElabFault.TheVariants.{Unknown
 use Rattle.dcx_script_values.specs.Values.{Value, State, Act, and_then, ◌>>=◌, done, look}
 use Rattle.dcx_script_values.specs.View.{Fails}
 use Rattle.dcx_script_values.proofs.Acts.{Fails-then, Fails-same, then_is}
+use Rattle.dcx_script_state.proofs.Each.{and_then-assoc}
 use Rattle.dcx_operators.specs.Attributes.{attribute_value}
 use Rattle.dcx_operators.specs.Indices.{Evaluated, index_value}
 use Rattle.dcx_signature.specs.Arguments.{Given}
 use Rattle.dcx_signature.specs.Firsts.{primary_place}
 use Rattle.dcx_elab.specs.Expressions.{target_before, postfix_means, primary_means, trailers_mean, index_means, indices_mean, optional_means, step_means, args_mean}
 use Rattle.dcx_elab.proofs.Seen.{is_called, is_none, is_name}
-
--- one after the other, however they are put together
-pub assoc : {A B C : Type 0} (r : Result (A × State) ElabFault) (f : A → Act B) (g : B → Act C) → and_then (and_then r f) g ≡ and_then r (λ a. f a >>= g)
-assoc (Ok x) f g = refl
-assoc (Err e) f g = refl
 
 -- ---- lists that are made one by one
 -- what came so far, and then the rest
@@ -73,8 +69,8 @@ alone-is target place n ts v w s t h means = attribute-alone target place n ts v
 pub indexed-is : (target : Option (List ℕ)) (place p : Place) (x : Index) (xs : Indices) (rest : Trailers) (v : Value) (s : State)
     → trailers_mean target place (indexed p x xs rest) v s ≡ and_then (indices_mean (more_indices x xs) s) (λ is. index_value p v is >>= λ w. trailers_mean target place rest w)
 indexed-is target place p x xs rest v s =
-    sym (assoc (index_means x s) (λ i. indices_mean xs >>= λ is. done (i ∷ is)) (λ is. index_value p v is >>= λ w. trailers_mean target place rest w)
-    ∙ behind (index_means x s) (λ i t. assoc (indices_mean xs t) (λ is. done (i ∷ is)) (λ is. index_value p v is >>= λ w. trailers_mean target place rest w)))
+    sym (and_then-assoc (index_means x s) (λ i. indices_mean xs >>= λ is. done (i ∷ is)) (λ is. index_value p v is >>= λ w. trailers_mean target place rest w)
+    ∙ behind (index_means x s) (λ i t. and_then-assoc (indices_mean xs t) (λ is. done (i ∷ is)) (λ is. index_value p v is >>= λ w. trailers_mean target place rest w)))
   where
     behind : (r : Result (Evaluated × State) ElabFault) {f g : Evaluated → Act Value} → ((i : Evaluated) (t : State) → f i t ≡ g i t) → and_then r f ≡ and_then r g
     behind (Ok p) same = same p.0 p.1

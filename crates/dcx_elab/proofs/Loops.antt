@@ -13,13 +13,14 @@ use Rattle.dcx_script_values.specs.Values.{Value, Values, values_of, items_of, S
 use Rattle.dcx_script_values.specs.View.{Fails}
 use Rattle.dcx_script_values.proofs.Acts.{Fails-then, Fails-same, then_is}
 use Rattle.dcx_script_values.proofs.Lists.{items_of-values_of, values_of-items_of}
+use Rattle.dcx_script_state.proofs.Each.{and_then-assoc}
 use Rattle.dcx_operators.specs.Indices.{Evaluated}
 use Rattle.dcx_signature.specs.Arguments.{Given}
 use Rattle.dcx_elab.specs.Expressions.{args_mean, more_args_mean, arg_means, index_means, indices_mean, with_item, more_items_mean, items_mean, expr_means, primary_means}
 use Rattle.dcx_signature.specs.Firsts.{expr_place}
 use Rattle.dcx_signature.specs.Turns.{items_through}
 use Rattle.dcx_elab.specs.Turns.{turn, turns}
-use Rattle.dcx_elab.proofs.Chains.{assoc, go_on, go_on-none, go_on-next, go_on-end, done-ok, done-fails, Fails-again}
+use Rattle.dcx_elab.proofs.Chains.{go_on, go_on-none, go_on-next, go_on-end, done-ok, done-fails, Fails-again}
 use Rattle.dcx_elab.proofs.Lines.{drop-item}
 
 -- ---- arguments
@@ -175,7 +176,7 @@ tuple-fault place x xs comma v e s r m h =
 pub list-is : (place : Place) (x : Expr) (xs : List Expr) (comma : Bool) (v : Value) (us : Values) (s r t : State) → expr_means x s ≡ Ok (v, r)
     → and_then (with_item place [] (done v) r) (more_items_mean place (more_items_of xs comma)) ≡ Ok (items_of us, t) → primary_means (list place x (more_items_of xs comma)) s ≡ Ok (list_value us, t)
 list-is place x xs comma v us s r t m h =
-    sym (assoc (with_item place [] (expr_means x) s) (more_items_mean place (more_items_of xs comma)) (λ ws. done (list_of ws)))
+    sym (and_then-assoc (with_item place [] (expr_means x) s) (more_items_mean place (more_items_of xs comma)) (λ ws. done (list_of ws)))
     ∙ ap (λ q. and_then q (λ ws. done (list_of ws))) (ap (λ q. and_then q (more_items_mean place (more_items_of xs comma))) (opened place x v s r m) ∙ h)
     ∙ ap (λ (ws : Values). Ok (list_value ws, t)) (values_of-items_of us)
 
@@ -183,7 +184,7 @@ pub list-fault : (place : Place) (x : Expr) (xs : List Expr) (comma : Bool) (v :
     → Fails e (and_then (with_item place [] (done v) r) (more_items_mean place (more_items_of xs comma))) → Fails e (primary_means (list place x (more_items_of xs comma)) s)
 list-fault place x xs comma v e s r m h =
     Fails-same e _ (primary_means (list place x (more_items_of xs comma)) s)
-    (sym (assoc (with_item place [] (expr_means x) s) (more_items_mean place (more_items_of xs comma)) (λ ws. done (list_of ws))))
+    (sym (and_then-assoc (with_item place [] (expr_means x) s) (more_items_mean place (more_items_of xs comma)) (λ ws. done (list_of ws))))
     (Fails-then e (and_then (with_item place [] (expr_means x) s) (more_items_mean place (more_items_of xs comma))) (λ ws. done (list_of ws))
     (Fails-same e _ (and_then (with_item place [] (expr_means x) s) (more_items_mean place (more_items_of xs comma)))
     (ap (λ q. and_then q (more_items_mean place (more_items_of xs comma))) (opened place x v s r m)) h))
@@ -219,7 +220,7 @@ turns-more place first name element xs vs k v s h = ap (λ ys. turns place first
     rest ws = turns place first name element ws (drop (k + 1) vs)
 
     by : (r : Result (Value × State) ElabFault) → and_then r (λ x. room place xs x >> rest (xs ++ x ∷ [])) ≡ and_then (and_then r (λ x. room place xs x >> done (xs ++ x ∷ []))) rest
-    by (Ok p) = sym (assoc (room place xs p.0 p.1) (λ _. done (xs ++ p.0 ∷ [])) rest)
+    by (Ok p) = sym (and_then-assoc (room place xs p.0 p.1) (λ _. done (xs ++ p.0 ∷ [])) rest)
     by (Err e) = refl
 
 pub turns-end : (place first : Place) (name : List ℕ) (element : Act Value) (xs vs : List Value) (k : ℕ) (s : State) → length vs ≤ k → turns place first name element xs (drop k vs) s ≡ Ok (xs, s)

@@ -6,9 +6,9 @@ use Rattle.dcx_script_values.specs.declared.fault.ElabFault.{ElabFault}
 use Rattle.dcx_script_values.specs.Values.{Value, State, and_then, done}
 use Rattle.dcx_script_values.specs.View.{Fails}
 use Rattle.dcx_script_values.proofs.Acts.{Fails-then, Fails-same, then_is}
+use Rattle.dcx_script_state.proofs.Each.{and_then-assoc}
 use Rattle.dcx_operators.specs.Operators.{sign_value}
 use Rattle.dcx_elab.specs.Expressions.{signed}
-use Rattle.dcx_elab.proofs.Chains.{assoc}
 
 done-last : (r : Result (Value × State) ElabFault) → r ≡ and_then r (λ w. done w)
 done-last (Ok p) = refl
@@ -17,7 +17,7 @@ done-last (Err e) = refl
 signed-push : (ss : List Signed) (x : Signed) (v : Value) (s : State) → signed (ss ++ x ∷ []) v s ≡ and_then (sign_value x.sign x.place v s) (λ w. signed ss w)
 signed-push [] x v s = done-last (sign_value x.sign x.place v s)
 signed-push (y ∷ ys) x v s =
-    ap (λ r. and_then r (λ w. sign_value y.sign y.place w)) (signed-push ys x v s) ∙ assoc (sign_value x.sign x.place v s) (λ w. signed ys w) (λ w. sign_value y.sign y.place w)
+    ap (λ r. and_then r (λ w. sign_value y.sign y.place w)) (signed-push ys x v s) ∙ and_then-assoc (sign_value x.sign x.place v s) (λ w. signed ys w) (λ w. sign_value y.sign y.place w)
 
 signed-more : (ss : List Signed) (i : ℕ) (d : Signed) (v : Value) (s : State) → i < length ss
     → signed (take (i + 1) ss) v s ≡ and_then (sign_value (get_or ss i d).sign (get_or ss i d).place v s) (λ w. signed (take i ss) w)

@@ -16,6 +16,7 @@ use Rattle.dcx_script_values.specs.Values.{Value, State, Act, and_then, ◌>>=�
 use Rattle.dcx_elab.specs.Turns.{turn, turns, each_turn}
 use Rattle.dcx_elab.specs.Statements.{line_means, lines_mean}
 use Rattle.dcx_script_state.specs.Declarations.{start}
+use Rattle.dcx_script_state.proofs.Each.{and_then-assoc}
 use Rattle.dcx_elab.specs.Meaning.{meaning, ended}
 use Rattle.dcx_elab.specs.Laws.{followed_by, HoldsForLines, HasDistinctNames, KeepsNamesDistinct, HoldsForTurns}
 
@@ -24,17 +25,12 @@ behind : {A B : Type 0} (r : Result (A × State) ElabFault) (f g : A → Act B) 
 behind (Ok x) f g same = same x.0 x.1
 behind (Err e) f g same = refl
 
--- one after the other, however they are put together
-assoc : {A B C : Type 0} (r : Result (A × State) ElabFault) (f : A → Act B) (g : B → Act C) → and_then (and_then r f) g ≡ and_then r (λ a. f a >>= g)
-assoc (Ok x) f g = refl
-assoc (Err e) f g = refl
-
 -- ---- lines
 in_order : (ls more : Lines) (s : State) → lines_mean (followed_by ls more) s ≡ (lines_mean ls >> lines_mean more) s
 in_order no_lines more s = refl
 in_order (lines x rest) more s =
     behind (line_means x s) (λ _. lines_mean (followed_by rest more)) (λ _. lines_mean rest >> lines_mean more) (λ _ t. in_order rest more t)
-    ∙ sym (assoc (line_means x s) (λ _. lines_mean rest) (λ _. lines_mean more))
+    ∙ sym (and_then-assoc (line_means x s) (λ _. lines_mean rest) (λ _. lines_mean more))
 
 first_fault : (ls more : Lines) (e : ElabFault) → lines_mean ls start ≡ Err e → meaning (followed_by ls more) ≡ Err e
 first_fault ls more e h = ap ended (in_order ls more start ∙ ap (λ r. and_then r (λ _. lines_mean more)) h)
@@ -49,9 +45,9 @@ for_in_order name body [] ws s = refl
 for_in_order name body (v ∷ vs) ws s =
     behind (bind name v s) (λ _. body >> each_turn name body (vs ++ ws)) (λ _. body >> (each_turn name body vs >> each_turn name body ws))
     (λ _ t. behind (body t) (λ _. each_turn name body (vs ++ ws)) (λ _. each_turn name body vs >> each_turn name body ws) (λ _ u. for_in_order name body vs ws u))
-    ∙ sym (assoc (bind name v s) (λ _. body >> each_turn name body vs) (λ _. each_turn name body ws)
+    ∙ sym (and_then-assoc (bind name v s) (λ _. body >> each_turn name body vs) (λ _. each_turn name body ws)
     ∙ behind (bind name v s) (λ _. (body >> each_turn name body vs) >> each_turn name body ws) (λ _. body >> (each_turn name body vs >> each_turn name body ws))
-    (λ _ t. assoc (body t) (λ _. each_turn name body vs) (λ _. each_turn name body ws)))
+    (λ _ t. and_then-assoc (body t) (λ _. each_turn name body vs) (λ _. each_turn name body ws)))
 
 elements_in_order : (place first : Place) (name : List ℕ) (element : Act Value) (xs vs ws : List Value) (s : State) →
     turns place first name element xs (vs ++ ws) s ≡ (turns place first name element xs vs >>= λ ys. turns place first name element ys ws) s
@@ -60,9 +56,9 @@ elements_in_order place first name element xs (v ∷ vs) ws s =
     behind (turn first name element v s) (λ x. room place xs x >> go (xs ++ x ∷ []) (vs ++ ws)) (λ x. room place xs x >> (go (xs ++ x ∷ []) vs >>= λ ys. go ys ws))
     (λ x t. behind (room place xs x t) (λ _. go (xs ++ x ∷ []) (vs ++ ws)) (λ _. go (xs ++ x ∷ []) vs >>= λ ys. go ys ws)
     (λ _ u. elements_in_order place first name element (xs ++ x ∷ []) vs ws u))
-    ∙ sym (assoc (turn first name element v s) (λ x. room place xs x >> go (xs ++ x ∷ []) vs) (λ ys. go ys ws)
+    ∙ sym (and_then-assoc (turn first name element v s) (λ x. room place xs x >> go (xs ++ x ∷ []) vs) (λ ys. go ys ws)
     ∙ behind (turn first name element v s) (λ x. (room place xs x >> go (xs ++ x ∷ []) vs) >>= λ ys. go ys ws) (λ x. room place xs x >> (go (xs ++ x ∷ []) vs >>= λ ys. go ys ws))
-    (λ x t. assoc (room place xs x t) (λ _. go (xs ++ x ∷ []) vs) (λ ys. go ys ws)))
+    (λ x t. and_then-assoc (room place xs x t) (λ _. go (xs ++ x ∷ []) vs) (λ ys. go ys ws)))
   where
     go : List Value → List Value → Act (List Value)
     go = turns place first name element

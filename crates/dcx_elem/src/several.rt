@@ -1,7 +1,8 @@
 //! The greatest of several arrays, entry by entry, and the least.
 ghost use Rattle.std.specs.Prelude.{◌≡◌};
 ghost use Rattle.dcx_elem.specs.Extremes.{extreme_meaning};
-ghost use Rattle.dcx_elem.specs.ExtremeLaws.{extreme_formation, extreme_sign_law, extreme_monotonicity, extreme_curvature, extreme_soundness, extreme_tightness, extreme_subgradient, extreme_recession};
+ghost use Rattle.dcx_elem.specs.ExtremeLaws.{extreme_formation, extreme_sign_law, extreme_monotonicity, extreme_curvature, extreme_soundness};
+ghost use Rattle.dcx_elem.specs.ExtremeLaws.{extreme_tightness, extreme_subgradient, extreme_recession};
 ghost use Rattle.dcx_elem.specs.ExtremeDualLaws.{extreme_duality};
 ghost use Rattle.dcx_elem.specs.OwnLaws.{extreme_own};
 ghost use Rattle.dcx_elem.specs.FractionLaws.{extreme_fraction_summands, extreme_fraction_coefficients, extreme_fraction_slopes};

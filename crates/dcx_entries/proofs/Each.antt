@@ -1,8 +1,9 @@
 -- Entries that are formed one after the other.
-use Rattle.std.proofs.Common.{◌≡◌, ℕ, zero, suc, ◌+◌, ◌<◌, ◌≤◌, ◌⊎◌, List, [], ◌∷◌, ◌++◌, map, slice_index_or, Some, None, Result, Ok, Err}
+use Rattle.std.proofs.Common.{◌≡◌, ℕ, zero, suc, ◌+◌, ◌<◌, ◌⊎◌, List, [], ◌∷◌, ◌++◌, map, slice_index_or, Some, Result, Ok, Err}
 use Rattle.std.proofs.Common.{IfOk, length, get_or, slice_get, inl, inr, refl, sym, ap, ◌∙◌, subst, arith, length-append}
 use Rattle.std.proofs.lemmas.List.{length-map}
-use Rattle.std.proofs.lemmas.Option.{slice_get_within, slice_get_cases}
+use Rattle.std.proofs.lemmas.Option.{slice_get_within}
+use Rattle.dcx_math.proofs.Lists.{element_at}
 use Rattle.dcx_frac.specs.declared.fraction.Passes.{Passes}
 use Rattle.dcx_atom.specs.declared.stops.ValueStop.{ValueStop}
 use Rattle.dcx_atom.specs.declared.stops.ValueStop.TheVariants as stops
@@ -23,14 +24,6 @@ get_more (z ∷ zs) x y (suc j) e = by (get_more zs x y j e)
     by (inl h) = inl h
     by (inr h) = inr (ap suc h.0, h.1)
 
--- what stands before the end of a list
-pub some_before : {A : Type 0} (xs : List A) (j : ℕ) → j < length xs → (x : A) × (slice_get xs j ≡ Some x)
-some_before xs j lt = by (slice_get_cases xs j).1
-  where
-    by : ((x : _) × (j < length xs) × (slice_get xs j ≡ Some x) × (get_or xs j x ≡ x)) ⊎ ((length xs ≤ j) × (slice_get xs j ≡ None)) → (x : _) × (slice_get xs j ≡ Some x)
-    by (inl h) = (h.0, h.2)
-    by (inr h) = absurd (omega (arith, lt, h.0))
-
 module _ {A E : Type 0} (F : ℕ → Result A E → Type 0) where
   pub each_none : FormsEach F 0 (Ok [])
   each_none = (refl, λ j x e. absurd (omega (arith, slice_get_within [] j x e)))
@@ -48,7 +41,7 @@ module _ {A E : Type 0} (F : ℕ → Result A E → Type 0) where
 
   -- the next one stops
   pub each_stops : (n k : ℕ) (xs : List A) (e : E) → FormsEach F k (Ok xs) → k < n → F k (Err e) → FormsEach F n (Err e)
-  each_stops n k xs e h lt f = (k, lt, f, λ j below. let s = some_before xs j (rw h.0 below) in (s.0, h.1 j s.0 s.1))
+  each_stops n k xs e h lt f = (k, lt, f, λ j below. let s = element_at xs j (rw h.0 below) in (s.0, h.1 j s.0 s.1))
 
 -- place by place, what F says of what is made of a list
 module _ {X P A E : Type 0} (g : X → P) (none : P) (F : P → Result A E → Type 0) (xs : List X) where

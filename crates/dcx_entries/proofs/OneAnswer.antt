@@ -1,12 +1,14 @@
 -- Entries are formed in one way.
-use Rattle.std.proofs.Common.{◌≡◌, ℕ, suc, ◌<◌, Bool, true, false, List, [], ◌∷◌, length, Option, Some, Result, Ok, Err, slice_get, slice_index_or, refl, sym, ap, ap₂, ◌∙◌, subst, arith}
+use Rattle.std.proofs.Common.{◌≡◌, ℕ, ◌<◌, Bool, true, false, List, [], ◌∷◌, length, Option, Result, Ok, Err, slice_index_or, sym, ap, ap₂, ◌∙◌, subst, arith}
 use Rattle.std.specs.List.{list_any}
 use native.Mathlib.Decide.{dec_lt}
+use Rattle.dcx_math.proofs.Lists.{element_at}
 use Rattle.dcx_frac.specs.declared.fraction.Frac.{Frac}
 use Rattle.dcx_frac.specs.declared.fraction.Passes.{Passes}
 use Rattle.dcx_atom.specs.declared.stops.ValueStop.{ValueStop}
 use Rattle.dcx_atom.specs.declared.stops.ValueStop.TheVariants as stops
 use Rattle.dcx_affine.specs.declared.pairing.Pair.{Pair}
+use Rattle.dcx_arena.proofs.OneGathering.{one_list}
 use Rattle.dcx_linear.specs.declared.change.Change.{Change}
 use Rattle.dcx_linear.specs.declared.form.Form.{Form}
 use Rattle.dcx_linear.specs.Forms.{sum_gives_linear, change_gives_linear}
@@ -22,14 +24,6 @@ use Rattle.dcx_entries.specs.Forming.{FormsEach, AtEntry}
 use Rattle.dcx_entries.specs.Parts.{Arguments, zero_form, left_scaled, right_scaled, divided, has_zero_divisor}
 use Rattle.dcx_entries.specs.Sums.{adds, adds_multiple, adds_pair, adds_each}
 use Rattle.dcx_entries.specs.Entries.{alone, LinearEntry, EachSum, AtomEntry, PairSum, PairEntryBy, PairEntry}
-use Rattle.dcx_entries.proofs.Each.{some_before}
-
--- lists that are the same place by place
-same_lists : {A : Type 0} (xs ys : List A) → length xs ≡ length ys → ((j : ℕ) (x y : A) → slice_get xs j ≡ Some x → slice_get ys j ≡ Some y → x ≡ y) → xs ≡ ys
-same_lists [] [] le f = refl
-same_lists [] (y ∷ ys) le f = absurd (omega (arith, le))
-same_lists (x ∷ xs) [] le f = absurd (omega (arith, le))
-same_lists (x ∷ xs) (y ∷ ys) le f = ap₂ ◌∷◌ (f 0 x y refl refl) (same_lists xs ys (omega (arith, le)) (λ j u v e d. f (suc j) u v e d))
 
 -- where each entry has one answer, all together have one
 module _ {A E : Type 0} (F : ℕ → Result A E → Type 0) (one : (j : ℕ) (r s : Result A E) → F j r → F j s → r ≡ s) where
@@ -43,9 +37,9 @@ module _ {A E : Type 0} (F : ℕ → Result A E → Type 0) (one : (j : ℕ) (r 
   not_both j x e h k = let d = one j (Ok x) (Err e) h k in cc
 
   pub one_each : (n : ℕ) (r s : Result (List A) E) → FormsEach F n r → FormsEach F n s → r ≡ s
-  one_each n (Ok xs) (Ok ys) h k = ap Ok (same_lists xs ys (h.0 ∙ sym k.0) (λ j x y e d. same_values j x y (h.1 j x e) (k.1 j y d)))
-  one_each n (Ok xs) (Err e) h k = let x = some_before xs k.0 (rw h.0 k.1) in absurd (not_both k.0 x.0 e (h.1 k.0 x.0 x.1) k.2)
-  one_each n (Err e) (Ok ys) h k = let y = some_before ys h.0 (rw k.0 h.1) in absurd (not_both h.0 y.0 e (k.1 h.0 y.0 y.1) h.2)
+  one_each n (Ok xs) (Ok ys) h k = ap Ok (one_list xs ys (h.0 ∙ sym k.0) (λ j x y e d. same_values j x y (h.1 j x e) (k.1 j y d)))
+  one_each n (Ok xs) (Err e) h k = let x = element_at xs k.0 (rw h.0 k.1) in absurd (not_both k.0 x.0 e (h.1 k.0 x.0 x.1) k.2)
+  one_each n (Err e) (Ok ys) h k = let y = element_at ys h.0 (rw k.0 h.1) in absurd (not_both h.0 y.0 e (k.1 h.0 y.0 y.1) h.2)
   one_each n (Err e) (Err d) h k = ap Err (by (dec_lt h.0 k.0) (dec_lt k.0 h.0))
     where
       by : Dec (h.0 < k.0) → Dec (k.0 < h.0) → e ≡ d

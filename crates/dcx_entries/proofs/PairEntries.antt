@@ -1,5 +1,5 @@
 -- The entries of a product or a quotient are formed one after the other.
-use Rattle.std.proofs.Common.{◌≡◌, ℕ, zero, suc, ◌+◌, ◌<◌, List, [], ◌∷◌, ◌++◌, length, get_or, slice_index_or, Option, Result, Ok, Err, refl, sym, subst, arith}
+use Rattle.std.proofs.Common.{◌≡◌, ℕ, ◌+◌, ◌<◌, List, [], ◌∷◌, ◌++◌, slice_index_or, Option, Result, Ok, Err, sym, subst}
 use Rattle.dcx_frac.specs.declared.fraction.Frac.{Frac}
 use Rattle.dcx_frac.specs.declared.fraction.Passes.{Passes}
 use Rattle.dcx_atom.specs.declared.stops.ValueStop.{ValueStop}
@@ -11,12 +11,6 @@ use Rattle.dcx_entries.specs.Forming.{FormsEach, OnStop}
 use Rattle.dcx_entries.specs.Parts.{Arguments}
 use Rattle.dcx_entries.specs.Entries.{PairEntry}
 use Rattle.dcx_entries.proofs.Each.{each_more, each_stops, OnStop-weaker}
-
--- what stands at a place, stands there whatever is told of places past the end
-pub item_is : {X : Type 0} (xs : List X) (i : ℕ) (d : X) → i < length xs → get_or xs i d ≡ get_or xs i (get_or xs i d)
-item_is [] i d lt = absurd (omega (arith, lt))
-item_is (x ∷ xs) zero d lt = refl
-item_is (x ∷ xs) (suc i) d lt = item_is xs i d (omega (arith, lt))
 
 module _ {C : Type 0} (of_number : Frac → C) (number_of : C → Option Frac) (Sums : C → C → Result C Passes → Type 0) (Changes : Change → C → Result C Passes → Type 0) (scaling : Scaling)
     (args : Arguments C) (pairs : List (List Pair)) where

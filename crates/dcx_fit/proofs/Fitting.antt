@@ -10,6 +10,7 @@ use Rattle.dcx_point.specs.Pairs.{Pairs}
 use Rattle.dcx_arena.specs.Nodes.{call_at}
 use Rattle.dcx_convex.specs.Nodes as convex
 use Rattle.dcx_convex.specs.Nodes.{Numbers, EachNode, Keeps, ParameterKeeps}
+use Rattle.dcx_convex.proofs.Domains.{keeps_prop}
 use Rattle.dcx_call.specs.declared.attribute.Variable.{Variable}
 use Rattle.dcx_call.specs.declared.attribute.Parameter.{Parameter}
 use Rattle.dcx_call.specs.declared.call.Call.{Call}
@@ -23,7 +24,7 @@ use Rattle.dcx_tree.proofs.Lawful.{mapped}
 use Rattle.dcx_tree.proofs.Names.{found_in}
 use Rattle.dcx_tree.proofs.Sublists.{contains_at}
 use Rattle.dcx_tree.proofs.Values.{taken}
-use Rattle.dcx_domain.proofs.Points.{same_attribute, keeps_prop, within_prop}
+use Rattle.dcx_domain.proofs.Points.{same_attribute, within_prop}
 use Rattle.dcx_fit.specs.Laws.{HoldsForFitting}
 use Rattle.dcx_math.proofs.Lists.{holds_at}
 

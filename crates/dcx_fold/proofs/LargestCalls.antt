@@ -77,7 +77,8 @@ largest_value_is bend k args x v sum xs some e f shape entries forms is = record
     same : chosen bend k (length xs) (number_at xs) ≡ chosen bend k (entries_of (sides_at (array_sides args) 0)) (numbers_of args 0)
     same = ap (λ ys. chosen bend k (length ys) (number_at ys)) f ∙ sym (entries_chosen bend k args x some e)
 
-stop_of_one : (bend : Bend) (k : ℕ) (args : List Array) (stop : ValueStop) → IsStopOfSum 0 (chosen bend k (entries_of (sides_at (array_sides args) 0)) (numbers_of args 0)) stop → IsValueStop (largest_meaning bend k) args 1 stop
+stop_of_one : (bend : Bend) (k : ℕ) (args : List Array) (stop : ValueStop) → IsStopOfSum 0 (chosen bend k (entries_of (sides_at (array_sides args) 0)) (numbers_of args 0)) stop
+    → IsValueStop (largest_meaning bend k) args 1 stop
 stop_of_one bend k args (values.Passes entry passes) h =
     let e : entry ≡ 0 = h.0 in
     (omega (arith, e), record { before = λ j b. absurd (omega (arith, e, b)); here = h.1 })
@@ -91,12 +92,14 @@ largest_value_stop bend k args x xs stop some e f h =
     (stop_of_one bend k args stop (subst (λ ys. IsStopOfSum 0 ys stop) (ap (λ ys. chosen bend k (length ys) (number_at ys)) f ∙ sym (entries_chosen bend k args x some e)) h))
 
 -- ---- the only argument of a graph and of slopes
-pub first_size : (k : ℕ) (args : List Shape) (x : Shape) (size : ℕ) → IsSome (chosen_sides k (sides_list args)) → x ≡ get_or args 0 x → size ≡ entries_of (sides_of x) → size ≡ entries_of (sides_at (sides_list args) 0)
+pub first_size : (k : ℕ) (args : List Shape) (x : Shape) (size : ℕ) → IsSome (chosen_sides k (sides_list args)) → x ≡ get_or args 0 x → size ≡ entries_of (sides_of x)
+    → size ≡ entries_of (sides_at (sides_list args) 0)
 first_size k [] x size some e n = cc
 first_size k (y ∷ ys) x size some e n = n ∙ ap (λ z. entries_of (sides_of z)) e
 
 pub largest_graph_is : (bend : Bend) (k : ℕ) (args : List Sides) (size : ℕ) (g : Graph) → size ≡ entries_of (sides_at args 0) → g.aux ≡ Free ∷ replicate size Nonneg →
-    map placed_row g.rows ≡ list_below size (λ i. record { entry = 0; row = level_row bend i }) → map (map form_term) g.results ≡ level_form bend k size ∷ [] → IsGraphOf (largest_meaning bend k) args 1 g
+    map placed_row g.rows ≡ list_below size (λ i. record { entry = 0; row = level_row bend i }) → map (map form_term) g.results ≡ level_form bend k size ∷ []
+    → IsGraphOf (largest_meaning bend k) args 1 g
 largest_graph_is bend k args size g n kinds rows results = record {
   kinds = kinds ∙ ap (λ m. Free ∷ replicate m Nonneg) n;
   rows = rows ∙ sym (map-list_below size (level_row bend) (λ row. record { entry = 0; row = row })) ∙ ap (λ m. map (λ row. record { entry = 0; row = row }) (list_below m (level_row bend))) n;
@@ -107,7 +110,8 @@ largest_graph_is bend k args size g n kinds rows results = record {
 pub rows_of_one : (bend : Bend) (k : ℕ) (args : List Sides) (ws : List Frac) → length ws ≡ rows_before (largest_meaning bend k) args 1 → length ws ≡ entries_of (sides_at args 0)
 rows_of_one bend k args ws e = let n = length-list_below (entries_of (sides_at args 0)) (level_row bend) in omega (arith, e, n)
 
-pub largest_slopes_are : (bend : Bend) (k : ℕ) (args : List Sides) (cs ws gs : List Frac) (c : Frac) → IsSome (chosen_sides k args) → length ws ≡ entries_of (sides_at args 0) → value c ≡ number_at cs 0 →
+pub largest_slopes_are : (bend : Bend) (k : ℕ) (args : List Sides) (cs ws gs : List Frac) (c : Frac) → IsSome (chosen_sides k args) → length ws ≡ entries_of (sides_at args 0)
+    → value c ≡ number_at cs 0 →
     first_stop 0 (map (λ w. test (is_weight w)) (map value ws) ++ map test (level_conditions bend k (value c) (map value ws))) ≡ None → map value gs ≡ map (λ w. outward bend (value w)) ws →
     AreSlopesOf (largest_meaning bend k) args 1 cs ws gs
 largest_slopes_are bend k [] cs ws gs c some n e none is = cc

@@ -1,5 +1,5 @@
 -- The laws of the greatest and the least entry of each group, and of its norms.
-use Rattle.std.proofs.Common.{◌≡◌, ℕ, zero, suc, ◌+◌, ◌*◌, ◌/◌, ◌%◌, ◌<◌, arith, List, [], ◌∷◌, length, All, replicate, inl, inr, refl, sym, ap, ap₂, ◌∙◌, subst, pos, negsuc}
+use Rattle.std.proofs.Common.{◌≡◌, ℕ, zero, suc, ◌+◌, ◌*◌, ◌/◌, ◌%◌, ◌<◌, List, [], ◌∷◌, length, All, replicate, inl, inr, refl, sym, ap, ap₂, ◌∙◌, subst, pos, negsuc}
 use Rattle.std.proofs.lemmas.Nat.{mod-mul-add, div-mul-add}
 use Rattle.std.proofs.lemmas.List.{get_or-replicate, length-map}
 use Rattle.std.proofs.lemmas.List.Elements.{All-head}
@@ -29,6 +29,7 @@ use Rattle.dcx_atom.proofs.Sublinear.{curvature_of, recession_of}
 use Rattle.dcx_atom.specs.Duality.{no_entries, no_filling, AreRowSlopes, AreBalanced}
 use Rattle.dcx_atom.proofs.Duality.{subgradient_of}
 use Rattle.dcx_atom.proofs.LinearSums.{follows_rising, All-list_below}
+use Rattle.dcx_atom.proofs.Lists.{among_parts}
 use Rattle.dcx_atom.proofs.BoundRows.{
   length-list_below,
   All-at,
@@ -336,10 +337,6 @@ balanced_sum n k c w t met nonneg =
     (subst IsNonnegative (rat_sum_below-+ℚ n (λ i. c *ℚ own i) over)
     (rat_sum_below-nonnegative n _ (λ i b. each_kept c _ (t (k * n + i)) (All-at IsMet n _ met i b) (nonneg i b)))))
 
--- unknown i of group k is among all
-pub among_members : (k i n size : ℕ) → k < size → i < n → k * n + i < size * n
-among_members k i n size h b = grind arith
-
 nonneg_members : (axis : Axis) (args : List Sides) (to : Sides) (t : Filling) → IsFold axis args to → KindsHold (replicate (entries_of (sides_at args 0)) Nonneg) t → (k i : ℕ)
     → k < entries_of to → i < folded_count axis (sides_at args 0) →
     IsNonnegative (t (k * folded_count axis (sides_at args 0) + i))
@@ -348,7 +345,7 @@ nonneg_members axis args to t f kinds k i h b =
     let n = folded_count axis s in
     let l : k < groups axis s = subst (λ m. k < m) (groups_of_value axis args to f) h in
     let all : entries_of s ≡ groups axis s * n = subst (λ r. entries_of r ≡ groups axis r * folded_count axis r) (sym (first_is axis args to f)) (all_members axis f.from to f.sides) in
-    kinds (k * n + i) (get_or-replicate (entries_of s) (k * n + i) Nonneg Free (subst (λ m. k * n + i < m) (sym all) (among_members k i n (groups axis s) l b)))
+    kinds (k * n + i) (get_or-replicate (entries_of s) (k * n + i) Nonneg Free (subst (λ m. k * n + i < m) (sym all) (among_parts k i n (groups axis s) l b)))
 
 balanced_group : (p : Fold) (axis : Axis) (args : List Sides) (to : Sides) (c : ℚ) (w : ℕ → ℚ) (t : Filling) → IsFold axis args to →
     KindsHold (replicate (unknowns p axis (sides_at args 0)) (fold_kind p)) t → (k : ℕ) → k < entries_of to → All IsMet (group_conditions p (folded_count axis (sides_at args 0)) c w) →

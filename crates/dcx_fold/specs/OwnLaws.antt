@@ -12,13 +12,14 @@ use Rattle.dcx_atom.specs.Arrays.{sides_at, list_below, joined_below}
 use Rattle.dcx_atom.specs.Axis.{folded_count}
 use Rattle.dcx_atom.specs.Bounding.{argument_term, unknown_term, bound_row}
 use Rattle.dcx_atom.specs.OwnUnknowns.{AreOwnTerms, AreOwnRows, IsOwnForm, HasOwnUnknowns}
+use Rattle.dcx_atom.proofs.Lists.{among_parts}
 use Rattle.dcx_atom.proofs.OwnTerms.{rows_below, rows_joined, form_below, bound_own, bounds_own}
 use Rattle.dcx_fold.specs.declared.folding.Fold.{Fold}
 use Rattle.dcx_fold.specs.declared.folding.Fold.TheVariants.{Max, Min, Norm1, NormInf}
 use Rattle.dcx_fold.specs.Groups.{groups, member, fold_sides}
 use Rattle.dcx_fold.specs.GroupLaws.{is_fold, first_is, all_members}
 use Rattle.dcx_fold.specs.Folds.{fold_bend, fold_kind, factors, unknown_of, unknowns, group_rows, group_form, fold_meaning}
-use Rattle.dcx_fold.specs.FoldLaws.{groups_of_value, among_members}
+use Rattle.dcx_fold.specs.FoldLaws.{groups_of_value}
 use Rattle.dcx_fold.specs.Largest.{level_row, level_form, largest_meaning}
 use Rattle.dcx_fold.specs.Running.{running_rows, running_meaning}
 use Rattle.dcx_fold.specs.RunningLaws.{is_running}
@@ -46,7 +47,7 @@ module _ (axis : Axis) (args : List Sides) (sides : Sides) (is : fold_sides axis
       let fold = is_fold axis args sides is in
       let all : entries_of s ≡ groups axis s * n =
       subst (λ r. entries_of r ≡ groups axis r * folded_count axis r) (sym (first_is axis args sides fold)) (all_members axis fold.from sides fold.sides) in
-      subst (λ m. k * n + i < m) (sym all) (among_members k i n (groups axis s) (group_within k b) c)
+      subst (λ m. k * n + i < m) (sym all) (among_parts k i n (groups axis s) (group_within k b) c)
 
   within : (p : Fold) (k i : ℕ) → k < entries_of sides → i < n → unknown_of p n k i < unknowns p axis s
   within Max k i b c = group_within k b

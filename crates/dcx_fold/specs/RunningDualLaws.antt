@@ -4,7 +4,7 @@ use Rattle.std.proofs.lemmas.List.Elements.{All-cons, All-nil}
 use Rattle.dcx_math.specs.Rational.{ℚ, whole, neg_ℚ, ◌+ℚ◌, ◌-ℚ◌, ◌*ℚ◌, ◌≤ℚ◌}
 use Rattle.dcx_math.specs.Sums.{IsNonnegative, rat_sum, rat_sum_below}
 use Rattle.dcx_math.proofs.Ring.{ring, reads}
-use Rattle.dcx_math.proofs.Orders.{≤ℚ_antisym, linear}
+use Rattle.dcx_math.proofs.Orders.{≤ℚ_antisym, linear, *ℚ-zero}
 use Rattle.dcx_shape.specs.declared.shape.Sides.TheVariants.{Scalar, Vector, Matrix}
 use Rattle.dcx_shape.specs.Sides.{entries_of}
 use Rattle.dcx_atom.specs.Rows.{Filling, form_at, weighted}
@@ -47,9 +47,6 @@ all_left zero c w t = refl
 all_left (suc m) c w t =
     left_so_far (suc m) m c w t (omega arith) ∙ ap (λ v. rat_sum_below (suc m) (own_part (suc m) c w t) +ℚ neg_ℚ (v *ℚ t m)) (carry_none m w) ∙ zero_carry _ (t m)
 
-nothing_of : (x : ℚ) → x *ℚ whole (pos 0) ≡ whole (pos 0)
-nothing_of x = ring (x ∷ []) (search reads depth 30) tt
-
 most_of : (c v s : ℚ) → IsNonnegative (((c +ℚ v) -ℚ s) *ℚ whole (pos 1)) → s ≤ℚ c +ℚ v
 most_of c v s h = linear (c ∷ v ∷ s ∷ []) h (search reads depth 30) tt
 
@@ -66,7 +63,7 @@ condition_met n c w left j b =
     let t = only_at j x in
     subst IsNonnegative (ap (λ y. ((c j +ℚ carry n w j) -ℚ rat_sum (own_weights j (w j))) *ℚ y) (at_itself j x))
     (one_left n j (own_part n c w t) b
-    (λ i l d. ap (λ y. ((c i +ℚ carry n w i) -ℚ rat_sum (own_weights i (w i))) *ℚ y) (at_other j x i d) ∙ nothing_of _)
+    (λ i l d. ap (λ y. ((c i +ℚ carry n w i) -ℚ rat_sum (own_weights i (w i))) *ℚ y) (at_other j x i d) ∙ *ℚ-zero _)
     (subst IsNonnegative (all_left n c w t) (left t))) in
     ≤ℚ_antisym (most_of (c j) (carry n w j) _ (at (whole (pos 1)))) (least_of (c j) (carry n w j) _ (at (whole (negsuc 0))))
 

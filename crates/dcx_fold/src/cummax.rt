@@ -1,7 +1,8 @@
 //! The running maximum as a call.
 ghost use Rattle.std.specs.Prelude.{◌≡◌};
 ghost use Rattle.dcx_fold.specs.Running.{running_meaning};
-ghost use Rattle.dcx_fold.specs.RunningLaws.{running_formation, running_sign_law, running_monotonicity, running_curvature, running_soundness, running_tightness, running_subgradient, running_recession};
+ghost use Rattle.dcx_fold.specs.RunningLaws.{running_formation, running_sign_law, running_monotonicity, running_curvature, running_soundness};
+ghost use Rattle.dcx_fold.specs.RunningLaws.{running_tightness, running_subgradient, running_recession};
 ghost use Rattle.dcx_fold.specs.RunningDualLaws.{running_duality};
 ghost use Rattle.dcx_fold.specs.OwnLaws.{running_own};
 ghost use Rattle.dcx_fold.specs.FractionLaws.{running_fraction_summands, running_fraction_coefficients, running_fraction_slopes};

@@ -24,10 +24,6 @@ pub map-joined : {A B : Type 0} (h : A → B) (n : ℕ) (f : ℕ → List A) →
 map-joined h zero f = refl
 map-joined h (suc n) f = map-append h (joined_below n f) (f n) ∙ ap (λ xs. xs ++ map h (f n)) (map-joined h n f)
 
-pub map-map : {A B D : Type 0} (f : A → B) (g : B → D) (xs : List A) → map g (map f xs) ≡ map (λ x. g (f x)) xs
-map-map f g [] = refl
-map-map f g (x ∷ xs) = ap (λ ys. g (f x) ∷ ys) (map-map f g xs)
-
 -- a list by its places
 pub list_of : {A B : Type 0} (h : A → B) (xs : List A) (d : A) → list_below (length xs) (λ k. h (slice_index_or xs k d)) ≡ map h xs
 list_of h [] d = refl

@@ -279,7 +279,8 @@ module _ {C : Type 0} (value_at : C → Parameters → ℚ) (of_number : Frac �
         let result = (atom_meaning m).result (arg_sides p.tree n) j in
         let made = atom_made of_number number_of Sums Changes (map (aux_part of_number (first_aux rules p i)) result) _ entry h in
         parts_are value_at of_number number_of Sums Changes laws u params (map (aux_part of_number (first_aux rules p i)) result) entry.form made.sums
-        ∙ result_is value_at of_number number_of Sums Changes laws u params (first_aux rules p i) result ((atom_lawful m).fraction_coefficients.results (arg_sides p.tree n) n.sides j shape (few_args p.tree p.nodes n))
+        ∙ result_is value_at of_number number_of Sums Changes laws u params (first_aux rules p i) result ((atom_lawful m).fraction_coefficients.results
+        (arg_sides p.tree n) n.sides j shape (few_args p.tree p.nodes n))
     call_value (calls.Linear l) is shape j b entry h =
         let terms = (linear_meaning l).terms (arg_sides p.tree n) j in
         parts_are value_at of_number number_of Sums Changes laws u params (map (term_part args) terms) entry.form

@@ -5,6 +5,7 @@ use Rattle.std.proofs.Math.Path.{fun_ext}
 use Rattle.std.proofs.lemmas.List.{length-map}
 use Rattle.std.proofs.lemmas.Option.{slice_get-map, get_or_from_slice_get}
 use Rattle.dcx_math.specs.Rational.{ℚ}
+use Rattle.dcx_math.proofs.Lists.{map-map}
 use Rattle.dcx_frac.specs.declared.fraction.Frac.{Frac}
 use Rattle.dcx_frac.specs.declared.fraction.Passes.{Passes}
 use Rattle.dcx_shape.specs.Sides.{entries_of}
@@ -41,7 +42,7 @@ use Rattle.dcx_entries.specs.Standing.{args_among}
 use Rattle.dcx_entries.specs.Nodes.{Table, table_forms, number_entry, numbers_in, scaling_of, ReducedEntry, NodeEntryBy, AreFormed}
 use Rattle.dcx_entries.specs.Kept.{entry_rows, node_rows, graph_rows}
 use Rattle.dcx_formed.specs.Forms.{forms_at}
-use Rattle.dcx_formed.proofs.Lists.{joined_same, joined_none, flat_below, map-joined, map-map, list_of, maps_same, all_at}
+use Rattle.dcx_formed.proofs.Lists.{joined_same, joined_none, flat_below, map-joined, list_of, maps_same, all_at}
 use Rattle.dcx_formed.proofs.Coefs.{AreCoefs}
 use Rattle.dcx_atom.specs.Fractions.{FitsRow}
 use Rattle.dcx_formed.proofs.PartValues.{parts_are, row_is}

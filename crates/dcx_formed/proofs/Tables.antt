@@ -4,6 +4,7 @@ use Rattle.std.proofs.lemmas.List.{length-map}
 use Rattle.std.proofs.lemmas.List.Elements.{All-head, All-tail}
 use Rattle.std.proofs.lemmas.Option.{slice_get-map, slice_get_within, get_or_from_slice_get}
 use Rattle.dcx_math.specs.Rational.{ℚ}
+use Rattle.dcx_math.proofs.Lists.{element_at}
 use Rattle.dcx_frac.specs.declared.fraction.Frac.{Frac}
 use Rattle.dcx_frac.specs.declared.fraction.Passes.{Passes}
 use Rattle.dcx_shape.specs.Sides.{entries_of}
@@ -20,7 +21,6 @@ use Rattle.dcx_entries.specs.Parts.{zero_form}
 use Rattle.dcx_entries.specs.Entries.{entry_forms}
 use Rattle.dcx_entries.specs.Standing.{args_among}
 use Rattle.dcx_entries.specs.Nodes.{Table, table_forms, NodeEntry, NodeGives, AreFormed}
-use Rattle.dcx_entries.proofs.Each.{some_before}
 use Rattle.dcx_entries.proofs.Past.{past_end}
 
 -- the form of entry j of node i, and 0 past the end
@@ -61,7 +61,7 @@ module _ {C : Type 0} (of_number : Frac → C) (number_of : C → Option Frac) (
   unfolding entries
   there =
       let b : i < length table = let c = formed.count in let l = slice_get_within p.tree i n at in omega (arith, c, l) in
-      let (es, e) = some_before table i b in
+      let (es, e) = element_at table i b in
       e ∙ ap Some (sym (get_or_from_slice_get table i es [] e))
 
   gives : NodeGives of_number number_of Sums Changes Reads rules p setting table i n (Ok entries)
@@ -81,7 +81,7 @@ module _ {C : Type 0} (of_number : Frac → C) (number_of : C → Option Frac) (
   unfolding entries
   entry_there j b =
       let l : j < length entries = let c = gives.0 in omega (arith, c, b) in
-      let (entry, e) = some_before entries j l in
+      let (entry, e) = element_at entries j l in
       record {
         entry = entry;
         here = e;

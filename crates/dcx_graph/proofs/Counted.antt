@@ -3,6 +3,7 @@ use Rattle.std.proofs.Common.{◌≡◌, ℕ, zero, suc, ◌+◌, ◌<◌, ◌�
 use Rattle.std.proofs.Common.{slice_get, slice_index_or, refl, sym, ap, ap₂, ◌∙◌, arith, add-one, length-append}
 use Rattle.std.proofs.lemmas.List.{length-map}
 use Rattle.std.proofs.lemmas.Option.{slice_get-get_or}
+use Rattle.dcx_math.proofs.Lists.{element_at}
 use Rattle.dcx_frac.specs.declared.fraction.Frac.{Frac}
 use Rattle.dcx_frac.specs.declared.fraction.Passes.{Passes}
 use Rattle.dcx_shape.specs.declared.shape.Sides.{Sides}
@@ -32,7 +33,6 @@ use Rattle.dcx_entries.specs.Entries.{alone, PairEntryBy}
 use Rattle.dcx_entries.specs.Nodes.{Table, numbers_in, number_entry, NumberEntry, ReducedEntry, NodeEntryBy, AreFormed}
 use Rattle.dcx_entries.specs.Standing.{args_among}
 use Rattle.dcx_entries.specs.Kept.{entry_rows, node_rows, graph_rows}
-use Rattle.dcx_entries.proofs.Each.{some_before}
 
 -- a row of an entry
 abbrev placed_at : ℕ → Row → PlacedRow
@@ -127,7 +127,7 @@ module _ {C : Type 0} (of_number : Frac → C) (number_of : C → Option Frac) (
 
     node_counted : (i : ℕ) → i < length p.tree → length (node_rows of_number i (Own i)) ≡ length (rows_if p.tree (is_reduced rules p i) (slice_get p.tree i))
     node_counted i lt =
-        let n = some_before p.tree i lt in
+        let n = element_at p.tree i lt in
         let count = formed.count in
         let gives = formed.each i n.0 (Own i) lt n.1 (slice_get-get_or table i [] (omega arith)) in
         node_count _ i n.0 (Own i) (is_reduced rules p i) gives.0 gives.1 ∙ ap (λ (o : Option Node). length (rows_if p.tree (is_reduced rules p i) o)) (sym n.1)

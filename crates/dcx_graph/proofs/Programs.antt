@@ -2,6 +2,7 @@
 use Rattle.std.proofs.Common.{◌≡◌, ℕ, ◌+◌, List, [], ◌++◌, length, map, Option, Result, Ok, Err, slice_index_or, inl, inr, refl, sym, ap, ◌∙◌, subst}
 use Rattle.std.specs.List.{All}
 use Rattle.std.proofs.lemmas.List.Elements.{All-head, All-tail}
+use Rattle.dcx_math.proofs.Lists.{holds_at}
 use Rattle.dcx_frac.specs.declared.fraction.Frac.{Frac}
 use Rattle.dcx_frac.specs.declared.fraction.Passes.{Passes}
 use Rattle.dcx_tree.specs.declared.problem.Problem.{Problem}
@@ -27,7 +28,7 @@ use Rattle.dcx_graph.specs.declared.constraint.ConstraintEntry.{ConstraintEntry}
 use Rattle.dcx_graph.specs.declared.origin.Origin.{Origin}
 use Rattle.dcx_graph.specs.Program.{Program, minus_one, constraint_entries, origins_of, graph_row, AtRow, OfKind, form_at, Least, EntryRow}
 use Rattle.dcx_graph.specs.Program.{RowOf, EntryRows, Objective, IsProgramWith, IsRowStopWith, GivesProgramWith, GivesProgram}
-use Rattle.dcx_graph.proofs.Entries.{all_at, HasBoth, entries_have}
+use Rattle.dcx_graph.proofs.Entries.{HasBoth, entries_have}
 
 -- each answer of forming carries over
 pub each_carried : {A E : Type 0} (F G : ℕ → Result A E → Type 0) → ((j : ℕ) (r : Result A E) → F j r → G j r) → (n : ℕ) (r : Result (List A) E) → FormsEach F n r → FormsEach G n r
@@ -55,7 +56,7 @@ module _ {C : Type 0} (of_number : Frac → C) (number_of : C → Option Frac) (
       rows_carried r h =
           let both = entries_have Agree 0 p.constraints (All-tail Agree p.objective.0 (sides_in p.constraints) agree) in
           each_carried (RowOf of_number number_of Sums Changes forms (constraint_entries p)) (RowOf of_number number_of Sums Changes others (constraint_entries p))
-          (λ n q k. (k.0, k.1, row_carried k.0 (all_at (HasBoth Agree) (constraint_entries p) n k.0 both k.1) n q k.2)) (length (constraint_entries p)) r h
+          (λ n q k. (k.0, k.1, row_carried k.0 (holds_at (HasBoth Agree) (constraint_entries p) n k.0 both k.1) n q k.2)) (length (constraint_entries p)) r h
 
       objective_carried : (r : Result (Form C) Passes) → Objective of_number number_of Sums Changes p forms r → Objective of_number number_of Sums Changes p others r
       objective_carried r h = subst (λ f. Least number_of Changes p.sense f r) (same_form p.objective.0 0 (All-head Agree p.objective.0 (sides_in p.constraints) agree)) h

@@ -7,6 +7,7 @@ use Rattle.std.proofs.lemmas.List.{length-map}
 use Rattle.std.proofs.lemmas.List.Elements.{All-head, All-tail, All-append, All-map}
 use Rattle.std.proofs.lemmas.Option.{slice_get-get_or}
 use native.Mathlib.Decide.{dec_lt}
+use Rattle.dcx_math.proofs.Lists.{holds_at}
 use Rattle.dcx_frac.specs.declared.fraction.Frac.{Frac}
 use Rattle.dcx_frac.specs.declared.fraction.Passes.{Passes}
 use Rattle.dcx_tree.specs.declared.problem.Problem.{Problem}
@@ -27,7 +28,7 @@ use Rattle.dcx_entries.specs.Parts.{zero_form}
 use Rattle.dcx_entries.proofs.Past.{past_end}
 use Rattle.dcx_graph.specs.Program.{Program, minus_one, constraint_entries, entry_origin, graph_origin, graph_row, form_at, Least, RowOf, IsProgramWith}
 use Rattle.dcx_graph.specs.Reduced.{HasOrigins}
-use Rattle.dcx_graph.proofs.Entries.{all_at, HasBoth, entries-length, entries_have}
+use Rattle.dcx_graph.proofs.Entries.{HasBoth, entries-length, entries_have}
 
 -- what holds of what stands at each place, holds of each item
 all_from_at : {A : Type 0} (P : A → Type 0) (xs : List A) → ((i : ℕ) (x : A) → slice_get xs i ≡ Some x → P x) → All P xs
@@ -86,7 +87,7 @@ module _ {C : Type 0} (of_number : Frac → C) (number_of : C → Option Frac) (
       row_has : (i : ℕ) (r : Row C) → RowOf of_number number_of Sums Changes forms (constraint_entries p) i (Ok r) → P r.form
       row_has i r h =
           let x = h.0 in
-          let both = all_at (HasBoth (OfNode P forms)) (constraint_entries p) i x sides h.1 in
+          let both = holds_at (HasBoth (OfNode P forms)) (constraint_entries p) i x sides h.1 in
           let parts = h.2.1 in
           let left = form_at of_number forms x.left.0 x.entry in
           let right = form_at of_number forms x.right.0 x.entry in

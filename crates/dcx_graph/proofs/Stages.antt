@@ -1,7 +1,5 @@
 -- What the stages of a reduction answer is what the reduction answers.
-use Rattle.std.proofs.Common.{ℕ, ◌<◌, ◌≤◌, ◌^◌, arith, List, [], ◌∷◌, length, Option, Result, Ok, Err, sym, subst, inl, inr}
-use Rattle.std.specs.Prelude.{sum_by}
-use Rattle.std.proofs.lemmas.List.Sums.{sum_by-cons}
+use Rattle.std.proofs.Common.{ℕ, ◌<◌, ◌^◌, arith, List, length, Option, Result, Ok, Err, sym, subst, inl, inr}
 use Rattle.dcx_frac.specs.declared.fraction.Frac.{Frac}
 use Rattle.dcx_frac.specs.declared.fraction.Passes.{Passes}
 use Rattle.dcx_point.specs.Pairs.{Pairs}
@@ -9,9 +7,7 @@ use Rattle.dcx_answer.specs.declared.site.Site.TheVariants as sites
 use Rattle.dcx_convex.specs.Rules.{Rules}
 use Rattle.dcx_tree.specs.declared.problem.Problem.{Problem}
 use Rattle.dcx_linear.specs.declared.change.Change.{Change}
-use Rattle.dcx_linear.specs.declared.row.UnknownKind.{UnknownKind}
-use Rattle.dcx_linear.specs.declared.row.UnknownKind.TheVariants as kinds
-use Rattle.dcx_linear.specs.Size.{columns_for}
+use Rattle.dcx_std.proofs.Making.{kinds_few}
 use Rattle.dcx_unknowns.specs.declared.stop.LayoutStop.{LayoutStop}
 use Rattle.dcx_unknowns.specs.declared.stop.LayoutStop.TheVariants as layouts
 use Rattle.dcx_unknowns.specs.Layout.{kinds_with, rows_with, columns_with, row_count, column_count, AreFew, IsLayoutStop}
@@ -24,16 +20,6 @@ use Rattle.dcx_graph.specs.Program.{GivesProgram}
 use Rattle.dcx_graph.specs.Reduced.{Reduction}
 use Rattle.dcx_graph.specs.Stops.{IsWideAt, TellsBy}
 use Rattle.dcx_graph.specs.Reducing.{layout_stop, form_stop, Reduces, OrMemory}
-
--- each unknown has a column
-pub kinds_few : (ks : List UnknownKind) → length ks ≤ sum_by columns_for ks
-kinds_few [] = omega arith
-kinds_few (k ∷ ks) = let rest = kinds_few ks in let one = some k in omega (arith, rest, one, sum_by-cons columns_for k ks)
-  where
-    some : (k : UnknownKind) → 1 ≤ columns_for k
-    some kinds.Free = omega arith
-    some kinds.Nonneg = omega arith
-    some kinds.Nonpos = omega arith
 
 pub unknowns_few : (p : Problem) (reduced : ℕ → _) → AreFew (rows_with p reduced) (columns_with p reduced) → length (kinds_with p reduced) < 2 ^ 32
 unknowns_few p reduced few = let a = kinds_few (kinds_with p reduced) in let b = few.few_columns in omega (arith, a, b)

@@ -45,7 +45,8 @@ Hands_kept (Some old) None c pieces e piece h k = absurd h
 Hands_kept (Some old) (Some mid) None pieces e piece h k = absurd k
 Hands_kept (Some old) (Some mid) (Some new) pieces e piece h k = k ∙ h
 
-rests_more : (text : List ℕ) (start done taken : ℕ) (pieces : List (List ℕ)) (piece : List ℕ) → AreRests text start pieces done → piece ≡ drop done text → AreRests text start (pieces ++ piece ∷ []) (done + taken)
+rests_more : (text : List ℕ) (start done taken : ℕ) (pieces : List (List ℕ)) (piece : List ℕ) → AreRests text start pieces done → piece ≡ drop done text
+    → AreRests text start (pieces ++ piece ∷ []) (done + taken)
 rests_more text start done taken [] piece h e = (e ∙ ap (λ n. drop n text) h, (taken, ap (λ n. n + taken) h))
 rests_more text start done taken (p ∷ pieces) piece (is, (t, h)) e = (is, (t, rests_more text (start + t) done taken pieces piece h e))
 
@@ -54,10 +55,12 @@ pub hands_none : (a : Option (List (List ℕ))) (text : List ℕ) → HandsRests
 hands_none a text = ([], Hands_none a, refl)
 
 -- a write that is handed the rest
-pub hands_more : (a b c : Option (List (List ℕ))) (text : List ℕ) (done n : ℕ) → HandsRests a b text done → WriteHands {E = SinkFault} b c (Ok n) (take (length text - done) (drop done text)) → HandsRests a c text (done + n)
+pub hands_more : (a b c : Option (List (List ℕ))) (text : List ℕ) (done n : ℕ) → HandsRests a b text done
+    → WriteHands {E = SinkFault} b c (Ok n) (take (length text - done) (drop done text)) → HandsRests a c text (done + n)
 hands_more a b c text done n (pieces, h, r) k =
     let rest = take (length text - done) (drop done text) in
     (pieces ++ rest ∷ [], Hands_more a b c pieces n rest h k, rests_more text 0 done n pieces rest r (whole_rest done text))
 
-pub hands_kept : (a b c : Option (List (List ℕ))) (text piece : List ℕ) (done : ℕ) (e : SinkFault) → HandsRests a b text done → WriteHands {E = SinkFault} b c (Err e) piece → (n : ℕ) × HandsRests a c text n
+pub hands_kept : (a b c : Option (List (List ℕ))) (text piece : List ℕ) (done : ℕ) (e : SinkFault) → HandsRests a b text done → WriteHands {E = SinkFault} b c (Err e) piece
+    → (n : ℕ) × HandsRests a c text n
 hands_kept a b c text piece done e (pieces, h, r) k = (done, (pieces, Hands_kept a b c pieces e piece h k, r))

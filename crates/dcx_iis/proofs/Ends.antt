@@ -145,7 +145,8 @@ module _ (p : Problem) (s : Setting) (q : Program Frac) (limit : ℕ) where
   members_apart : (step : ℕ) (stop : Stop) (members : List ℕ) (duals : List Array) (gap : Frac) (points : List Pairs) → IsFilterSet p s (set_of members) →
       AreFound p q limit members duals gap points → StopsAt p s q limit step stop → ⊥
   members_apart step stop members duals gap points f found (in_step h) =
-      answered_apart step stop h (set_of members) (of_filter step (set_of members) h.within f) (answers_before p q limit (set_of members) (length p.constraints) found.first found.decided step h.within)
+      answered_apart step stop h (set_of members) (of_filter step (set_of members) h.within f) (answers_before p q limit (set_of members)
+      (length p.constraints) found.first found.decided step h.within)
   members_apart step stop members duals gap points f found (at_multiplier h) =
       let (solved, is_step, infeasible, same) = found.shown in
       let sets = one_filter_set p s h.set (set_of members) h.filter f in

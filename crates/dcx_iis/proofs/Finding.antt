@@ -123,7 +123,8 @@ module _ (p : Problem) (q : Program Frac) (limit : ℕ) where
     beside k b = beside_same kept (set_of members) k (λ i c. sym (agree i (omega (arith, b, c))))
 
     points_read : AllZip (IsReadAt p q limit kept) members l.points.items
-    points_read = let n = left.flags in subst (λ flags. AllZip (IsReadAt p q limit kept) (numbers_from 0 flags) l.points.items) (take_all (length p.constraints) l.kept.items (omega (arith, n))) left.points
+    points_read = let n = left.flags in subst (λ flags. AllZip (IsReadAt p q limit kept) (numbers_from 0 flags) l.points.items) (take_all (length p.constraints) l.kept.items
+        (omega (arith, n))) left.points
 
     module _ (duals : List Array) (made : (ds : List Array) × AreDuals l.answer.status (kept_of kept p.constraints) l.answer.rows ds × AreSpread kept p.constraints ds duals) where
       duals_count : length duals ≡ length p.constraints
@@ -167,7 +168,8 @@ module _ (p : Problem) (q : Program Frac) (limit : ℕ) where
         formed = duals_formed;
         shaped = made.2.shaped;
         others = λ k t j. ⊎_elim (λ b. made.2.zeros k (λ u. t (agree k b ∙ u)) j) (λ b. let n = duals_count in past_duals duals k j (omega (arith, n, b))) (cases_lt k (length p.constraints));
-        read = zip_weaker (λ k. k < length p.constraints) (IsReadAt p q limit kept) (IsReadAt p q limit (set_of members)) (λ k point b r. read_same p q limit kept (set_of members) k point (beside k (omega (arith, b))) r) members l.points.items within points_read;
+        read = zip_weaker (λ k. k < length p.constraints) (IsReadAt p q limit kept) (IsReadAt p q limit (set_of members))
+            (λ k point b r. read_same p q limit kept (set_of members) k point (beside k (omega (arith, b))) r) members l.points.items within points_read;
       }
 
     -- what is told is how it was found

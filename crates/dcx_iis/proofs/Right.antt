@@ -37,7 +37,8 @@ all_among (m ∷ ms) =
 
 module _ (p : Problem) (q : Program Frac) (limit : ℕ) where
   -- all steps have answers
-  pub answers_before : (set : ConstraintSet) (n : ℕ) → (answer : LpAnswer) × IsShownImpossible p q limit every_constraint answer → ((k : ℕ) → k < n → IsDecided p q limit set k) → (i : ℕ) → i ≤ n → HasAnswer p q limit set i
+  pub answers_before : (set : ConstraintSet) (n : ℕ) → (answer : LpAnswer) × IsShownImpossible p q limit every_constraint answer → ((k : ℕ) → k < n → IsDecided p q limit set k)
+      → (i : ℕ) → i ≤ n → HasAnswer p q limit set i
   answers_before set n (answer, (solved, step, e, same)) decided zero l = (solved, step.is_solved)
   answers_before set n first decided (suc k) l = let d = decided k (omega (arith, l)) in (d.solved, d.is_step.is_solved)
 
@@ -101,7 +102,8 @@ module _ (p : Problem) (q : Program Frac) (limit : ℕ) where
         shown = shows;
         shaped = found.shaped;
         outside = found.others;
-        others_kept = zip_weaker (λ k. (k < length p.constraints) × IsTrue (set_of members k)) (IsReadAt p q limit (set_of members)) (KeepsOthers p s members) (λ k point b r. keeps_others k point b.0 b.1 r) members points each found.read;
+        others_kept = zip_weaker (λ k. (k < length p.constraints) × IsTrue (set_of members k)) (IsReadAt p q limit (set_of members)) (KeepsOthers p s members)
+            (λ k point b r. keeps_others k point b.0 b.1 r) members points each found.read;
       }
 
 pub found_is_right : FoundIsRight

@@ -32,7 +32,11 @@ module _ {T : Type 0} (key : T → ℕ) where
 
   rising_on : (ts us : List T) → IsRising key ts → IsRising key us → IsBehind key ts us → IsRising key (ts ++ us)
   rising_on [] us h k b = k
-  rising_on (t ∷ ts) us h k b = (All-append (λ u. key t < key u) ts us h.0 (All-head (λ s. All (λ u. key s < key u) us) t ts b), rising_on ts us h.1 k (All-tail (λ s. All (λ u. key s < key u) us) t ts b))
+  rising_on (t ∷ ts) us h k b = (
+    All-append (λ u. key t < key u) ts us h.0 (All-head (λ s. All (λ u. key s < key u) us) t ts b),
+    rising_on ts us h.1 k
+        (All-tail (λ s. All (λ u. key s < key u) us) t ts b),
+  )
 
 module _ {T : Type 0} (key : T → ℕ) (is_zero : T → Bool) (Sums : T → T → Result T Passes → Type 0) where
   same : (x y u v z w : Option T) → x ≡ y → u ≡ v → z ≡ w → SumsAt is_zero Sums y v (Ok w) → SumsAt is_zero Sums x u (Ok z)

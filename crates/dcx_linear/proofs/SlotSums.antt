@@ -13,6 +13,7 @@ use Rattle.dcx_frac.specs.declared.fraction.Frac.{Frac}
 use Rattle.dcx_frac.specs.declared.fraction.Passes.{Passes}
 use Rattle.dcx_frac.specs.Frac.{value}
 use Rattle.dcx_atom.specs.Formed.{zero_frac}
+use Rattle.dcx_atom.proofs.FormedSums.{value-zero_frac}
 use Rattle.dcx_linear.specs.declared.form.FormTerm.{FormTerm}
 use Rattle.dcx_linear.specs.declared.form.Form.{Form}
 use Rattle.dcx_linear.specs.Changes.{zero_test}
@@ -23,13 +24,9 @@ use Rattle.dcx_linear.specs.Forms.{sum_gives_linear}
 use Rattle.dcx_linear.proofs.Formed.{drop_at, IsSparse-drop}
 use Rattle.dcx_linear.specs.Slots.{kept_term, listed_from, accumulated, sum_with_slot, adds_to_slot, adds_term}
 
-zero_value : value zero_frac ≡ whole (pos 0)
-unfolding whole
-zero_value = refl
-
 -- 0 is told to be 0
 pub zero_is_told : zero_test zero_frac ≡ true
-zero_is_told = (IsTrue-rat_eq (value zero_frac) (whole (pos 0))).1 zero_value
+zero_is_told = (IsTrue-rat_eq (value zero_frac) (whole (pos 0))).1 value-zero_frac
 
 -- so is each coefficient that is 0
 pub zero_coefficient : {C : Type 0} (number_of : C → Option Frac) (of_number : Frac → C) → number_of (of_number zero_frac) ≡ Some zero_frac → (c : C) → c ≡ of_number zero_frac

@@ -10,7 +10,7 @@ use Rattle.dcx_frac.specs.declared.fraction.Frac.{Frac}
 use Rattle.dcx_frac.specs.declared.fraction.Passes.{Passes}
 use Rattle.dcx_frac.specs.Frac.{value}
 use Rattle.dcx_frac.specs.Results.{sum_of}
-use Rattle.dcx_atom.specs.Formed.{zero_frac}
+use Rattle.dcx_atom.proofs.FormedSums.{value-zero_frac}
 use Rattle.dcx_point.specs.Pairs.{Pairs}
 use Rattle.dcx_linear.specs.declared.change.Change.{Change}
 use Rattle.dcx_linear.specs.declared.param_term.ParamTerm.{ParamTerm}
@@ -39,14 +39,10 @@ form_told_number f x e = by f.terms refl e
     by (t ∷ ts) is e = cc
 
 -- ---- entries
-zero_value : value zero_frac ≡ whole (pos 0)
-unfolding whole
-zero_value = refl
-
 pub form_entry_value : (position : ℕ) (name : List ℕ) (entry : ℕ) (setting : Pairs) (f : ParamForm) (p : Parameters) → IsEntryForm position name entry f → Unit {0} → form_value f p ≡ p position entry
 form_entry_value position name entry setting f p h u =
     ap (λ g. form_value g p) h.is
-    ∙ ap₂ (λ z x. z +ℚ (x *ℚ p position entry +ℚ whole (pos 0))) zero_value h.is_one
+    ∙ ap₂ (λ z x. z +ℚ (x *ℚ p position entry +ℚ whole (pos 0))) value-zero_frac h.is_one
     ∙ ring (p position entry ∷ []) (search reads depth 30) tt
 
 -- ---- terms

@@ -1,5 +1,5 @@
 -- The pairs of a point, place by place.
-use Rattle.std.proofs.Common.{◌≡◌, ℕ, zero, suc, ◌+◌, ◌<◌, List, [], ◌∷◌, ◌++◌, length, take, get_or, Some, None, sym, ap, ◌∙◌, subst, arith, append_assoc}
+use Rattle.std.proofs.Common.{◌≡◌, ℕ, ◌+◌, ◌<◌, List, [], ◌∷◌, ◌++◌, length, take, get_or, Some, None, sym, ap, ◌∙◌, subst, arith, append_assoc}
 use Rattle.std.specs.Prelude.{IfSome}
 use Rattle.std.specs.List.{slice_get, flat_map}
 use Rattle.std.proofs.lemmas.Option.{none-some, same_Some, slice_get-get_or}
@@ -9,12 +9,7 @@ use Rattle.std.proofs.lemmas.Map.Entries.{lookup_from_place}
 use Rattle.std.specs.Cmp.Lexicographic.{nat_list_eq_equiv}
 use Rattle.dcx_atom.specs.declared.array.Array.{Array}
 use Rattle.dcx_point.specs.Pairs.{Pairs, names_of, array_of, AreDistinct}
-
--- a name at a place stands in a pair there
-entry_at : (ps : Pairs) (i : ℕ) (name : List ℕ) → slice_get (names_of ps) i ≡ Some name → (array : Array) × (slice_get ps i ≡ Some (name, array))
-entry_at [] i name h = absurd (none-some name h)
-entry_at (p ∷ ps) zero name h = let same : p.0 ≡ name = same_Some p.0 name h in (p.1, λ i. Some (same i, p.1))
-entry_at (p ∷ ps) (suc i) name h = entry_at ps i name h
+use Rattle.dcx_point.proofs.Names.{pair_at as entry_at}
 
 module _ (ps : Pairs) (i : ℕ) (name : List ℕ) (distinct : AreDistinct ps) (at : slice_get (names_of ps) i ≡ Some name) where
   found_at : array_of ps name ≡ Some (entry_at ps i name at).0

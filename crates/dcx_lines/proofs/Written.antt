@@ -1,15 +1,13 @@
 -- Numbers are read from their own texts.
-use Rattle.std.proofs.Common.{◌≡◌, ◌≢◌, ℕ, suc, ◌-◌, ◌^◌, ◌<◌, ◌↔◌, ℤ, pos, negsuc, neg_ℤ, ◌*ℤ◌, ◌<ℤ◌, unsigned_abs, List, [], ◌∷◌, ◌++◌, min}
+use Rattle.std.proofs.Common.{◌≡◌, ◌≢◌, ℕ, suc, ◌-◌, ◌^◌, ◌<◌, ◌↔◌, ℤ, pos, negsuc, neg_ℤ, ◌<ℤ◌, unsigned_abs, List, [], ◌∷◌, ◌++◌, min}
 use Rattle.std.proofs.Common.{Option, Some, None, IsSome, IfSome, ◌⊎◌, inl, inr, refl, sym, ap, ap₂, ◌∙◌, subst, arith}
 use Rattle.std.proofs.lemmas.Int.{ints}
 use Rattle.std.proofs.lemmas.Bool.{false≢true}
 use Rattle.std.proofs.lemmas.List.{append-nil}
 use Rattle.std.specs.Fmt.{decimal, signed_decimal}
 use Rattle.std.specs.List.{AllByRecursion}
-use Rattle.dcx_math.specs.Integers.{units}
-use Rattle.dcx_math.specs.Rational.{ratio, whole, ◌*ℚ◌, ◌/ℚ◌}
-use Rattle.dcx_math.proofs.Ratios.{ratio-*ℚ-ratio, ≡-from_products, ratio-one}
-use Rattle.dcx_math.proofs.FieldLaws.{whole_injective}
+use Rattle.dcx_math.specs.Rational.{whole, ◌/ℚ◌}
+use Rattle.dcx_math.proofs.FieldLaws.{whole_injective, ratio-*ℚ-whole}
 use Rattle.dcx_math.proofs.Products.{/ℚ-unique}
 use Rattle.dcx_frac.specs.declared.fraction.Frac.{Frac}
 use Rattle.dcx_frac.specs.Fits.{IsRepresentable}
@@ -50,19 +48,13 @@ read_above (pos n) bytes w r small e b h read =
 read_above (negsuc n) bytes w r small e b h read = absurd (b (decimal (suc n)) e)
 
 -- ---- fractions
-times : (n d : ℤ) (p : pos 0 <ℤ d) → ratio n d p *ℚ whole d ≡ whole n
-times n d p =
-    let one : pos 0 <ℤ pos 1 = omega (arith, ints) in
-    ap (λ u. ratio n d p *ℚ u) (sym (ratio-one d one)) ∙ ratio-*ℚ-ratio n d d (pos 1) p one
-    ∙ ≡-from_products (n *ℤ d) (d *ℤ pos 1) n (pos 1) _ one (simp units refl) ∙ ratio-one n one
-
 not_zero : (d : ℤ) → pos 0 <ℤ d → d ≢ pos 0
 not_zero d p e = omega (arith, ints)
 
 -- a fraction is the quotient of its parts
 quotient_is : (f : Frac) → whole (num_of f) /ℚ whole (den_of f) ≡ value f
 quotient_is f =
-    /ℚ-unique (whole (num_of f)) (whole (den_of f)) (value f) (λ z. not_zero (den_of f) f.positive (whole_injective (den_of f) (pos 0) z)) (times (num_of f) (den_of f) f.positive)
+    /ℚ-unique (whole (num_of f)) (whole (den_of f)) (value f) (λ z. not_zero (den_of f) f.positive (whole_injective (den_of f) (pos 0) z)) (ratio-*ℚ-whole (num_of f) (den_of f) f.positive)
 
 found : (f : Frac) (r : Option Frac) → IsSome r → IfSome r (λ g. value g ≡ value f) → r ≡ Some f
 found f None some h = absurd (false≢true some)

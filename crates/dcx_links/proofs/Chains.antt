@@ -16,7 +16,8 @@ module _ (At : ℕ → ℕ → ℕ → Type 0) (apart : AreApart At) (heads next
   chained zero b link below (inr h) = let z = below link h.position h.here in let y = h.beyond in absurd (omega (arith, z, y))
   chained (suc n) b link below (inr h) =
       let y = h.beyond in
-      let (ks, linked, rises, whole) = chained n (h.position + 1) (next link) (λ i q at. let z = below i q at in omega (arith, z, y)) (lines.linked l (Some link) (h.position + 1) (h.position, h.here, refl)) in (
+      let (ks, linked, rises, whole) = chained n (h.position + 1) (next link) (λ i q at. let z = below i q at in omega (arith, z, y)) (lines.linked l (Some link) (h.position + 1)
+      (h.position, h.here, refl)) in (
         link ∷ ks,
         (refl, linked),
         (h.position, h.here, h.beyond, rises),

@@ -61,10 +61,20 @@ module _ (cells : List Cell) (rh ch : List ℕ) (free : ℕ) (store : IsStore ce
   ]
 
   pub now_at : (i m q : ℕ) → IsAt cells i m q → IsAt other i m q
-  now_at i m q at = record { number = some_now i at.number; in_row = read_same (λ (y : Cell). y.row) (λ y. refl) i ∙ at.in_row; in_column = read_same (λ (y : Cell). y.column) (λ y. refl) i ∙ at.in_column }
+  now_at i m q at = record {
+    number = some_now i at.number;
+    in_row = read_same (λ (y : Cell). y.row) (λ y. refl) i ∙ at.in_row;
+    in_column = read_same (λ (y : Cell). y.column)
+        (λ y. refl) i ∙ at.in_column;
+  }
 
   before_at : (i m q : ℕ) → IsAt other i m q → IsAt cells i m q
-  before_at i m q at = record { number = some_before i at.number; in_row = sym (read_same (λ (y : Cell). y.row) (λ y. refl) i) ∙ at.in_row; in_column = sym (read_same (λ (y : Cell). y.column) (λ y. refl) i) ∙ at.in_column }
+  before_at i m q at = record {
+    number = some_before i at.number;
+    in_row = sym (read_same (λ (y : Cell). y.row) (λ y. refl) i) ∙ at.in_row;
+    in_column = sym
+        (read_same (λ (y : Cell). y.column) (λ y. refl) i) ∙ at.in_column;
+  }
 
   other_length : length other ≡ length cells
   other_length = length-set cells j (record (cell_at cells j) { value = v })
@@ -77,8 +87,10 @@ module _ (cells : List Cell) (rh ch : List ℕ) (free : ℕ) (store : IsStore ce
 
   pub changed : IsStore other rh ch free
   changed = record {
-    rows_linked = lines_same (InRow cells) (InRow other) before_at now_at (head_at rh) (next_in_row_at cells) (next_in_row_at other) (λ k l q at. read_same (λ (y : Cell). y.next_in_row) (λ y. refl) k) store.rows_linked;
-    columns_linked = lines_same (InColumn cells) (InColumn other) (λ i l q at. before_at i q l at) (λ i l q at. now_at i q l at) (head_at ch) (next_in_column_at cells) (next_in_column_at other) (λ k l q at. read_same (λ (y : Cell). y.next_in_column) (λ y. refl) k) store.columns_linked;
+    rows_linked = lines_same (InRow cells) (InRow other) before_at now_at (head_at rh) (next_in_row_at cells) (next_in_row_at other)
+        (λ k l q at. read_same (λ (y : Cell). y.next_in_row) (λ y. refl) k) store.rows_linked;
+    columns_linked = lines_same (InColumn cells) (InColumn other) (λ i l q at. before_at i q l at) (λ i l q at. now_at i q l at) (head_at ch) (next_in_column_at cells)
+        (next_in_column_at other) (λ k l q at. read_same (λ (y : Cell). y.next_in_column) (λ y. refl) k) store.columns_linked;
     row_within = λ i m q at. store.row_within i m q (before_at i m q at);
     column_within = λ i m q at. store.column_within i m q (before_at i m q at);
     one_cell = one_now;

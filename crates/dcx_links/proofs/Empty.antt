@@ -47,8 +47,14 @@ empty_store rh ch rn cn = record {
 free_append : (cells more : List Cell) (ks : List ℕ) (head : ℕ) → AreFree cells head ks → AreFree (cells ++ more) head ks
 free_append cells more [] head f = f
 free_append cells more (k ∷ ks) head f =
-    let e = get_or_append_left cells more blank k f.1 in
-    (f.0, omega (arith, f.1, length-append cells more), ap (λ (y : Cell). y.value) e ∙ f.2, f.3, subst (λ n. AreFree (cells ++ more) n ks) (sym (ap (λ (y : Cell). y.next_in_row) e)) (free_append cells more ks (next_in_row_at cells k) f.4))
+    let e = get_or_append_left cells more blank k f.1 in (
+      f.0,
+      omega (arith, f.1, length-append cells more),
+      ap (λ (y : Cell). y.value) e ∙ f.2,
+      f.3,
+      subst (λ n. AreFree (cells ++ more) n ks)
+          (sym (ap (λ (y : Cell). y.next_in_row) e)) (free_append cells more ks (next_in_row_at cells k) f.4),
+    )
 
 free_within : (cells : List Cell) (ks : List ℕ) (head k : ℕ) → AreFree cells head ks → Has ks k → k < length cells
 free_within cells [] head k f h = absurd h
@@ -120,7 +126,8 @@ module _ (cells : List Cell) (rh ch : List ℕ) (free : ℕ) (store : IsStore ce
   pub pushed : IsStore more rh ch (length cells)
   pushed = record {
     rows_linked = lines_same (InRow cells) (InRow more) before_at now_at (head_at rh) (next_in_row_at cells) (next_in_row_at more) in_row_same store.rows_linked;
-    columns_linked = lines_same (InColumn cells) (InColumn more) (λ i l q at. before_at i q l at) (λ i l q at. now_at i q l at) (head_at ch) (next_in_column_at cells) (next_in_column_at more) in_column_same store.columns_linked;
+    columns_linked = lines_same (InColumn cells) (InColumn more) (λ i l q at. before_at i q l at) (λ i l q at. now_at i q l at) (head_at ch) (next_in_column_at cells)
+        (next_in_column_at more) in_column_same store.columns_linked;
     row_within = λ i r c at. store.row_within i r c (before_at i r c at);
     column_within = λ i r c at. store.column_within i r c (before_at i r c at);
     one_cell = λ i k r c f g. store.one_cell i k r c (before_at i r c f) (before_at k r c g);

@@ -58,7 +58,9 @@ module _ (cells : List Cell) (rh ch : List ℕ) (j : ℕ) (store : IsStore cells
     not_full led = let z = pigeons (length rh * length ch) (suc (length cells)) (place_of cells (length ch) r c) below different in let y = enough led in omega (arith, z, y)
 
   pub some_free : (free : List ℕ) × AreFree cells j (j ∷ free) × ((i : ℕ) → i < length cells → (cell_at cells i).value ≡ pos 0 → Has (j ∷ free) i)
-  some_free = elim store.order as (λ o. AreFree cells j o → ((i : ℕ) → i < length cells → (cell_at cells i).value ≡ pos 0 → Has o i) → (free : List ℕ) × AreFree cells j (j ∷ free) × ((i : ℕ) → i < length cells → (cell_at cells i).value ≡ pos 0 → Has (j ∷ free) i)) [
-    | [] ↦ λ f rest. absurd (not_full (λ i lt e. rest i lt e) f)
-    | k ∷ ks ↦ λ f rest. let P : ℕ → Type 0 = λ n. AreFree cells j (n ∷ ks) × ((i : ℕ) → i < length cells → (cell_at cells i).value ≡ pos 0 → Has (n ∷ ks) i) in let g : P j = subst P (sym f.0) (f, rest) in (ks, g.0, g.1)
-  ] store.freed store.rest
+  some_free = elim store.order as (λ o. AreFree cells j o → ((i : ℕ) → i < length cells → (cell_at cells i).value ≡ pos 0 → Has o i) → (free : List ℕ) × AreFree cells j (j ∷ free)
+      × ((i : ℕ) → i < length cells → (cell_at cells i).value ≡ pos 0 → Has (j ∷ free) i)) [
+        | [] ↦ λ f rest. absurd (not_full (λ i lt e. rest i lt e) f)
+        | k ∷ ks ↦ λ f rest. let P : ℕ → Type 0 = λ n. AreFree cells j (n ∷ ks) × ((i : ℕ) → i < length cells → (cell_at cells i).value ≡ pos 0 → Has (n ∷ ks) i) in let g : P j = subst
+            P (sym f.0) (f, rest) in (ks, g.0, g.1)
+      ] store.freed store.rest

@@ -6,7 +6,8 @@ use Rattle.std.proofs.Math.ListN.{length-set}
 use Rattle.dcx_links.specs.declared.store.Cell.{Cell}
 use Rattle.dcx_links.specs.declared.store.Store.{Store}
 use Rattle.dcx_links.specs.Lines.{Has, none, IsFrom, IsSpot, AreApart, AreLines, link_of}
-use Rattle.dcx_links.specs.Cells.{head_at, cell_at, IsAt, InRow, InColumn, IsStore, IsSound, cell_number, number_in, next_in_row_at, next_in_column_at, bound_in_row, bound_in_column, with_next_in_row, with_next_in_column, with_head, AreFree, blank}
+use Rattle.dcx_links.specs.Cells.{head_at, cell_at, IsAt, InRow, InColumn, IsStore, IsSound, cell_number, number_in, next_in_row_at, next_in_column_at}
+use Rattle.dcx_links.specs.Cells.{bound_in_row, bound_in_column, with_next_in_row, with_next_in_column, with_head, AreFree, blank}
 use Rattle.dcx_links.proofs.Free.{some_free}
 use Rattle.dcx_links.proofs.Lines.{lines_with}
 use Rattle.dcx_links.proofs.Numbers.{at_within, number_is, number_none, cell_or}
@@ -20,23 +21,28 @@ set_other cells i k x d = get_or-set_other cells i k x blank d
 
 -- what a new link to the right leaves as it was
 module _ {X : Type 0} (f : Cell → X) (to : ℕ) (cells : List Cell) where
-  pub read_row : ((y : Cell) → f (record y { next_in_row = to }) ≡ f y) → (s : Option ℕ) → IfSome s (λ i. i < length cells) → (k : ℕ) → f (cell_at (with_next_in_row cells s to) k) ≡ f (cell_at cells k)
+  pub read_row : ((y : Cell) → f (record y { next_in_row = to }) ≡ f y) → (s : Option ℕ) → IfSome s (λ i. i < length cells) → (k : ℕ) → f (cell_at (with_next_in_row cells s to) k)
+      ≡ f (cell_at cells k)
   read_row h None lt k = refl
   read_row h (Some i) lt k = elim (cases_eq k i) [
-    | inl e ↦ subst (λ n. f (cell_at (with_next_in_row cells (Some i) to) n) ≡ f (cell_at cells n)) (sym e) (ap f (set_same cells i (record (cell_at cells i) { next_in_row = to }) lt) ∙ h (cell_at cells i))
+    | inl e ↦ subst (λ n. f (cell_at (with_next_in_row cells (Some i) to) n) ≡ f (cell_at cells n)) (sym e)
+        (ap f (set_same cells i (record (cell_at cells i) { next_in_row = to }) lt) ∙ h (cell_at cells i))
     | inr d ↦ ap f (set_other cells i k (record (cell_at cells i) { next_in_row = to }) d)
   ]
 
-  pub read_column : ((y : Cell) → f (record y { next_in_column = to }) ≡ f y) → (s : Option ℕ) → IfSome s (λ i. i < length cells) → (k : ℕ) → f (cell_at (with_next_in_column cells s to) k) ≡ f (cell_at cells k)
+  pub read_column : ((y : Cell) → f (record y { next_in_column = to }) ≡ f y) → (s : Option ℕ) → IfSome s (λ i. i < length cells) → (k : ℕ)
+      → f (cell_at (with_next_in_column cells s to) k) ≡ f (cell_at cells k)
   read_column h None lt k = refl
   read_column h (Some i) lt k = elim (cases_eq k i) [
-    | inl e ↦ subst (λ n. f (cell_at (with_next_in_column cells (Some i) to) n) ≡ f (cell_at cells n)) (sym e) (ap f (set_same cells i (record (cell_at cells i) { next_in_column = to }) lt) ∙ h (cell_at cells i))
+    | inl e ↦ subst (λ n. f (cell_at (with_next_in_column cells (Some i) to) n) ≡ f (cell_at cells n)) (sym e)
+        (ap f (set_same cells i (record (cell_at cells i) { next_in_column = to }) lt) ∙ h (cell_at cells i))
     | inr d ↦ ap f (set_other cells i k (record (cell_at cells i) { next_in_column = to }) d)
   ]
 
 pub row_to : (cells : List Cell) (s : Option ℕ) (to : ℕ) → IfSome s (λ i. i < length cells) → (k : ℕ) → s ≡ Some k → next_in_row_at (with_next_in_row cells s to) k ≡ to
 row_to cells None to lt k e = absurd (cc)
-row_to cells (Some i) to lt k e = let d : i ≡ k = cc in subst (λ n. next_in_row_at (with_next_in_row cells (Some i) to) n ≡ to) d (ap (λ (x : Cell). x.next_in_row) (set_same cells i (record (cell_at cells i) { next_in_row = to }) lt))
+row_to cells (Some i) to lt k e = let d : i ≡ k = cc in subst (λ n. next_in_row_at (with_next_in_row cells (Some i) to) n ≡ to) d
+    (ap (λ (x : Cell). x.next_in_row) (set_same cells i (record (cell_at cells i) { next_in_row = to }) lt))
 
 pub row_other : (cells : List Cell) (s : Option ℕ) (to : ℕ) (k : ℕ) → s ≢ Some k → next_in_row_at (with_next_in_row cells s to) k ≡ next_in_row_at cells k
 row_other cells None to k d = refl
@@ -44,7 +50,8 @@ row_other cells (Some i) to k d = ap (λ (x : Cell). x.next_in_row) (set_other c
 
 pub column_to : (cells : List Cell) (s : Option ℕ) (to : ℕ) → IfSome s (λ i. i < length cells) → (k : ℕ) → s ≡ Some k → next_in_column_at (with_next_in_column cells s to) k ≡ to
 column_to cells None to lt k e = absurd (cc)
-column_to cells (Some i) to lt k e = let d : i ≡ k = cc in subst (λ n. next_in_column_at (with_next_in_column cells (Some i) to) n ≡ to) d (ap (λ (x : Cell). x.next_in_column) (set_same cells i (record (cell_at cells i) { next_in_column = to }) lt))
+column_to cells (Some i) to lt k e = let d : i ≡ k = cc in subst (λ n. next_in_column_at (with_next_in_column cells (Some i) to) n ≡ to) d
+    (ap (λ (x : Cell). x.next_in_column) (set_same cells i (record (cell_at cells i) { next_in_column = to }) lt))
 
 pub column_other : (cells : List Cell) (s : Option ℕ) (to : ℕ) (k : ℕ) → s ≢ Some k → next_in_column_at (with_next_in_column cells s to) k ≡ next_in_column_at cells k
 column_other cells None to k d = refl
@@ -263,7 +270,8 @@ pub record AreWith (o : Store) (r c : ℕ) (v : ℤ) (cells : List Cell) (rh ch 
   pub same : (m q : ℕ) → ¬ ((m ≡ r) × (q ≡ c)) → cell_number cells m q ≡ number_in o m q
 
 -- where a place is empty a cell is free
-module _ (o : Store) (sound : IsSound o) (ready : o.free ≡ none → vec_capacity o.cells ≤ length o.cells.items) (r c : ℕ) (row_in : r < length o.row_heads.items) (column_in : c < length o.column_heads.items)
+module _ (o : Store) (sound : IsSound o) (ready : o.free ≡ none → vec_capacity o.cells ≤ length o.cells.items) (r c : ℕ) (row_in : r < length o.row_heads.items)
+    (column_in : c < length o.column_heads.items)
     (empty : (i : ℕ) → ¬ IsAt o.cells.items i r c) where
   frees : (free : List ℕ) × AreFree o.cells.items o.free (o.free ∷ free) × ((i : ℕ) → i < length o.cells.items → (cell_at o.cells.items i).value ≡ pos 0 → Has (o.free ∷ free) i)
   frees = some_free o.cells.items o.row_heads.items o.column_heads.items o.free sound r c row_in column_in (λ e. let f = ready e in let k = o.enough in omega (arith, f, k)) empty
@@ -272,8 +280,10 @@ module _ (o : Store) (sound : IsSound o) (ready : o.free ≡ none → vec_capaci
   free_in = frees.1.1
 
   -- linked behind both spots it has the number there
-  pub insertion : (v : ℤ) → v ≢ pos 0 → (s : Option ℕ) (link : ℕ) → IsSpot (InRow o.cells.items) r c s (bound_in_row o.cells.items s) link → link ≡ link_of (head_at o.row_heads.items) (next_in_row_at o.cells.items) r s
-      → (t : Option ℕ) (below : ℕ) → IsSpot (InColumn o.cells.items) c r t (bound_in_column o.cells.items t) below → below ≡ link_of (head_at o.column_heads.items) (next_in_column_at o.cells.items) c t → (x : Cell) → x ≡ get_or o.cells.items o.free x
+  pub insertion : (v : ℤ) → v ≢ pos 0 → (s : Option ℕ) (link : ℕ) → IsSpot (InRow o.cells.items) r c s (bound_in_row o.cells.items s) link
+      → link ≡ link_of (head_at o.row_heads.items) (next_in_row_at o.cells.items) r s
+      → (t : Option ℕ) (below : ℕ) → IsSpot (InColumn o.cells.items) c r t (bound_in_column o.cells.items t) below → below ≡ link_of (head_at o.column_heads.items)
+      (next_in_column_at o.cells.items) c t → (x : Cell) → x ≡ get_or o.cells.items o.free x
       → AreWith o r c v (with_next_in_column (with_next_in_row (set o.cells.items o.free (record { value = v; row = r; column = c; next_in_row = link; next_in_column = below })) s o.free) t o.free)
       (with_head o.row_heads.items r s o.free) (with_head o.column_heads.items c t o.free) x.next_in_row
   insertion v number s link in_row row_is t below in_column column_is x read =
@@ -281,8 +291,13 @@ module _ (o : Store) (sound : IsSound o) (ready : o.free ≡ none → vec_capaci
       let is : x.next_in_row ≡ next_in_row_at o.cells.items o.free = ap (λ (z : Cell). z.next_in_row) (cell_read o.cells.items o.free x free_in read) in
       let now = with_next_in_column (with_next_in_row (set o.cells.items o.free y) s o.free) t o.free in
       record {
-        sound = subst (λ n. IsStore now (with_head o.row_heads.items r s o.free) (with_head o.column_heads.items c t o.free) n) (sym is) (inserted o.cells.items o.row_heads.items o.column_heads.items o.free sound y row_in column_in number empty s (bound_in_row o.cells.items s) in_row row_is t (bound_in_column o.cells.items t) in_column column_is frees.0 frees.1 frees.2);
-        here = new_at o.cells.items o.row_heads.items o.column_heads.items o.free sound y row_in column_in number empty s (bound_in_row o.cells.items s) in_row row_is t (bound_in_column o.cells.items t) in_column column_is frees.0 frees.1 frees.2;
-        there = inserted_there o.cells.items o.row_heads.items o.column_heads.items o.free sound y row_in column_in number empty s (bound_in_row o.cells.items s) in_row row_is t (bound_in_column o.cells.items t) in_column column_is frees.0 frees.1 frees.2;
-        same = inserted_same o.cells.items o.row_heads.items o.column_heads.items o.free sound y row_in column_in number empty s (bound_in_row o.cells.items s) in_row row_is t (bound_in_column o.cells.items t) in_column column_is frees.0 frees.1 frees.2;
+        sound = subst (λ n. IsStore now (with_head o.row_heads.items r s o.free) (with_head o.column_heads.items c t o.free) n) (sym is)
+            (inserted o.cells.items o.row_heads.items o.column_heads.items o.free sound y row_in column_in number empty s (bound_in_row o.cells.items s) in_row row_is t
+            (bound_in_column o.cells.items t) in_column column_is frees.0 frees.1 frees.2);
+        here = new_at o.cells.items o.row_heads.items o.column_heads.items o.free sound y row_in column_in number empty s (bound_in_row o.cells.items s) in_row row_is t
+            (bound_in_column o.cells.items t) in_column column_is frees.0 frees.1 frees.2;
+        there = inserted_there o.cells.items o.row_heads.items o.column_heads.items o.free sound y row_in column_in number empty s (bound_in_row o.cells.items s) in_row row_is t
+            (bound_in_column o.cells.items t) in_column column_is frees.0 frees.1 frees.2;
+        same = inserted_same o.cells.items o.row_heads.items o.column_heads.items o.free sound y row_in column_in number empty s (bound_in_row o.cells.items s) in_row row_is t
+            (bound_in_column o.cells.items t) in_column column_is frees.0 frees.1 frees.2;
       }

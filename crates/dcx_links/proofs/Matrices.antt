@@ -31,7 +31,8 @@ module _ (s : Store) (sound : IsSound s) where
     | inl lt ↦ ap (λ line. number line c) (get_or-listed (length s.row_heads.items) (λ k. row_in s k) r [] lt) ∙ number-row_in r c
     | inr past ↦
         let l : length (listed (length s.row_heads.items) (λ k. row_in s k)) ≤ r = let e = length-listed (length s.row_heads.items) (λ k. row_in s k) in omega (arith, e, past) in
-        ap (λ line. number line c) (get_or_past (listed (length s.row_heads.items) (λ k. row_in s k)) r [] l) ∙ sym (number_none s.cells.items r c (λ i at. let z = sound.row_within i r c at in omega (arith, z, past)))
+        ap (λ line. number line c) (get_or_past (listed (length s.row_heads.items) (λ k. row_in s k)) r [] l)
+        ∙ sym (number_none s.cells.items r c (λ i at. let z = sound.row_within i r c at in omega (arith, z, past)))
   ]
 
   pub row_of-matrix_of : (r : ℕ) → row_in s r ≡ row_of (matrix_of s) r

@@ -5,7 +5,8 @@ use Rattle.std.proofs.Math.ListN.{length-set}
 use Rattle.dcx_links.specs.declared.store.Cell.{Cell}
 use Rattle.dcx_links.specs.declared.store.Store.{Store}
 use Rattle.dcx_links.specs.Lines.{none, Has, IsFrom, IsSpot, AreApart, AreLines, link_of}
-use Rattle.dcx_links.specs.Cells.{head_at, cell_at, IsAt, InRow, InColumn, IsStore, IsSound, cell_number, number_in, next_in_row_at, next_in_column_at, bound_in_row, bound_in_column, with_next_in_row, with_next_in_column, with_head, AreFree}
+use Rattle.dcx_links.specs.Cells.{head_at, cell_at, IsAt, InRow, InColumn, IsStore, IsSound, cell_number, number_in, next_in_row_at, next_in_column_at}
+use Rattle.dcx_links.specs.Cells.{bound_in_row, bound_in_column, with_next_in_row, with_next_in_column, with_head, AreFree}
 use Rattle.dcx_links.proofs.Lines.{lines_without, spot_lands, not_own}
 use Rattle.dcx_links.proofs.Numbers.{at_within, number_is, number_none, cell_or, cell_there}
 use Rattle.dcx_links.proofs.Stores.{cell_read, row_apart, column_apart}
@@ -69,13 +70,16 @@ module _ (cells : List Cell) (rh ch : List ℕ) (free : ℕ) (store : IsStore ce
 
   -- what cell k keeps
   value_is : (k : ℕ) → k ≢ j → (cell_at less k).value ≡ (cell_at cells k).value
-  value_is k n = ap (λ (y : Cell). y.value) (set_other two j k z n) ∙ read_column (λ (y : Cell). y.value) (next_in_column_at cells j) one (λ y. refl) t t_in k ∙ read_row (λ (y : Cell). y.value) (next_in_row_at cells j) cells (λ y. refl) s s_in k
+  value_is k n = ap (λ (y : Cell). y.value) (set_other two j k z n) ∙ read_column (λ (y : Cell). y.value) (next_in_column_at cells j) one (λ y. refl) t t_in k
+      ∙ read_row (λ (y : Cell). y.value) (next_in_row_at cells j) cells (λ y. refl) s s_in k
 
   line_is : (k : ℕ) → k ≢ j → (cell_at less k).row ≡ (cell_at cells k).row
-  line_is k n = ap (λ (y : Cell). y.row) (set_other two j k z n) ∙ read_column (λ (y : Cell). y.row) (next_in_column_at cells j) one (λ y. refl) t t_in k ∙ read_row (λ (y : Cell). y.row) (next_in_row_at cells j) cells (λ y. refl) s s_in k
+  line_is k n = ap (λ (y : Cell). y.row) (set_other two j k z n) ∙ read_column (λ (y : Cell). y.row) (next_in_column_at cells j) one (λ y. refl) t t_in k
+      ∙ read_row (λ (y : Cell). y.row) (next_in_row_at cells j) cells (λ y. refl) s s_in k
 
   position_is : (k : ℕ) → k ≢ j → (cell_at less k).column ≡ (cell_at cells k).column
-  position_is k n = ap (λ (y : Cell). y.column) (set_other two j k z n) ∙ read_column (λ (y : Cell). y.column) (next_in_column_at cells j) one (λ y. refl) t t_in k ∙ read_row (λ (y : Cell). y.column) (next_in_row_at cells j) cells (λ y. refl) s s_in k
+  position_is k n = ap (λ (y : Cell). y.column) (set_other two j k z n) ∙ read_column (λ (y : Cell). y.column) (next_in_column_at cells j) one (λ y. refl) t t_in k
+      ∙ read_row (λ (y : Cell). y.column) (next_in_row_at cells j) cells (λ y. refl) s s_in k
 
   row_read : (k : ℕ) → k ≢ j → next_in_row_at less k ≡ next_in_row_at one k
   row_read k n = ap (λ (y : Cell). y.next_in_row) (set_other two j k z n) ∙ read_column (λ (y : Cell). y.next_in_row) (next_in_column_at cells j) one (λ y. refl) t t_in k
@@ -104,7 +108,8 @@ module _ (cells : List Cell) (rh ch : List ℕ) (free : ℕ) (store : IsStore ce
   less_rows = lines_without (InRow cells) (InRow less) j r c (row_apart cells rh ch free store) here left keep
       (head_at rh) (next_in_row_at cells) (head_at (with_head rh r s (next_in_row_at cells j))) (next_in_row_at less) store.rows_linked s b in_row.from
       (sym row_is ∙ spot_lands (InRow cells) (row_apart cells rh ch free store) r c s b link j in_row here)
-      (new_link (InRow cells) (row_apart cells rh ch free store) rh r row_in s b (next_in_row_at cells j) in_row.from (next_in_row_at cells) (next_in_row_at less) (λ k e. row_read k (s_not k e) ∙ row_to cells s (next_in_row_at cells j) s_in k e))
+      (new_link (InRow cells) (row_apart cells rh ch free store) rh r row_in s b (next_in_row_at cells j) in_row.from (next_in_row_at cells) (next_in_row_at less)
+      (λ k e. row_read k (s_not k e) ∙ row_to cells s (next_in_row_at cells j) s_in k e))
       (links_but (InRow cells) (row_apart cells rh ch free store) rh r row_in s b (next_in_row_at cells j) in_row.from (next_in_row_at cells) (next_in_row_at less) j
       (λ k l q at n m. row_read k n ∙ row_other cells s (next_in_row_at cells j) k m))
 
@@ -126,8 +131,18 @@ module _ (cells : List Cell) (rh ch : List ℕ) (free : ℕ) (store : IsStore ce
   less_free : AreFree less j (j ∷ store.order)
   less_free =
       let e = set_same two j z j_two in
-      let same = free_kept cells less less_length store.order free (λ k has y. (value_is k (not_j k y), row_read k (not_j k y) ∙ row_other cells s (next_in_row_at cells j) k (not_numbered k y s r b in_row.from))) store.freed in
-      (refl, omega (arith, less_length, j_in), ap (λ (y : Cell). y.value) e ∙ z_zero, (λ h. here.number (has_zero cells store.order free j store.freed h)), subst (λ n. AreFree less n store.order) (sym (ap (λ (y : Cell). y.next_in_row) e ∙ z_next)) same)
+      let same = free_kept cells less less_length store.order free (λ k has y. (
+        value_is k (not_j k y),
+        row_read k (not_j k y) ∙ row_other cells s (next_in_row_at cells j) k
+            (not_numbered k y s r b in_row.from),
+      )) store.freed in (
+        refl,
+        omega (arith, less_length, j_in),
+        ap (λ (y : Cell). y.value) e ∙ z_zero,
+        (λ h. here.number (has_zero cells store.order free j store.freed h)),
+        subst
+            (λ n. AreFree less n store.order) (sym (ap (λ (y : Cell). y.next_in_row) e ∙ z_next)) same,
+      )
 
   less_rest : (i : ℕ) → i < length less → (cell_at less i).value ≡ pos 0 → Has (j ∷ store.order) i
   less_rest i lt y = elim (cases_eq i j) [
@@ -171,22 +186,26 @@ module _ (o : Store) (sound : IsSound o) (r c : ℕ) (there : number_in o r c �
   spot_here : IsAt o.cells.items link r c
   spot_here =
       let k = cell_there o.cells.items r c there in
-      subst (λ n. IsAt o.cells.items n r c) (sym (spot_lands (InRow o.cells.items) (row_apart o.cells.items o.row_heads.items o.column_heads.items o.free sound) r c s (bound_in_row o.cells.items s) link k.0 in_row k.1)) k.1
+      subst (λ n. IsAt o.cells.items n r c) (sym (spot_lands (InRow o.cells.items) (row_apart o.cells.items o.row_heads.items o.column_heads.items o.free sound) r c s
+      (bound_in_row o.cells.items s) link k.0 in_row k.1)) k.1
 
   pub spot_within : link < length o.cells.items
   spot_within = at_within o.cells.items link spot_here.number
 
   -- the cell leaves both lines and is free
   pub removal : r < length o.row_heads.items → c < length o.column_heads.items → link ≡ link_of (head_at o.row_heads.items) (next_in_row_at o.cells.items) r s → (t : Option ℕ) (below : ℕ)
-      → IsSpot (InColumn o.cells.items) c r t (bound_in_column o.cells.items t) below → below ≡ link_of (head_at o.column_heads.items) (next_in_column_at o.cells.items) c t → (x : Cell) → x ≡ get_or o.cells.items link x
-      → AreWithout o r c (set (with_next_in_column (with_next_in_row o.cells.items s x.next_in_row) t x.next_in_column) link (record { value = pos 0; row = r; column = c; next_in_row = o.free; next_in_column = none }))
+      → IsSpot (InColumn o.cells.items) c r t (bound_in_column o.cells.items t) below → below ≡ link_of (head_at o.column_heads.items) (next_in_column_at o.cells.items) c t
+      → (x : Cell) → x ≡ get_or o.cells.items link x
+      → AreWithout o r c (set (with_next_in_column (with_next_in_row o.cells.items s x.next_in_row) t x.next_in_column) link
+      (record { value = pos 0; row = r; column = c; next_in_row = o.free; next_in_column = none }))
       (with_head o.row_heads.items r s x.next_in_row) (with_head o.column_heads.items c t x.next_in_column) link
   removal row_in column_in row_is t below in_column column_is x read =
       let z : Cell = record { value = pos 0; row = r; column = c; next_in_row = o.free; next_in_column = none } in
       let is : x ≡ cell_at o.cells.items link = cell_read o.cells.items link x spot_within read in
       let b = bound_in_row o.cells.items s in
       let d = bound_in_column o.cells.items t in
-      subst (λ (y : Cell). AreWithout o r c (set (with_next_in_column (with_next_in_row o.cells.items s y.next_in_row) t y.next_in_column) link z) (with_head o.row_heads.items r s y.next_in_row) (with_head o.column_heads.items c t y.next_in_column) link) (sym is)
+      subst (λ (y : Cell). AreWithout o r c (set (with_next_in_column (with_next_in_row o.cells.items s y.next_in_row) t y.next_in_column) link z)
+      (with_head o.row_heads.items r s y.next_in_row) (with_head o.column_heads.items c t y.next_in_column) link) (sym is)
       (record {
         sound = removed o.cells.items o.row_heads.items o.column_heads.items o.free sound r c row_in column_in link spot_here s b link in_row row_is t d below in_column column_is z refl refl;
         there = removed_there o.cells.items o.row_heads.items o.column_heads.items o.free sound r c row_in column_in link spot_here s b link in_row row_is t d below in_column column_is z refl refl;

@@ -44,7 +44,8 @@ module _ (s : Store) (sound : IsSound s) (column b link : ℕ) (next : IsNext (I
 
   pub column_over : link ≡ none → IsOver (record { numbers = column_in s column; from = b })
   column_over e = record {
-    zeros = λ k le lt. number-column_in s sound column k ∙ number_none s.cells.items k column (λ i at. let z = nothing_from (InColumn s.cells.items) column b b link next (omega arith) real e i k at in omega (arith, z, le));
+    zeros = λ k le lt. number-column_in s sound column k ∙ number_none s.cells.items k column (λ i at. let z = nothing_from (InColumn s.cells.items) column b b link next
+        (omega arith) real e i k at in omega (arith, z, le));
   }
 
   pub column_comes : link ≢ none → ComesNext (record { numbers = column_in s column; from = b }) (record { at = (cell_at s.cells.items link).row; value = (cell_at s.cells.items link).value })

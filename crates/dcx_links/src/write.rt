@@ -1,7 +1,8 @@
 //! Numbers put at places, and taken from them.
 ghost use Rattle.std.specs.Prelude.{◌≡◌, ◌≢◌, ℕ, ◌+◌, ◌<◌, ◌≤◌, ◌^◌, length, pos, ◌-ℤ◌, unsigned_abs, IfSome, vec_capacity};
 ghost use Rattle.dcx_links.specs.Lines.{none, IsFrom, IsSpot, link_of};
-ghost use Rattle.dcx_links.specs.Cells.{head_at, InRow, InColumn, IsAt, next_in_row_at, next_in_column_at, bound_in_row, bound_in_column, number_in, with_next_in_row, with_next_in_column, with_head, IsSound};
+ghost use Rattle.dcx_links.specs.Cells.{head_at, InRow, InColumn, IsAt, next_in_row_at, next_in_column_at, bound_in_row, bound_in_column, number_in};
+ghost use Rattle.dcx_links.specs.Cells.{with_next_in_row, with_next_in_column, with_head, IsSound};
 
 use crate::number::number_at_spot;
 use crate::reserve::make_free;

@@ -1,5 +1,5 @@
 -- Whole numbers, quotients of whole numbers, and negatives as fractions.
-use Rattle.std.proofs.Common.{◌≡◌, ◌≢◌, ◌<◌, ◌^◌, ℤ, pos, sym, ap, ◌∙◌, subst, unsigned_abs, lit<, arith}
+use Rattle.std.proofs.Common.{◌≡◌, ◌≢◌, ◌<◌, ◌^◌, ℤ, pos, sym, subst, unsigned_abs, lit<, arith}
 use Rattle.std.specs.Prelude.{◌<ℤ◌, neg_ℤ}
 use Rattle.std.proofs.lemmas.Int.{ints}
 use Rattle.dcx_math.specs.Rational.{ℚ, whole, ◌/ℚ◌, neg_ℚ, ◌<ℚ◌}
@@ -9,17 +9,11 @@ use Rattle.dcx_math.proofs.Ring.{/ℚ-is}
 use Rattle.dcx_frac.specs.declared.fraction.Frac.{Frac}
 use Rattle.dcx_frac.specs.Frac.{num_of, den_of, value}
 use Rattle.dcx_frac.specs.Fits.{IsRepresentable, representable}
-use Rattle.dcx_frac.specs.Results.{frac_of}
-use Rattle.dcx_frac.proofs.Results.{value-frac_of}
 use Rattle.dcx_frac.proofs.Representable.{representable_quotient}
 use Rattle.dcx_frac.proofs.Turns.{neg_size, neg_lowest}
 use Rattle.dcx_atom.specs.Formed.{frac_at}
-use Rattle.dcx_atom.proofs.FormedSums.{frac_at-value}
+use Rattle.dcx_atom.proofs.Fractions.{value-frac_at}
 use Rattle.dcx_frac.proofs.Integers.{one_positive}
-
--- a number that is representable is that of its fraction
-pub value-frac_at : (x : ℚ) → IsRepresentable x → value (frac_at x) ≡ x
-value-frac_at x h = ap (λ y. value (frac_at y)) (sym (value-frac_of x h)) ∙ ap value (frac_at-value (frac_of x h)) ∙ value-frac_of x h
 
 -- the negative of a fraction is one
 pub value-negative : (x : Frac) → value (frac_at (neg_ℚ (value x))) ≡ neg_ℚ (value x)

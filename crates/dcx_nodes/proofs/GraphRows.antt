@@ -5,6 +5,7 @@ use Rattle.std.proofs.lemmas.List.{take_more}
 use Rattle.dcx_frac.specs.declared.fraction.Frac.{Frac}
 use Rattle.dcx_atom.specs.declared.array.Array.{Array}
 use Rattle.dcx_atom.specs.Arrays.{list_below, joined_below}
+use Rattle.dcx_atom.proofs.Lists.{list_below-same}
 use Rattle.dcx_linear.specs.declared.form.Form.{Form}
 use Rattle.dcx_linear.specs.Forms.{is_constant}
 use Rattle.dcx_entries.specs.declared.entries.EntryForms.{EntryForms}
@@ -16,10 +17,6 @@ use Rattle.dcx_entries.specs.Nodes.{Table}
 use Rattle.dcx_nodes.specs.Formed.{value_entries}
 
 -- ---- lists by number
-pub list_alike : {A : Type 0} (n : ℕ) (f g : ℕ → A) → ((k : ℕ) → k < n → f k ≡ g k) → list_below n f ≡ list_below n g
-list_alike zero f g h = refl
-list_alike (suc n) f g h = ap₂ (λ xs x. xs ++ x ∷ []) (list_alike n f g (λ k b. h k (omega (arith, b)))) (h n (omega arith))
-
 pub joined_alike : {A : Type 0} (n : ℕ) (f g : ℕ → List A) → ((k : ℕ) → k < n → f k ≡ g k) → joined_below n f ≡ joined_below n g
 joined_alike zero f g h = refl
 joined_alike (suc n) f g h = ap₂ ◌++◌ (joined_alike n f g (λ k b. h k (omega (arith, b)))) (h n (omega arith))
@@ -58,7 +55,7 @@ module _ {C : Type 0} (of_number : Frac → C) where
       let Row : ℕ → FormedRow C = λ k. record { node = record { 0 = i }; entry = j; row = k; form = slice_index_or (fs ++ f ∷ []) k (zero_form of_number) } in
       ap (λ n. list_below n Row) many
       ∙ ap₂ (λ xs x. xs ++ x ∷ [])
-      (list_alike (length fs) Row (λ k. record { node = record { 0 = i }; entry = j; row = k; form = slice_index_or fs k (zero_form of_number) })
+      (list_below-same (length fs) Row (λ k. record { node = record { 0 = i }; entry = j; row = k; form = slice_index_or fs k (zero_form of_number) })
       (λ k b. ap (λ g. record { node = record { 0 = i }; entry = j; row = k; form = g }) (get_before fs f (zero_form of_number) k b)))
       (ap (λ g. record { node = record { 0 = i }; entry = j; row = length fs; form = g }) (get_last fs f (zero_form of_number)))
 

@@ -23,6 +23,7 @@ use Rattle.dcx_tree.specs.Nodes.{Node, arg_sides, number_in}
 use Rattle.dcx_tree.specs.Kept.{IsSquareFor-prop}
 use Rattle.dcx_tree.specs.Problems.{IsListed}
 use Rattle.dcx_tree.specs.Meaning.{names_in}
+use Rattle.dcx_tree.proofs.Lawful.{mapped}
 use Rattle.dcx_tree.proofs.Names.{found_in}
 use Rattle.dcx_tree.proofs.NodeValues.{sides_are}
 use Rattle.dcx_tree.proofs.Sublists.{contains_at}
@@ -44,7 +45,6 @@ use Rattle.dcx_entries.specs.Nodes.{ReducedEntry}
 use Rattle.dcx_nodes.specs.Given.{HasFewUnknowns}
 use Rattle.dcx_nodes.specs.Formed.{ReducedGives}
 use Rattle.dcx_nodes.proofs.AtNode.{call_is, shape_given}
-use Rattle.dcx_nodes.proofs.Numbers.{mapped_at}
 
 -- ---- few unknowns
 pub few_variable_unknowns : (p : Problem) (reduced : List Bool) → HasFewUnknowns p reduced → variable_unknowns p.variables < 2 ^ 32
@@ -109,8 +109,8 @@ module _ {C : Type 0} (of_number : Frac → C) (number_of : C → Option Frac) (
     each : first ≡ first_unknown p.variables (number_in (names_in p).variables v.name) → (j : ℕ) (e : EntryForms C) → slice_get es j ≡ Some e →
         ◌≡◌ {A = Result (EntryForms C) ValueStop} (Ok e) (Ok (alone (form_of_unknown of_number (unknown_from (first_unknown p.variables (number_in (names_in p).variables v.name)) v j))))
     each is j e there =
-        let (u, here, made) = mapped_at (λ u. alone (form_of_unknown of_number u)) unknowns j e (ap (λ xs. slice_get xs j) (sym es_are) ∙ there) in
-        let (k, place, own) = mapped_at (unknown_from first v) (places_below (entries_of (sides_in v))) j u (ap (λ xs. slice_get xs j) (sym unknowns_are) ∙ here) in
+        let (u, here, made) = mapped (λ u. alone (form_of_unknown of_number u)) unknowns j e (ap (λ xs. slice_get xs j) (sym es_are) ∙ there) in
+        let (k, place, own) = mapped (unknown_from first v) (places_below (entries_of (sides_in v))) j u (ap (λ xs. slice_get xs j) (sym unknowns_are) ∙ here) in
         ap Ok (sym made ∙ ap (λ u. alone (form_of_unknown of_number u)) (sym own ∙ ap (unknown_from first v) (sym (place_at (entries_of (sides_in v)) j k place)) ∙ ap (λ f. unknown_from f v j) is))
 
     pub variable_gives : first ≡ first_unknown p.variables (number_in (names_in p).variables v.name) → ReducedGives of_number number_of Sums Changes Reads p setting reduced fixed forms i (Ok es)

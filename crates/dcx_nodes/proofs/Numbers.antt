@@ -6,7 +6,7 @@ use Rattle.std.proofs.Math.Path.{fun_ext}
 use Rattle.std.proofs.lemmas.Bool.{cases_lt}
 use Rattle.std.proofs.lemmas.List.{length-map, take_more, map_push}
 use Rattle.std.proofs.lemmas.List.Elements.{All-cons, All-nil}
-use Rattle.std.proofs.lemmas.Option.{same_Some, none-some, slice_get_within, get_or_from_slice_get, slice_get-map}
+use Rattle.std.proofs.lemmas.Option.{same_Some, slice_get_within, get_or_from_slice_get, slice_get-map}
 use Rattle.dcx_math.specs.Rational.{whole}
 use Rattle.dcx_frac.specs.declared.fraction.Frac.{Frac}
 use Rattle.dcx_frac.specs.declared.fraction.Passes.{Passes}
@@ -36,6 +36,7 @@ use Rattle.dcx_atom.specs.Fractions.{AreFractions, HaveFewEntries}
 use Rattle.dcx_call.proofs.Exact.{forms_exactly}
 use Rattle.dcx_tree.specs.declared.problem.Problem.{Problem}
 use Rattle.dcx_tree.specs.Nodes.{Node, arg_sides}
+use Rattle.dcx_tree.proofs.Lawful.{mapped}
 use Rattle.dcx_unknowns.proofs.NodeForms.{node_at}
 use Rattle.dcx_tree.proofs.NodeValues.{args_are, sides_are as sides_are_at, number_there, number_past}
 use Rattle.dcx_linear.specs.declared.change.Change.{Change}
@@ -55,11 +56,6 @@ use Rattle.dcx_nodes.specs.Formed.{value_entries, IsOfSides, AreOfSides, ValueGi
 use Rattle.dcx_nodes.specs.Numbers.{HasNumbersOf, HasNumbersAt, HaveNumbersOf, AreOnlyNumbers}
 
 -- ---- numbers of lists
-pub mapped_at : {A B : Type 0} (f : A → B) (xs : List A) (j : ℕ) (y : B) → slice_get (map f xs) j ≡ Some y → (x : A) × (slice_get xs j ≡ Some x) × (f x ≡ y)
-mapped_at f [] j y e = absurd (none-some y e)
-mapped_at f (x ∷ xs) zero y e = (x, refl, same_Some (f x) y e)
-mapped_at f (x ∷ xs) (suc j) y e = mapped_at f xs j y e
-
 -- one number more
 number_push : (xs : List Frac) (x : Frac) → number_at (xs ++ x ∷ []) (length xs) ≡ value x
 number_push [] x = refl
@@ -229,7 +225,7 @@ module _ {C : Type 0} (of_number : Frac → C) (number_of : C → Option Frac) (
         where
           each : (j : ℕ) (e : EntryForms C) → slice_get (value_entries of_number x) j ≡ Some e → Entry j (Ok e)
           each j e there =
-              let (z, here, same) = mapped_at (λ z. alone (is_constant (of_number z))) x.entries j e there in
+              let (z, here, same) = mapped (λ z. alone (is_constant (of_number z))) x.entries j e there in
               subst (λ f. Entry j (Ok f)) same (entry_ok j z (entry_is j z here))
 
     -- what stops

@@ -22,6 +22,7 @@ use Rattle.dcx_affine.specs.Pairing.{paired_sides, pairs_at}
 use Rattle.dcx_point.specs.Pairs.{Pairs}
 use Rattle.dcx_arena.specs.declared.node.NodeId.{NodeId}
 use Rattle.dcx_arena.specs.Nodes.{IsNode, call_at, positions, args_at, sides_at}
+use Rattle.dcx_arena.proofs.Positions.{position_at}
 use Rattle.dcx_call.specs.declared.call.Call.TheVariants as calls
 use Rattle.dcx_call.specs.Calls.{sides_of_two}
 use Rattle.dcx_call.proofs.Entries.{some_fact}
@@ -202,11 +203,6 @@ module _ (p : Problem) (i : ℕ) (q : Pairing) (c : call_at p.tree i ≡ Some (c
           (λ j b s g. subst (λ ps. PairEntry of_number number_of Sums Changes scaling_marked (args_among of_number forms ids) ps j s) (pairs_told j (below j b)) g) f))))
 
 -- ---- as code has them
-pub pos_get : (ids : List NodeId) (k : ℕ) → get_or (positions ids) k 0 ≡ (get_or ids k (record { 0 = 0 })).0
-pos_get [] k = refl
-pos_get (a ∷ ids) zero = refl
-pos_get (a ∷ ids) (suc k) = pos_get ids k
-
 pub given_pairs : (q : Pairing) (x y a b : Sides) (pairs : List (List Pair)) → x ≡ a → y ≡ b → IfSome (paired_sides q x y) (λ s. pairs ≡ list_below (entries_of s) (pairs_at q x y)) →
     IfSome (paired_sides q a b) (λ s. pairs ≡ list_below (entries_of s) (pairs_at q a b))
 given_pairs q x y a b pairs e f h =
@@ -228,15 +224,15 @@ module _ (p : Problem) (i : ℕ) (q : Pairing) (c : call_at p.tree i ≡ Some (c
   id_below k b =
       let (n, at) = the_node p i (calls.Pairing q) c in
       let below = arg_below p i q c n at (positions ids) ids_are k 0 b in
-      omega (arith, below, pos_get ids k)
+      omega (arith, below, position_at ids k)
 
   -- where these are the sides of the arguments
   module _ (x y : Sides) (x_is : x ≡ sides_at p.tree (get_or ids 0 (record { 0 = 0 })).0) (y_is : y ≡ sides_at p.tree (get_or ids 1 (record { 0 = 0 })).0) where
     left_is : x ≡ sides_at p.tree (get_or (positions ids) 0 0)
-    left_is = x_is ∙ ap (sides_at p.tree) (sym (pos_get ids 0))
+    left_is = x_is ∙ ap (sides_at p.tree) (sym (position_at ids 0))
 
     right_is : y ≡ sides_at p.tree (get_or (positions ids) 1 0)
-    right_is = y_is ∙ ap (sides_at p.tree) (sym (pos_get ids 1))
+    right_is = y_is ∙ ap (sides_at p.tree) (sym (position_at ids 1))
 
     pub may_pair : IsSome (paired_sides q x y)
     may_pair = let (n, at) = the_node p i (calls.Pairing q) c in subst IsSome (sym (ap₂ (paired_sides q) left_is right_is ∙ paired p i q c n at (positions ids) ids_are 0)) refl
@@ -255,7 +251,8 @@ module _ (p : Problem) (i : ℕ) (q : Pairing) (c : call_at p.tree i ≡ Some (c
           (r_is : r ≡ side_marked number_of reduced fixed forms (get_or ids 1 (record { 0 = 0 })).0) where
         scaling_here : s ≡ pairing_scaling q (side_marked number_of reduced fixed forms (get_or (positions ids) 0 0)) (side_marked number_of reduced fixed forms (get_or (positions ids) 1 0))
         scaling_here =
-            s_is ∙ ap₂ (pairing_scaling q) (l_is ∙ ap (side_marked number_of reduced fixed forms) (sym (pos_get ids 0))) (r_is ∙ ap (side_marked number_of reduced fixed forms) (sym (pos_get ids 1)))
+            s_is ∙ ap₂ (pairing_scaling q) (l_is ∙ ap (side_marked number_of reduced fixed forms) (sym (position_at ids 0)))
+            (r_is ∙ ap (side_marked number_of reduced fixed forms) (sym (position_at ids 1)))
 
         pub numbers_here : (ps : List Pair) → All (HasNumbersFor number_of s (args_among of_number forms (positions ids))) ps
         numbers_here ps =

@@ -48,7 +48,8 @@ module _ (p : Problem) (setting : Pairs) where
   same_stop : (e f : Stop) → e ≢ why.Memory → f ≢ why.Memory → ProgramStops p setting e → ProgramStops p setting f → e ≡ f
   same_stop e f n m h k = by (parted e n h) (parted f m k)
     where
-      by : IsFirstMisfit p.parameters setting e ⊎ ((r : ReduceStop) × IsUnformed p setting r × (e ≡ program_stop r)) → IsFirstMisfit p.parameters setting f ⊎ ((r : ReduceStop) × IsUnformed p setting r × (f ≡ program_stop r)) → e ≡ f
+      by : IsFirstMisfit p.parameters setting e ⊎ ((r : ReduceStop) × IsUnformed p setting r × (e ≡ program_stop r)) → IsFirstMisfit p.parameters setting f
+          ⊎ ((r : ReduceStop) × IsUnformed p setting r × (f ≡ program_stop r)) → e ≡ f
       by (inl a) (inl b) = stops_hold.one p.parameters setting e f a b n m
       by (inl a) (inr (r, b, is)) = absurd (unfit p setting 0 e a b.fits)
       by (inr (r, a, is)) (inl b) = absurd (unfit p setting 0 f b a.fits)

@@ -44,7 +44,8 @@ point_for p q limit set i point h = record { names = h.read.of_variables.names; 
 first_for : (p : Problem) (q : Program Frac) (limit : ℕ) (point : Pairs) → IsPossible p q limit point → IsPointFor p point
 first_for p q limit point h = record { names = h.read.of_variables.names; shaped = h.read.of_variables.shaped }
 
-same_points : (p : Problem) (q : Program Frac) (limit : ℕ) (set other : ConstraintSet) (ms ns : List ℕ) (xs ys : List Pairs) → AllZip (IsReadAt p q limit set) ms xs → AllZip (IsReadAt p q limit other) ns ys → AllZip (IsSamePoint p) xs ys → xs ≡ ys
+same_points : (p : Problem) (q : Program Frac) (limit : ℕ) (set other : ConstraintSet) (ms ns : List ℕ) (xs ys : List Pairs) → AllZip (IsReadAt p q limit set) ms xs
+    → AllZip (IsReadAt p q limit other) ns ys → AllZip (IsSamePoint p) xs ys → xs ≡ ys
 same_points p q limit set other ms ns [] [] h k e = refl
 same_points p q limit set other ms ns [] (y ∷ ys) h k e = absurd e
 same_points p q limit set other ms ns (x ∷ xs) [] h k e = absurd e
@@ -109,7 +110,8 @@ same_outcome o q h f =
     }
 
 -- outcomes with one end are the same
-alike : (o q : FilterOutcome) (x y : Result (Result Filtered FilterStop) Stop) → filter_end o.end ≡ x → filter_end q.end ≡ y → AreOneEnd filter.Memory (λ (a b : Filtered). a ≡ b) x y → (IsSameEnd (λ (a b : Filtered). a ≡ b) x y → o.place ≡ q.place)
+alike : (o q : FilterOutcome) (x y : Result (Result Filtered FilterStop) Stop) → filter_end o.end ≡ x → filter_end q.end ≡ y
+    → AreOneEnd filter.Memory (λ (a b : Filtered). a ≡ b) x y → (IsSameEnd (λ (a b : Filtered). a ≡ b) x y → o.place ≡ q.place)
     → HadMemory o → HadMemory q → o ≡ q
 alike o q x y t u one places n m =
     let same = one (subst (λ e. ¬ WantsMemory filter.Memory e) t n) (subst (λ e. ¬ WantsMemory filter.Memory e) u m) in
@@ -123,5 +125,6 @@ filters_are_right p limit settings outcomes ok h =
 
 pub filters_are_one : FiltersAreOne
 filters_are_one p limit settings os qs ok h k =
-    are_one (FilterGives limit) (λ (o : FilterOutcome) (e : Result (Result Filtered FilterStop) Stop). filter_end o.end ≡ e) (λ (o : FilterOutcome). o.place) p filter.Memory (λ (a b : Filtered). a ≡ b) (λ (o q : FilterOutcome). HadMemory o → HadMemory q → o ≡ q)
+    are_one (FilterGives limit) (λ (o : FilterOutcome) (e : Result (Result Filtered FilterStop) Stop). filter_end o.end ≡ e) (λ (o : FilterOutcome). o.place) p filter.Memory
+    (λ (a b : Filtered). a ≡ b) (λ (o q : FilterOutcome). HadMemory o → HadMemory q → o ≡ q)
     (one_answer p limit ok) alike settings os qs h k

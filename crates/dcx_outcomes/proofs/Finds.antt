@@ -39,7 +39,8 @@ pub found_whole : (warm : Bool) (p : Problem) (limit : ℕ) (settings : List Pai
 found_whole warm p limit settings os count e has h = subst (λ b. AreFound b p limit settings os count) (sym e) (inr (has, h.0, h.1))
 
 -- ---- right, and one
-pub found_are_right : (warm : Bool) (p : Problem) (limit : ℕ) (settings : List Pairs) (os : List Outcome) (count : Option ℕ) → IsAccepted p → AreFound warm p limit settings os count → AreRight p settings os
+pub found_are_right : (warm : Bool) (p : Problem) (limit : ℕ) (settings : List Pairs) (os : List Outcome) (count : Option ℕ) → IsAccepted p
+    → AreFound warm p limit settings os count → AreRight p settings os
 found_are_right false p limit settings os count ok (inl h) = solved_are_right false p limit settings os count ok h.1
 found_are_right false p limit settings os count ok (inr (has, h, is)) = wholes_are_right p limit settings os ok h
 found_are_right true p limit settings os count ok h = solved_are_right true p limit settings os count ok h
@@ -54,7 +55,8 @@ found_are_one false p limit settings os qs m n ok (inr (has, h, is)) (inr (also,
 found_are_one true p limit settings os qs m n ok h k = solved_are_one true p limit settings os qs m n ok h k
 
 -- ---- complete, and of one kind
-pub solved_are_complete : (warm : Bool) (p : Problem) (limit : ℕ) (settings : List Pairs) (os : List Outcome) (count : Option ℕ) → AreSolved warm p limit settings os count → AreComplete p limit settings os
+pub solved_are_complete : (warm : Bool) (p : Problem) (limit : ℕ) (settings : List Pairs) (os : List Outcome) (count : Option ℕ) → AreSolved warm p limit settings os count
+    → AreComplete p limit settings os
 solved_are_complete false p limit settings os count (h, is) = outcomes_are_complete.fresh p limit settings os h
 solved_are_complete true p limit settings os count (n, h, is) = outcomes_are_complete.warm p limit settings os n h
 

@@ -41,7 +41,8 @@ from_none n k e = omega (arith, e)
 -- ---- all settings
 module _ (p : Problem) (limit : ℕ) where
   -- without the columns
-  fresh_in_turn : (ss : List Pairs) (before : Option (List ℕ) × ℕ) (os : List Outcome) (after : Option (List ℕ) × ℕ) → EndInTurn (IsToldFrom false p limit) ss before os after → AreOutcomes p limit ss os
+  fresh_in_turn : (ss : List Pairs) (before : Option (List ℕ) × ℕ) (os : List Outcome) (after : Option (List ℕ) × ℕ) → EndInTurn (IsToldFrom false p limit) ss before os after
+      → AreOutcomes p limit ss os
   fresh_in_turn ss before os after h =
       each_in_turn (IsToldFrom false p limit) (IsOutcome p limit) (λ s b o a k. record { end = end_in k.end; answers = k.ends.0; told = k.tells.end; placed = k.tells.placed }) ss before os after h
 
@@ -63,7 +64,8 @@ module _ (p : Problem) (limit : ℕ) where
       (n, record { ends = rs; answers = answers; told = told; count = from_none n (count_by is_kept rs) count }, refl)
 
   -- what is found by a session that began without columns
-  pub found_in_turn : (warm : Bool) (ss : List Pairs) (os found : List Outcome) (n : ℕ) (count : Option ℕ) → ((after : Option (List ℕ)) × EndInTurn (IsToldFrom warm p limit) ss (None, 0) os (after, n))
+  pub found_in_turn : (warm : Bool) (ss : List Pairs) (os found : List Outcome) (n : ℕ) (count : Option ℕ)
+      → ((after : Option (List ℕ)) × EndInTurn (IsToldFrom warm p limit) ss (None, 0) os (after, n))
       → found ≡ os → count ≡ counted_where warm n → AreSolved warm p limit ss found count
   found_in_turn warm ss os found n count (after, h) is counted =
       subst (λ (z : List Outcome). AreSolved warm p limit ss z count) (sym is) (subst (λ (z : Option ℕ). AreSolved warm p limit ss os z) (sym counted) (by_warm warm ss os n after h))

@@ -111,7 +111,8 @@ fitting_there : (p : Problem) (setting : Pairs) (q : Program ParamForm) → IsMa
 fitting_there p setting q m fits = (formed_are_fitting p).param_forms m.dpp [] setting m.reduces.nodes.table m.reduces.nodes.formed fits
 
 -- what is told is right there
-right_range : (p : Problem) (name : List ℕ) (limit : ℕ) (s : Pairs) (q : Program Frac) (r : Result Ranged RangeStop) → FitsParameters p.parameters s → SessionGives p s (Ok q) → TellsOf name limit p s q r →
+right_range : (p : Problem) (name : List ℕ) (limit : ℕ) (s : Pairs) (q : Program Frac) (r : Result Ranged RangeStop) → FitsParameters p.parameters s → SessionGives p s (Ok q)
+    → TellsOf name limit p s q r →
     IfOk r (IsRightAt p s (HoldsOn p (setting_of p s) name))
 right_range p name limit s q r fits given g =
     let has = g.range in
@@ -160,7 +161,8 @@ same_outcome o q h f =
     }
 
 -- outcomes with one end are the same
-alike : (o q : RangeOutcome) (x y : Result (Result Ranged RangeStop) Stop) → range_end o.end ≡ x → range_end q.end ≡ y → AreOneEnd range.Memory (λ (a b : Ranged). a ≡ b) x y → (IsSameEnd (λ (a b : Ranged). a ≡ b) x y → o.place ≡ q.place)
+alike : (o q : RangeOutcome) (x y : Result (Result Ranged RangeStop) Stop) → range_end o.end ≡ x → range_end q.end ≡ y → AreOneEnd range.Memory (λ (a b : Ranged). a ≡ b) x y
+    → (IsSameEnd (λ (a b : Ranged). a ≡ b) x y → o.place ≡ q.place)
     → HadMemory o → HadMemory q → o ≡ q
 alike o q x y t u one places n m =
     let same = one (subst (λ e. ¬ WantsMemory range.Memory e) t n) (subst (λ e. ¬ WantsMemory range.Memory e) u m) in
@@ -168,5 +170,6 @@ alike o q x y t u one places n m =
 
 pub ranges_are_one : RangesAreOne
 ranges_are_one p name limit settings os qs h k =
-    are_one (TellsOf name limit) (λ (o : RangeOutcome) (e : Result (Result Ranged RangeStop) Stop). range_end o.end ≡ e) (λ (o : RangeOutcome). o.place) p range.Memory (λ (a b : Ranged). a ≡ b) (λ (o q : RangeOutcome). HadMemory o → HadMemory q → o ≡ q)
+    are_one (TellsOf name limit) (λ (o : RangeOutcome) (e : Result (Result Ranged RangeStop) Stop). range_end o.end ≡ e) (λ (o : RangeOutcome). o.place) p range.Memory
+    (λ (a b : Ranged). a ≡ b) (λ (o q : RangeOutcome). HadMemory o → HadMemory q → o ≡ q)
     (λ s q x y fits given. one_answer p name limit s q x y) alike settings os qs h k

@@ -107,16 +107,19 @@ variables_distinct p =
     (λ d. distinct_front (map (λ (v : Variable). v.name) p.variables) (map (λ (q : Parameter). q.name) p.parameters) d.distinct)
 
 -- the numbers of a point, name by name
-pub by_names : (p : Problem) (x y : Pairs) → names_of x ≡ map (λ (v : Variable). v.name) p.variables → IsSamePoint p x y → (k : ℕ) (n : List ℕ) → slice_get (names_of x) k ≡ Some n → (j : ℕ) → given_by x n j ≡ given_by y n j
+pub by_names : (p : Problem) (x y : Pairs) → names_of x ≡ map (λ (v : Variable). v.name) p.variables → IsSamePoint p x y → (k : ℕ) (n : List ℕ) → slice_get (names_of x) k ≡ Some n
+    → (j : ℕ) → given_by x n j ≡ given_by y n j
 by_names p x y e same k n at j =
     let (v, there, is) = named_at p.variables k n (subst (λ ns. slice_get ns k ≡ Some n) e at) in
     subst (λ z. given_by x z j ≡ given_by y z j) is (same.numbers k v there j)
 
 -- the sides of the array at a place of a point for the problem
-sides_there : (p : Problem) (x : Pairs) → IsPointFor p x → (k : ℕ) (v : Variable) (n : List ℕ) (a : Array) → slice_get p.variables k ≡ Some v → v.name ≡ n → slice_get x k ≡ Some (n, a) → sides_of a.shape ≡ sides_of v.shape
+sides_there : (p : Problem) (x : Pairs) → IsPointFor p x → (k : ℕ) (v : Variable) (n : List ℕ) (a : Array) → slice_get p.variables k ≡ Some v → v.name ≡ n
+    → slice_get x k ≡ Some (n, a) → sides_of a.shape ≡ sides_of v.shape
 sides_there p x h k v n a there is at =
     let distinct : IsDistinct same_name (names_of x) = subst (IsDistinct same_name) (sym h.names) (variables_distinct p) in
-    let has : HasArray x v.name (sides_of v.shape) = all_at (λ (w : Variable). HasArray x w.name (sides_of w.shape)) p.variables k v (recursion_from_All (λ (w : Variable). HasArray x w.name (sides_of w.shape)) p.variables h.shaped) there in
+    let has : HasArray x v.name (sides_of v.shape) = all_at (λ (w : Variable). HasArray x w.name (sides_of w.shape)) p.variables k v
+    (recursion_from_All (λ (w : Variable). HasArray x w.name (sides_of w.shape)) p.variables h.shaped) there in
     let found : array_of x v.name ≡ Some a = subst (λ z. array_of x z ≡ Some a) (sym is) (lookup_from_place nat_list_eq_equiv x k n a distinct at) in
     subst (λ (z : Array). sides_of z.shape ≡ sides_of v.shape) (same_Some has.array a (sym has.there ∙ found)) has.shape
 
@@ -131,7 +134,8 @@ same_point p x y h k same = same_pairs x y same.names (subst (IsDistinct same_na
         sides_there p x h i v n a there is at ∙ ap (λ (z : Variable). sides_of z.shape) one ∙ sym (sides_there p y k i w m b here are also)
 
 -- ---- multipliers
-pub same_duals : (ds es : List Array) → map (λ (a : Array). sides_of a.shape) ds ≡ map (λ (a : Array). sides_of a.shape) es → map (λ (a : Array). a.entries) ds ≡ map (λ (a : Array). a.entries) es → ds ≡ es
+pub same_duals : (ds es : List Array) → map (λ (a : Array). sides_of a.shape) ds ≡ map (λ (a : Array). sides_of a.shape) es → map (λ (a : Array). a.entries) ds
+    ≡ map (λ (a : Array). a.entries) es → ds ≡ es
 same_duals [] [] s e = refl
 same_duals [] (y ∷ es) s e = absurd cc
 same_duals (d ∷ ds) [] s e = absurd cc

@@ -106,7 +106,8 @@ module _ (p : Problem) where
   speaks_told limit s before (Ok w) after (q, i, k) = speaks_by p limit s before w.kept q i w.answer k.answer
   speaks_told limit s before (Err stop) after h = tt
 
-  alike : (limit : ℕ) (before other : Option (List ℕ)) (settings : List Pairs) (rs ss : List (Result Warmed Stop)) (os qs : List Outcome) → WarmAnswersAll p limit before settings rs → WarmAnswersAll p limit other settings ss →
+  alike : (limit : ℕ) (before other : Option (List ℕ)) (settings : List Pairs) (rs ss : List (Result Warmed Stop)) (os qs : List Outcome)
+      → WarmAnswersAll p limit before settings rs → WarmAnswersAll p limit other settings ss →
       AreOneWarmEnds p rs ss → AreTold p rs os → AreTold p ss qs → AreAlikeWarm os qs
   alike limit before other us [] [] [] [] x y h t u = tt
   alike limit before other us [] [] [] (q ∷ qs) x y h t u = absurd u
@@ -127,7 +128,8 @@ module _ (p : Problem) where
   same_kept (Err stop) (Ok w) h m n = absurd (m h)
   same_kept (Err stop) (Err other) h m n = refl
 
-  same_count : (rs ss : List (Result Warmed Stop)) (os qs : List Outcome) → AreOneWarmEnds p rs ss → AreTold p rs os → AreTold p ss qs → AllByRecursion HadMemory os → AllByRecursion HadMemory qs → count_by is_kept rs ≡ count_by is_kept ss
+  same_count : (rs ss : List (Result Warmed Stop)) (os qs : List Outcome) → AreOneWarmEnds p rs ss → AreTold p rs os → AreTold p ss qs → AllByRecursion HadMemory os
+      → AllByRecursion HadMemory qs → count_by is_kept rs ≡ count_by is_kept ss
   same_count [] [] os qs h t u m n = refl
   same_count [] (s ∷ ss) os qs h t u m n = absurd h
   same_count (r ∷ rs) [] os qs h t u m n = absurd h
@@ -149,11 +151,13 @@ warm_outcomes_are_one p limit settings os qs m n ok h k =
     }
 
 -- ---- warm or not
-pub solved_are_right : (warm : Bool) (p : Problem) (limit : ℕ) (settings : List Pairs) (outcomes : List Outcome) (count : Option ℕ) → IsAccepted p → AreSolved warm p limit settings outcomes count → AreRight p settings outcomes
+pub solved_are_right : (warm : Bool) (p : Problem) (limit : ℕ) (settings : List Pairs) (outcomes : List Outcome) (count : Option ℕ) → IsAccepted p
+    → AreSolved warm p limit settings outcomes count → AreRight p settings outcomes
 solved_are_right false p limit settings outcomes count ok h = outcomes_are_right p limit settings outcomes ok h.0
 solved_are_right true p limit settings outcomes count ok (n, h, is) = warm_outcomes_are_right p limit settings outcomes n ok h
 
-pub solved_are_one : (warm : Bool) (p : Problem) (limit : ℕ) (settings : List Pairs) (os qs : List Outcome) (m n : Option ℕ) → IsAccepted p → AreSolved warm p limit settings os m → AreSolved warm p limit settings qs n → AreOneFound os m qs n
+pub solved_are_one : (warm : Bool) (p : Problem) (limit : ℕ) (settings : List Pairs) (os qs : List Outcome) (m n : Option ℕ) → IsAccepted p → AreSolved warm p limit settings os m
+    → AreSolved warm p limit settings qs n → AreOneFound os m qs n
 solved_are_one false p limit settings os qs m n ok h k =
     subst (λ (x : Option ℕ). AreOneFound os x qs n) (sym h.1) (subst (λ (y : Option ℕ). AreOneFound os None qs y) (sym k.1) (outcomes_are_one p limit settings os qs ok h.0 k.0))
 solved_are_one true p limit settings os qs m n ok (a, h, is) (b, k, also) =

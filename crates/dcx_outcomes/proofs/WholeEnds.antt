@@ -71,7 +71,8 @@ same_whole p (answer.Infeasible tree nodes) (answer.Optimal m y shown count) h k
 same_whole p (answer.Infeasible tree nodes) (answer.Infeasible shown count) h k e = e
 
 -- a run over a program has one end
-one_answer : (p : Problem) (limit : ℕ) (s : Pairs) (q : Program Frac) (x y : Result WholeAnswer BranchStop) → WholeGives limit p s q x → WholeGives limit p s q y → AreOneEnd branch.Memory IsSameWhole (Ok x) (Ok y)
+one_answer : (p : Problem) (limit : ℕ) (s : Pairs) (q : Program Frac) (x y : Result WholeAnswer BranchStop) → WholeGives limit p s q x → WholeGives limit p s q y
+    → AreOneEnd branch.Memory IsSameWhole (Ok x) (Ok y)
 one_answer p limit s q (Ok a) (Ok b) h k n m = same_whole p a b (speaks p q limit a h) (speaks p q limit b k) (runs_are_one p q limit most_nodes (Ok a) (Ok b) h k)
 one_answer p limit s q (Ok a) (Err e) h k n m = m (runs_are_one p q limit most_nodes (Ok a) (Err e) h k)
 one_answer p limit s q (Err e) (Ok b) h k n m = n (runs_are_one p q limit most_nodes (Err e) (Ok b) h k)
@@ -94,7 +95,8 @@ same_ends (Err s) (Ok (Err t)) h = absurd h
 same_ends (Err s) (Err t) h = h
 
 -- outcomes with one end are the same
-alike : (o q : Outcome) (x y : Result (Result WholeAnswer BranchStop) Stop) → o.end ≡ whole_end x → q.end ≡ whole_end y → AreOneEnd branch.Memory IsSameWhole x y → (IsOneEnd IsSameWhole x y → o.place ≡ q.place)
+alike : (o q : Outcome) (x y : Result (Result WholeAnswer BranchStop) Stop) → o.end ≡ whole_end x → q.end ≡ whole_end y → AreOneEnd branch.Memory IsSameWhole x y
+    → (IsOneEnd IsSameWhole x y → o.place ≡ q.place)
     → HadMemory o → HadMemory q → IsSameOutcome o q
 alike o q x y t u one places n m =
     let same = one (λ w. n (subst WantsMemory (sym t) (wants x w))) (λ w. m (subst WantsMemory (sym u) (wants y w))) in

@@ -28,4 +28,5 @@ AreAlikeFilters os qs = AllZip (λ o q. HadMemory o → HadMemory q → o ≡ q)
 
 -- settings of an accepted problem have one list of outcomes
 abbrev pub FiltersAreOne : Type 0
-FiltersAreOne = (p : Problem) (limit : ℕ) (settings : List Pairs) (os qs : List FilterOutcome) → IsAccepted p → AreFilterOutcomes p limit settings os → AreFilterOutcomes p limit settings qs → AreAlikeFilters os qs
+FiltersAreOne = (p : Problem) (limit : ℕ) (settings : List Pairs) (os qs : List FilterOutcome) → IsAccepted p → AreFilterOutcomes p limit settings os
+    → AreFilterOutcomes p limit settings qs → AreAlikeFilters os qs

@@ -30,4 +30,5 @@ filter_end (the.Stop stop) = Err stop
 -- ---- all settings
 -- one outcome for each, in order
 abbrev pub AreFilterOutcomes : Problem → ℕ → List Pairs → List FilterOutcome → Type 0
-AreFilterOutcomes p limit settings outcomes = AreAskedOutcomes (FilterGives limit) (λ (o : FilterOutcome) (e : Result (Result Filtered FilterStop) Stop). filter_end o.end ≡ e) (λ (o : FilterOutcome). o.place) p settings outcomes
+AreFilterOutcomes p limit settings outcomes = AreAskedOutcomes (FilterGives limit) (λ (o : FilterOutcome) (e : Result (Result Filtered FilterStop) Stop). filter_end o.end ≡ e)
+    (λ (o : FilterOutcome). o.place) p settings outcomes

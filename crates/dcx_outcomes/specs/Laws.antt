@@ -28,7 +28,8 @@ WholesAreRight = (p : Problem) (limit : ℕ) (settings : List Pairs) (outcomes :
 
 -- and each answer among warm outcomes
 abbrev pub WarmOutcomesAreRight : Type 0
-WarmOutcomesAreRight = (p : Problem) (limit : ℕ) (settings : List Pairs) (outcomes : List Outcome) (kept : ℕ) → IsAccepted p → AreWarmOutcomes p limit settings outcomes kept → AreRight p settings outcomes
+WarmOutcomesAreRight = (p : Problem) (limit : ℕ) (settings : List Pairs) (outcomes : List Outcome) (kept : ℕ) → IsAccepted p → AreWarmOutcomes p limit settings outcomes kept
+    → AreRight p settings outcomes
 
 -- ---- one
 -- the same answer with as many nodes, but for its tree
@@ -85,7 +86,8 @@ AgreesWithFresh _ _ = ⊥
 
 -- setting by setting
 abbrev pub WarmOutcomesAgree : Type 0
-WarmOutcomesAgree = (p : Problem) (limit : ℕ) (settings : List Pairs) (os : List Outcome) (kept : ℕ) (qs : List Outcome) → IsAccepted p → AreWarmOutcomes p limit settings os kept → AreOutcomes p limit settings qs
+WarmOutcomesAgree = (p : Problem) (limit : ℕ) (settings : List Pairs) (os : List Outcome) (kept : ℕ) (qs : List Outcome) → IsAccepted p → AreWarmOutcomes p limit settings os kept
+    → AreOutcomes p limit settings qs
     → AllZip (λ o q. AgreesWithFresh o.end q.end) os qs
 
 -- they are the same one after the other, until memory runs out at a setting: from there on other columns may be kept
@@ -102,7 +104,8 @@ pub record AreOneWarm (os : List Outcome) (m : ℕ) (qs : List Outcome) (n : ℕ
 
 -- settings of an accepted problem have one list of warm outcomes, and one count
 abbrev pub WarmOutcomesAreOne : Type 0
-WarmOutcomesAreOne = (p : Problem) (limit : ℕ) (settings : List Pairs) (os qs : List Outcome) (m n : ℕ) → IsAccepted p → AreWarmOutcomes p limit settings os m → AreWarmOutcomes p limit settings qs n → AreOneWarm os m qs n
+WarmOutcomesAreOne = (p : Problem) (limit : ℕ) (settings : List Pairs) (os qs : List Outcome) (m n : ℕ) → IsAccepted p → AreWarmOutcomes p limit settings os m
+    → AreWarmOutcomes p limit settings qs n → AreOneWarm os m qs n
 
 -- ---- warm or not
 -- the same outcomes, and as many warm ones

@@ -56,4 +56,5 @@ range_end (the.Stop stop) = Err stop
 -- ---- all settings
 -- one outcome for each, in order
 abbrev pub AreRangeOutcomes : Problem → List ℕ → ℕ → List Pairs → List RangeOutcome → Type 0
-AreRangeOutcomes p name limit settings outcomes = AreAskedOutcomes (TellsOf name limit) (λ (o : RangeOutcome) (e : Result (Result Ranged RangeStop) Stop). range_end o.end ≡ e) (λ (o : RangeOutcome). o.place) p settings outcomes
+AreRangeOutcomes p name limit settings outcomes = AreAskedOutcomes (TellsOf name limit) (λ (o : RangeOutcome) (e : Result (Result Ranged RangeStop) Stop). range_end o.end ≡ e)
+    (λ (o : RangeOutcome). o.place) p settings outcomes

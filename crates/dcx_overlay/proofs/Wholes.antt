@@ -1,13 +1,9 @@
 -- A whole number of 32 bits is a fraction over 1.
-use Rattle.std.proofs.Common.{◌≡◌, ℕ, ◌<◌, ◌^◌, pos, arith, lit<, ◌<ℤ◌, ◌∙◌}
+use Rattle.std.proofs.Common.{◌≡◌, ℕ, ◌<◌, ◌^◌, pos, arith, lit<}
 use Rattle.std.proofs.lemmas.Int.{ints}
 use Rattle.dcx_math.specs.Rational.{whole, ◌/ℚ◌}
-use Rattle.dcx_math.proofs.Ratios.{ratio-one, ratio-is-/ℚ}
 use Rattle.dcx_frac.specs.Fits.{IsRepresentable}
 use Rattle.dcx_frac.proofs.Representable.{representable_quotient}
-
-pub over_one : (n : ℕ) → whole (pos n) /ℚ whole (pos 1) ≡ whole (pos n)
-over_one n = let one : pos 0 <ℤ pos 1 = omega (arith, ints) in ratio-is-/ℚ (pos n) (pos 1) one ∙ ratio-one (pos n) one
 
 pub one_is_some : ¬ (pos 1 ≡ pos 0)
 one_is_some e = absurd (omega (arith, ints, e))

@@ -25,8 +25,8 @@ use Rattle.dcx_simplex.specs.Run.{right_at}
 use Rattle.dcx_simplex.specs.Basis.{IsBasic}
 use Rattle.dcx_simplex.specs.Reading.{IsReading}
 use Rattle.dcx_simplex.proofs.EndFacts.{IsEnded}
-use Rattle.dcx_simplex.proofs.Bounds.{lead_some_of}
-use Rattle.dcx_range.proofs.Placing.{zero_right, no_sum, base, put}
+use Rattle.dcx_simplex.proofs.Bounds.{lead_some_of, zero_right}
+use Rattle.dcx_range.proofs.Placing.{no_sum, base, put}
 use Rattle.dcx_range.proofs.Directions.{rows_are, is_readable, basic, step, direction, direction_length, rate, row_moves, cost_moves}
 
 -- ---- numbers put at columns, column by column

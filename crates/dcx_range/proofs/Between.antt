@@ -19,6 +19,7 @@ use Rattle.dcx_tab.specs.Rows.{basic_at}
 use Rattle.dcx_tab.specs.Table.{Table, entry_at}
 use Rattle.dcx_lp_answer.proofs.Fractions.{value-whole}
 use Rattle.dcx_simplex.specs.Run.{right_at}
+use Rattle.dcx_simplex.proofs.Starts.{at_least}
 use Rattle.dcx_range.specs.declared.rates.Rate.{Rate}
 use Rattle.dcx_range.specs.declared.ends.Ends.{Ends}
 use Rattle.dcx_range.specs.Operations.{change_at, greater, lesser, from_on, up_to, with_end, zero_of, ends_by, row_ends, next_ends, ends_from, no_ends, sign_ends}
@@ -45,9 +46,6 @@ is_zero a e = (IsTrue-rat_eq a (whole (pos 0))).0 e
 
 pub not_zero : (a : ℚ) → rat_eq a (whole (pos 0)) ≡ false → a ≢ whole (pos 0)
 not_zero a e h = let t = (IsTrue-rat_eq a (whole (pos 0))).1 h in cc
-
-below : (a b : ℕ) → nat_le a b ≡ true → a ≤ b
-below a b h = grind (arith, nat_tests)
 
 not_below : (a b : ℕ) → nat_le a b ≡ false → b < a
 not_below a b h = grind (arith, nat_tests)
@@ -254,7 +252,7 @@ module _ (t : Table) (i : ℕ) (s : IsSettled t i) (at d : Frac) (e f : Ends) (v
   by_out true a p q g w h = let same : e ≡ f = cc in subst (λ (x : Ends). Within x v) same w
   by_out false true p q g w h =
       let same : up_to at (from_on at e) ≡ f = cc in
-      let l = below t.plain (basic_at t.basis i) q in
+      let l = at_least t.plain (basic_at t.basis i) q in
       let here : v ≡ value at = together v (value at)
       (either (v -ℚ value at) (value d) (*ℚ-zero_factor (v -ℚ value at) (value d) (moved_zero (whole (right_at t i)) (v -ℚ value at) (value d) (s.artificial l) (h.artificial l)))
       (not_zero (value d) p)) in

@@ -18,6 +18,7 @@ use Rattle.dcx_simplex.specs.Whole.{objective_row}
 use Rattle.dcx_simplex.specs.Basis.{lead_at}
 use Rattle.dcx_simplex.specs.Readable.{IsReadable}
 use Rattle.dcx_simplex.proofs.Bounds.{lead_some_of}
+use Rattle.dcx_simplex.proofs.Starts.{at_least_test}
 use Rattle.dcx_range.specs.declared.rates.Rate.{Rate}
 use Rattle.dcx_range.specs.declared.ends.Ends.{Ends}
 use Rattle.dcx_range.specs.Operations.{factors_at, change_at, from_on, up_to, with_end, zero_of, ends_by, row_ends, next_ends, ends_from, slope_of}
@@ -34,9 +35,6 @@ pub change_done : (t : Table) (i : ℕ) (sum : Frac) (hs : List Rate) (n : ℕ) 
 change_done t i sum hs n h = ap (λ ys. products_from sum (map (factors_at t i) ys)) (drop_all n hs h)
 
 -- ---- the ends of a row
-at_most : (a b : ℕ) → a ≤ b → nat_le a b ≡ true
-at_most a b h = grind (arith, nat_tests)
-
 above : (a b : ℕ) → b < a → nat_le a b ≡ false
 above a b h = grind (arith, nat_tests)
 
@@ -45,7 +43,7 @@ module _ (t : Table) (i : ℕ) (at change : Frac) (e : Ends) where
   ends_zero z = ap (λ b. ends_by t i at change e b (nat_le t.plain (basic_at t.basis i))) z
 
   pub ends_artificial : rat_eq (value change) (whole (pos 0)) ≡ false → t.plain ≤ basic_at t.basis i → row_ends t i at change e ≡ Ok (up_to at (from_on at e))
-  ends_artificial z h = ap₂ (ends_by t i at change e) z (at_most t.plain (basic_at t.basis i) h)
+  ends_artificial z h = ap₂ (ends_by t i at change e) z (at_least_test t.plain (basic_at t.basis i) h)
 
   pub ends_plain : (right : Frac) (r : Result Frac Passes) → rat_eq (value change) (whole (pos 0)) ≡ false → basic_at t.basis i < t.plain → right ≡ frac_at (whole (entry_at t i (t.columns + 2)))
       → r ≡ zero_of at right change

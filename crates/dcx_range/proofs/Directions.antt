@@ -21,9 +21,9 @@ use Rattle.dcx_simplex.specs.Start.{IsStart}
 use Rattle.dcx_simplex.specs.Readable.{IsReadable}
 use Rattle.dcx_simplex.proofs.Starts.{starts}
 use Rattle.dcx_simplex.proofs.EndFacts.{IsEnded, readable}
-use Rattle.dcx_simplex.proofs.Bounds.{lead_some_of, first_solved, first_cost}
+use Rattle.dcx_simplex.proofs.Bounds.{lead_some_of, first_solved, first_cost, zero_right}
 use Rattle.dcx_simplex.proofs.Last.{solves_last}
-use Rattle.dcx_range.proofs.Placing.{zero_right, no_sum, put, put_length, dot_put, less, less_length, dot_less, first, first_low, at_first}
+use Rattle.dcx_range.proofs.Placing.{no_sum, put, put_length, dot_put, less, less_length, dot_less, first, first_low, at_first}
 use Rattle.dcx_range.proofs.Placing as placing
 
 pub none_left : (a r : ℚ) → (a +ℚ whole (negsuc 0) *ℚ a) +ℚ r *ℚ whole (pos 0) ≡ whole (pos 0)

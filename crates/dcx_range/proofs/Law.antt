@@ -7,6 +7,7 @@ use Rattle.std.proofs.lemmas.Option.{same_Some, slice_get-map, get_or_from_slice
 use Rattle.dcx_math.specs.Rational.{ℚ, whole, ◌+ℚ◌, ◌*ℚ◌}
 use Rattle.dcx_math.specs.Sums.{rat_sum_by}
 use Rattle.dcx_math.proofs.Orders.{+ℚ_idr, *ℚ-zero}
+use Rattle.dcx_math.proofs.Lists.{map-map}
 use Rattle.dcx_frac.specs.declared.fraction.Frac.{Frac}
 use Rattle.dcx_frac.specs.Frac.{value}
 use Rattle.dcx_shape.specs.declared.shape.Sides.TheVariants.{Scalar}
@@ -30,7 +31,6 @@ use Rattle.dcx_linear.specs.Forms.{linear_value}
 use Rattle.dcx_linear.specs.FormsAt.{form_at}
 use Rattle.dcx_linear.specs.Rows as rows
 use Rattle.dcx_linear.specs.Rows.{RowAt}
-use Rattle.dcx_formed.proofs.Lists.{map-map}
 use Rattle.dcx_formed.specs.Within.{IsKnownNumber, IsKnownTerm}
 use Rattle.dcx_std.specs.Solutions as solutions
 use Rattle.dcx_std.specs.Solutions.{linear_program}

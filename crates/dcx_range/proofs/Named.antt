@@ -3,6 +3,7 @@ use Rattle.std.proofs.Common.{◌≡◌, ◌≢◌, ℕ, ◌<◌, Bool, true, fa
 use Rattle.std.proofs.lemmas.List.Quantifiers.{position-Some}
 use Rattle.std.specs.Option.{option_and_then}
 use Rattle.std.proofs.lemmas.Option.{none-some, same_Some, slice_get-get_or, get_or_from_slice_get}
+use Rattle.dcx_math.proofs.Lists.{holds_at}
 use Rattle.dcx_frac.specs.declared.fraction.Frac.{Frac}
 use Rattle.dcx_shape.specs.declared.shape.Sides.TheVariants.{Scalar}
 use Rattle.dcx_shape.specs.Shape.{sides_of}
@@ -16,7 +17,6 @@ use Rattle.dcx_linear.specs.declared.param_form.ParamForm.{ParamForm}
 use Rattle.dcx_linear.specs.Parameters.{array_entry}
 use Rattle.dcx_graph.specs.Program.{Program}
 use Rattle.dcx_graph.specs.Fixed.{HaveArrays}
-use Rattle.dcx_graph.proofs.Entries.{all_at}
 use Rattle.dcx_answer.specs.declared.not_ranged.NotRanged.TheVariants as faults
 use Rattle.dcx_range.specs.declared.asked.Asked.{Asked}
 use Rattle.dcx_range.specs.Range.{IsAsked}
@@ -113,7 +113,7 @@ name_is parameters name k q e there =
 module _ (p : Problem) (setting : Pairs) (name : List ℕ) (arrays : HaveArrays p setting) (n : IsNumber p name) where
   pub array_there : HasArray setting name Scalar
   array_there =
-      let has = all_at (λ (q : Parameter). HasArray setting q.name (sides_of q.shape)) p.parameters n.at n.parameter arrays n.named.there in
+      let has = holds_at (λ (q : Parameter). HasArray setting q.name (sides_of q.shape)) p.parameters n.at n.parameter arrays n.named.there in
       subst (λ z. HasArray setting name z) n.scalar (subst (λ z. HasArray setting z (sides_of n.parameter.shape)) (name_is p.parameters name n.at n.parameter n.named.place n.named.there) has)
 
   -- what is read of both

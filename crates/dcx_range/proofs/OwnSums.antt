@@ -1,9 +1,9 @@
 -- The rate at which the cost changes, by the multipliers of the rows.
-use Rattle.std.proofs.Common.{◌≡◌, ℕ, ◌<◌, Bool, true, false, not, List, [], ◌∷◌, length, map, get_or, refl, sym, ap, ap₂, ◌∙◌, subst, ℤ, pos, negsuc, ◌*ℤ◌, ◌⊎◌, inl, inr}
+use Rattle.std.proofs.Common.{◌≡◌, ℕ, ◌<◌, Bool, true, false, not, List, [], ◌∷◌, length, map, get_or, refl, sym, ap, ap₂, ◌∙◌, subst, ℤ, pos, negsuc, ◌⊎◌, inl, inr}
 use Rattle.std.specs.Prelude.{◌&&◌, if◌then◌else◌}
 use Rattle.dcx_math.specs.Rational.{ℚ, whole, ◌+ℚ◌, ◌-ℚ◌, ◌*ℚ◌, ◌/ℚ◌, neg_ℚ, inverse}
 use Rattle.dcx_math.specs.Sums.{rat_dot, rat_at, rat_sum_below}
-use Rattle.dcx_math.proofs.Orders.{linear_eq, whole-*ℤ}
+use Rattle.dcx_math.proofs.Orders.{linear_eq}
 use Rattle.dcx_math.proofs.Points.{wholes}
 use Rattle.dcx_math.proofs.Ring.{ring, reads, /ℚ-is}
 use Rattle.dcx_math.proofs.Sums.{rat_sum_below-one, rat_sum_below-same, rat_sum_below-*ℚ_right}
@@ -15,10 +15,9 @@ use Rattle.dcx_tab.specs.Table.{Table, entry_at}
 use Rattle.dcx_tab.specs.Program.{kind_at, entries_at, right_side_at, is_negated_at}
 use Rattle.dcx_tab.proofs.RationalRows.{SolvesRational, solves_rational, full}
 use Rattle.dcx_lp_answer.specs.declared.answer.LpAnswer.{LpAnswer}
-use Rattle.dcx_lp_answer.specs.declared.answer.LpStatus.{LpStatus}
 use Rattle.dcx_lp_answer.specs.declared.answer.LpStatus.TheVariants as status
 use Rattle.dcx_lp_answer.specs.Notes.{reduced_cost_of, factor_of, row_factor}
-use Rattle.dcx_lp_answer.specs.Right.{is_inequality, turned_if, offset, multiplier_at}
+use Rattle.dcx_lp_answer.specs.Right.{is_inequality, turned_if, multiplier_at}
 use Rattle.dcx_simplex.specs.Run.{right_at}
 use Rattle.dcx_simplex.specs.Whole.{objective_row}
 use Rattle.dcx_simplex.specs.Basis.{lead_at}
@@ -26,9 +25,10 @@ use Rattle.dcx_simplex.specs.Reading.{IsReading, IsOwnColumn}
 use Rattle.dcx_simplex.proofs.EndFacts.{IsEnded}
 use Rattle.dcx_simplex.proofs.OwnColumns.{own_column, own_column_is, own_column_low, sign_square, other_zero, own_cost_zero}
 use Rattle.dcx_simplex.proofs.Slacks.{Own, sign_slack, sign_artificial}
-use Rattle.dcx_simplex.proofs.Bounds.{solves_first}
+use Rattle.dcx_simplex.proofs.Bounds.{zero_right, twice, solves_first}
 use Rattle.dcx_simplex.proofs.Last.{at_cost_of}
-use Rattle.dcx_range.proofs.Placing.{zero_right, no_sum, less, less_length, dot_less, first, first_low, at_first}
+use Rattle.dcx_simplex.proofs.Rights.{optimal_offset}
+use Rattle.dcx_range.proofs.Placing.{no_sum, less, less_length, dot_less, first, first_low, at_first}
 use Rattle.dcx_range.proofs.Placing as placing
 use Rattle.dcx_range.proofs.Directions.{start, columns_are, objective_low, change, rate, none_left}
 
@@ -40,9 +40,6 @@ made_up d r l e = ap (λ z. (d +ℚ whole z *ℚ neg_ℚ d) +ℚ r *ℚ whole (p
 
 same_sums : (a b l r : ℚ) → ((a +ℚ whole (negsuc 0) *ℚ b) +ℚ l *ℚ whole (pos 0)) +ℚ r *ℚ whole (pos 0) ≡ whole (pos 0) → a ≡ b
 same_sums a b l r e = linear_eq (a ∷ b ∷ l ∷ r ∷ []) e (search reads depth 30) tt
-
-twice : (s : ℤ) (t : ℚ) → s *ℤ s ≡ pos 1 → (whole s *ℚ t) *ℚ whole s ≡ t
-twice s t e = ring (whole s ∷ t ∷ []) (search reads depth 30) tt ∙ ap (λ z. z *ℚ t) (sym (whole-*ℤ s s) ∙ ap whole e) ∙ ring (t ∷ []) (search reads depth 30) tt
 
 -- a multiplier times the change of its row, with q for the rate of the row's own column
 product_by : (negated inequality : Bool) (q f c : ℚ) (s : ℤ) → (inequality ≡ true → s ≡ (if negated then negsuc 0 else pos 1)) → (inequality ≡ false → s ≡ pos 1)
@@ -129,11 +126,6 @@ module _ (q : Program) where
     unfoldable pub right_change : ℕ → ℚ
     right_change k = turned_if (is_negated_at q.rows k) (rat_at (map row_factor q.rows) k *ℚ neg_ℚ (c k))
 
-    no_offset : (s : LpStatus) → s ≡ status.Optimal → (b : Bool) → offset s b ≡ whole (pos 0)
-    no_offset status.Optimal e b = refl
-    no_offset status.Infeasible e b = cc
-    no_offset status.Unbounded e b = cc
-
     product_is : (k : ℕ) → k < length q.rows → multiplier_at q.columns a k *ℚ c k
         ≡ signed right_change k *ℚ (whole (entry_at u (objective_row u) (own_column q k)) /ℚ whole (lead_at u (objective_row u)))
     unfolding signed sign right_change
@@ -146,7 +138,7 @@ module _ (q : Program) where
         let factors = ap (λ xs. rat_at xs k) reading.factors in
         let reduced = reading.reduced_costs k (own_column q k) h (subst (IsOwnColumn q.columns k) (sym o.1) o.0.own) in
         ap (λ m. m *ℚ c k)
-        (ap₂ (λ b x. turned_if (not inequality && b) ((rat_at (map reduced_cost_of a.rows) k -ℚ x) *ℚ rat_at (map factor_of a.rows) k)) negated (no_offset a.status reading.status inequality)
+        (ap₂ (λ b x. turned_if (not inequality && b) ((rat_at (map reduced_cost_of a.rows) k -ℚ x) *ℚ rat_at (map factor_of a.rows) k)) negated (optimal_offset a.status reading.status inequality)
         ∙ ap₂ (λ r g. turned_if (not inequality && is_negated_at q.rows k) ((r -ℚ whole (pos 0)) *ℚ g)) reduced factors)
         ∙ product_by (is_negated_at q.rows k) inequality rated f (c k) (entry (entries_at q.rows k) (own_column q k))
         (λ t. ap (entry (entries_at q.rows k)) o.1 ∙ slack_sign k h o.0 (kind_of k o.0) t)

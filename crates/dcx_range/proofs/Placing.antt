@@ -3,7 +3,7 @@ use Rattle.std.proofs.Common.{◌≡◌, ◌≢◌, ℕ, ◌<◌, Bool, true, Li
 use Rattle.std.proofs.lemmas.List.{length-map}
 use Rattle.dcx_math.specs.Rational.{ℚ, whole, ◌+ℚ◌, ◌*ℚ◌}
 use Rattle.dcx_math.specs.Sums.{rat_dot, rat_added, rat_scaled, rat_sum_below}
-use Rattle.dcx_math.proofs.Orders.{+ℚ_idl, zero-*ℚ, *ℚ-zero, *ℚ_idr}
+use Rattle.dcx_math.proofs.Orders.{+ℚ_idl, zero-*ℚ, *ℚ_idr}
 use Rattle.dcx_math.proofs.Points.{wholes}
 use Rattle.dcx_math.proofs.Sums.{rat_sum_below-same, rat_sum_below-zero, rat_sum_below-one}
 use Rattle.dcx_math.proofs.Vectors.{rat_dot-added_right, rat_dot-scaled_right, length-rat_scaled}
@@ -15,12 +15,7 @@ use Rattle.dcx_tab.specs.Program.{kind_at, may_start, unknown_entry, entries_at,
 use Rattle.dcx_tab.proofs.Programs.{has_row, map_at}
 use Rattle.dcx_tab.proofs.RationalRows.{placed, dot_placed, length_placed, length_added}
 use Rattle.dcx_simplex.proofs.Starts.{start_low, starts_at, row_start_own, row_start_other}
-
-zero_left : (x y : ℚ) → x ≡ whole (pos 0) → x *ℚ y ≡ whole (pos 0)
-zero_left x y e = ap (λ z. z *ℚ y) e ∙ zero-*ℚ y
-
-pub zero_right : (x y : ℚ) → y ≡ whole (pos 0) → x *ℚ y ≡ whole (pos 0)
-zero_right x y e = ap (λ z. x *ℚ z) e ∙ *ℚ-zero x
+use Rattle.dcx_simplex.proofs.Bounds.{zero_right}
 
 pub no_sum : (n : ℕ) (f : ℕ → ℚ) → ((k : ℕ) → k < n → f k ≡ whole (pos 0)) → rat_sum_below n f ≡ whole (pos 0)
 no_sum n f h = rat_sum_below-same n f (λ _. whole (pos 0)) h ∙ rat_sum_below-zero n

@@ -125,7 +125,8 @@ module _ (p : Problem) (setting : Pairs) (name : List ℕ) (m : Program ParamFor
 
     pub has_no_point : HasKinds (rows_of r) → s.answer.status ≡ status.Infeasible → HasNoPoint p (setting_of p setting)
     has_no_point known e =
-        let right = subst (λ (t : LpStatus). IsRightForRowsAs t (rows_of r) s.program s.answer) e (shown_of (rows_of r) s.program known (scaled_program (rows_of r) s.program is.made) s.answer (answers_are_right limit (rows_of r) s is)) in
+        let right = subst (λ (t : LpStatus). IsRightForRowsAs t (rows_of r) s.program s.answer) e
+        (shown_of (rows_of r) s.program known (scaled_program (rows_of r) s.program is.made) s.answer (answers_are_right limit (rows_of r) s is)) in
         record {
           multipliers = multipliers_of (convex_problem p) (multiplier_at s.program.columns s.answer);
           gap = value s.answer.number;
@@ -136,7 +137,8 @@ module _ (p : Problem) (setting : Pairs) (name : List ℕ) (m : Program ParamFor
     has_no_least known e =
         let x = unknowns_at s.program.columns (numbers s.answer.columns) in
         let d = unknowns_at s.program.columns (numbers s.answer.ray) in
-        let right = subst (λ (t : LpStatus). IsRightForRowsAs t (rows_of r) s.program s.answer) e (shown_of (rows_of r) s.program known (scaled_program (rows_of r) s.program is.made) s.answer (answers_are_right limit (rows_of r) s is)) in
+        let right = subst (λ (t : LpStatus). IsRightForRowsAs t (rows_of r) s.program s.answer) e
+        (shown_of (rows_of r) s.program known (scaled_program (rows_of r) s.program is.made) s.answer (answers_are_right limit (rows_of r) s is)) in
         record {
           point = point_at p.variables x;
           ray = point_at p.variables d;
@@ -200,7 +202,8 @@ module _ (p : Problem) (setting : Pairs) (name : List ℕ) (m : Program ParamFor
               known = is_known;
               constants = constants;
               numbers = numbers;
-              interval = interval p setting name m map.unread map.dpp map.reduces fits r put n free constants at of.at_is s.program is.made known limit ending.0 u ending.1 s.answer ending.2 small hs rates e ends;
+              interval = interval p setting name m map.unread map.dpp map.reduces fits r put n free constants at of.at_is s.program is.made known limit ending.0 u ending.1 s.answer
+                  ending.2 small hs rates e ends;
             },
             record {
               here = λ k. between n k (same k) (sign_ends n.parameter.attribute e) (value at) (at_value p setting name m map.unread map.dpp map.reduces fits r put n free constants at of.at_is) within;

@@ -9,6 +9,7 @@ use Rattle.dcx_math.proofs.Orders.{zero-*ℚ, whole-≤ℤ}
 use Rattle.dcx_math.proofs.Products.{/ℚ-*ℚ}
 use Rattle.dcx_math.proofs.Ring.{ring, reads}
 use Rattle.dcx_math.proofs.Sums.{rat_at-get_or}
+use Rattle.dcx_math.proofs.Lists.{holds_at}
 use Rattle.dcx_frac.specs.declared.fraction.Frac.{Frac}
 use Rattle.dcx_frac.specs.Frac.{value}
 use Rattle.dcx_shape.specs.declared.shape.Sides.{Sides}
@@ -58,7 +59,6 @@ use Rattle.dcx_graph.specs.Fixing.{FixGives}
 use Rattle.dcx_graph.specs.Correct.{ReducesAffine}
 use Rattle.dcx_graph.proofs.AtSetting.{stands_for}
 use Rattle.dcx_graph.proofs.Correct.{affine_are_known}
-use Rattle.dcx_graph.proofs.Entries.{all_at}
 use Rattle.dcx_range.specs.declared.rates.Rate.{Rate}
 use Rattle.dcx_range.specs.declared.ends.Ends.{Ends}
 use Rattle.dcx_range.specs.Coefficients.{coefficient_of, HasConstants}
@@ -119,7 +119,7 @@ module _ (p : Problem) (setting : Pairs) (name : List ℕ) (m : Program ParamFor
 
   has_sign : HasSign n.parameter.attribute (value at)
   has_sign =
-      let met = all_at (IsMet setting) p.parameters n.at n.parameter ((fitting_holds p setting).0 fits).0.met n.named.there in
+      let met = holds_at (IsMet setting) p.parameters n.at n.parameter ((fitting_holds p setting).0 fits).0.met n.named.there in
       let one = ap entries_of n.scalar in
       sign_of n.parameter.attribute (sides_of n.parameter.shape) (given_by setting n.parameter.name) (value at) met.within (omega (arith, one)) given_value
 

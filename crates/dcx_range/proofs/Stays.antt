@@ -3,9 +3,9 @@ use Rattle.std.proofs.Common.{◌≡◌, ◌≢◌, ℕ, ◌<◌, ◌≤◌, Lis
 use Rattle.std.proofs.lemmas.Bool.{cases_lt}
 use Rattle.dcx_math.specs.Rational.{ℚ, whole, ◌+ℚ◌, ◌-ℚ◌, ◌*ℚ◌, ◌/ℚ◌, neg_ℚ, inverse, ◌≤ℚ◌}
 use Rattle.dcx_math.specs.Sums.{rat_dot, rat_at, rat_scaled, along}
-use Rattle.dcx_math.proofs.Orders.{*ℚ_comm, zero-*ℚ, *ℚ-zero, ≤ℚ-from_≡, linear_eq, <ℚ-≤ℚ}
+use Rattle.dcx_math.proofs.Orders.{zero-*ℚ, *ℚ-zero, ≤ℚ-from_≡, linear_eq, <ℚ-≤ℚ}
 use Rattle.dcx_math.proofs.Points.{wholes}
-use Rattle.dcx_math.proofs.Products.{/ℚ-*ℚ, *ℚ-nonnegative, ≤ℚ-/ℚ, whole-<ℤ}
+use Rattle.dcx_math.proofs.Products.{*ℚ-nonnegative, ≤ℚ-/ℚ, whole-<ℤ}
 use Rattle.dcx_math.proofs.Ring.{ring, reads, /ℚ-is}
 use Rattle.dcx_math.proofs.Vectors.{rat_dot-along, length-rat_scaled}
 use Rattle.dcx_tab.specs.declared.program.Program.{Program}
@@ -22,19 +22,11 @@ use Rattle.dcx_simplex.specs.Basis.{IsBasic}
 use Rattle.dcx_simplex.specs.Reading.{IsReading}
 use Rattle.dcx_simplex.proofs.Cycle.{is_basic}
 use Rattle.dcx_simplex.proofs.EndFacts.{IsEnded}
-use Rattle.dcx_simplex.proofs.Bounds.{lead_some_of, solves_first}
+use Rattle.dcx_simplex.proofs.Bounds.{lead_some_of, cost_holds, phase_holds, solves_first}
 use Rattle.dcx_simplex.proofs.Last.{rat_at-past, dot_one, at_row_of}
 use Rattle.dcx_range.proofs.Placing.{put, put_length, dot_put, first, first_low, at_first}
 use Rattle.dcx_range.proofs.Directions.{start, rows_are, columns_are, basic, basic_low, basic_zero, basic_positive, change, step}
 use Rattle.dcx_range.proofs.Along.{moved, moved_other, moved_basic}
-
-cost_holds : (d l r : ℚ) → l ≢ whole (pos 0) → (d +ℚ l *ℚ ((r -ℚ d) /ℚ l)) +ℚ r *ℚ whole (negsuc 0) ≡ whole (pos 0)
-cost_holds d l r n =
-    let e : l *ℚ ((r -ℚ d) /ℚ l) ≡ r -ℚ d = *ℚ_comm l ((r -ℚ d) /ℚ l) ∙ /ℚ-*ℚ (r -ℚ d) l n in
-    ap (λ u. (d +ℚ u) +ℚ r *ℚ whole (negsuc 0)) e ∙ ring (d ∷ r ∷ []) (search reads depth 30) tt
-
-phase_holds : (d r : ℚ) (l : ℤ) → l ≡ pos 1 → (d +ℚ whole l *ℚ (r -ℚ d)) +ℚ r *ℚ whole (negsuc 0) ≡ whole (pos 0)
-phase_holds d r l e = ap (λ u. (d +ℚ whole u *ℚ (r -ℚ d)) +ℚ r *ℚ whole (negsuc 0)) e ∙ ring (d ∷ r ∷ []) (search reads depth 30) tt
 
 row_left : (r t h : ℚ) → ((r +ℚ t *ℚ h) +ℚ neg_ℚ t *ℚ h) +ℚ r *ℚ whole (negsuc 0) ≡ whole (pos 0)
 row_left r t h = ring (r ∷ t ∷ h ∷ []) (search reads depth 30) tt

@@ -18,7 +18,8 @@ use Rattle.dcx_range.specs.Range.{IsMapOf, RangeGives}
 -- coefficients is put at it
 abbrev pub RangesAreRight : Type 0
 RangesAreRight =
-    (p : Problem) (q : Program ParamForm) (r : Program Frac) (setting : Pairs) (name : List ℕ) (limit : ℕ) (x : Result Ranged RangeStop) → IsMapOf p q → IsFitting p setting → FixGives setting q (Ok r) → IsRanged p q name →
+    (p : Problem) (q : Program ParamForm) (r : Program Frac) (setting : Pairs) (name : List ℕ) (limit : ℕ) (x : Result Ranged RangeStop) → IsMapOf p q → IsFitting p setting
+    → FixGives setting q (Ok r) → IsRanged p q name →
     RangeGives p q r setting name limit x → IfOk x (HoldsOn p (setting_of p setting) name)
 
 -- two answers are one; want of memory is free

@@ -62,7 +62,8 @@ pub record IsKnown (p : Problem) (r : Program Frac) (setting : Pairs) (name : Li
 -- what the operations form at its last basis
 abbrev pub formed : (p : Problem) (q : Program ParamForm) (r : Program Frac) (setting : Pairs) (name : List ℕ) (limit : ℕ) → IsKnown p r setting name limit → Result Ranged Passes
 formed p q r setting name limit s =
-    operations (table_of s.run.solved.tableau) s.run.solved.program.rows q.rows q.objective.constant (record { position = s.number.at; attribute = s.number.parameter.attribute; at = s.at }) s.run.solved.answer.number
+    operations (table_of s.run.solved.tableau) s.run.solved.program.rows q.rows q.objective.constant
+    (record { position = s.number.at; attribute = s.number.parameter.attribute; at = s.at }) s.run.solved.answer.number
 
 -- the value is in the span
 abbrev pub IsIn : Ranged → ℚ → Type 0

@@ -42,8 +42,12 @@ module _ (G : Grammar) (S : Sets G.trees) where
   firsts-append [] ss k = refl
   firsts-append (m ∷ more) ss k =
       rw (firsts-append more ss k)
-      (elim (S.begins m k) as (λ (b : Bool). cond b true (cond (is_there (G.empty m)) (cond (firsts G S more k) true (cond (reach more) (firsts G S ss k) false)) false) ≡ cond (cond b true (cond (is_there (G.empty m)) (firsts G S more k) false)) true (cond (cond (is_there (G.empty m)) (reach more) false) (firsts G S ss k) false))
-      [ true ↦ refl | false ↦ elim (is_there (G.empty m)) as (λ (b : Bool). cond b (cond (firsts G S more k) true (cond (reach more) (firsts G S ss k) false)) false ≡ cond (cond b (firsts G S more k) false) true (cond (cond b (reach more) false) (firsts G S ss k) false)) [ true ↦ refl | false ↦ refl ] ])
+      (elim (S.begins m k) as (λ (b : Bool). cond b true (cond (is_there (G.empty m)) (cond (firsts G S more k) true (cond (reach more) (firsts G S ss k) false)) false)
+      ≡ cond (cond b true (cond (is_there (G.empty m)) (firsts G S more k) false)) true (cond (cond (is_there (G.empty m)) (reach more) false) (firsts G S ss k) false)) [
+        | true ↦ refl
+        | false ↦ elim (is_there (G.empty m)) as (λ (b : Bool). cond b (cond (firsts G S more k) true (cond (reach more) (firsts G S ss k) false)) false
+            ≡ cond (cond b (firsts G S more k) false) true (cond (cond b (reach more) false) (firsts G S ss k) false)) [ true ↦ refl | false ↦ refl ]
+      ])
 
   none-after : (f r g : Bool) → f ≡ false → (r ≡ true → g ≡ false) → cond f true (cond r g false) ≡ false
   none-after true r g h k = absurd cc
@@ -68,7 +72,8 @@ module _ (G : Grammar) (S : Sets G.trees) where
       )
 
 -- a move that leads is right where what it leads is
-pub leading-right : (G : Grammar) (spell : Spelling G.trees) (S : Sets G.trees) (s s' : G.trees.Symbol) (behind : List G.trees.Symbol) (join : (ss : List G.trees.Symbol) → Forest G.trees (s ∷ (behind ++ ss)) → Forest G.trees (s' ∷ ss))
+pub leading-right : (G : Grammar) (spell : Spelling G.trees) (S : Sets G.trees) (s s' : G.trees.Symbol) (behind : List G.trees.Symbol) (join : (ss : List G.trees.Symbol)
+    → Forest G.trees (s ∷ (behind ++ ss)) → Forest G.trees (s' ∷ ss))
     → S.all (λ k. implies (S.begins s k) (S.begins s' k)) ≡ true → check G S s' (s ∷ behind) ≡ true
     → ((ss : List G.trees.Symbol) (f : Forest G.trees (s ∷ (behind ++ ss))) → spelling G.trees spell (s' ∷ ss) (join ss f) ≡ spelling G.trees spell (s ∷ (behind ++ ss)) f)
     → (t : G.trees.Token) (m : Move G.trees s) → Right G spell S s t m → Right G spell S s' t (leading G.trees s s' (λ ss. behind ++ ss) join m)
@@ -79,13 +84,15 @@ leading-right G spell S s s' behind join first clear spelled t (shift push make)
 }
 leading-right G spell S s s' behind join first clear spelled t pass r = tt
 
-pub otherwise-right : (G : Grammar) (spell : Spelling G.trees) (S : Sets G.trees) (s : G.trees.Symbol) (t : G.trees.Token) (m n : Move G.trees s) → Right G spell S s t m → Right G spell S s t n → Right G spell S s t (otherwise G.trees s m n)
+pub otherwise-right : (G : Grammar) (spell : Spelling G.trees) (S : Sets G.trees) (s : G.trees.Symbol) (t : G.trees.Token) (m n : Move G.trees s) → Right G spell S s t m
+    → Right G spell S s t n → Right G spell S s t (otherwise G.trees s m n)
 otherwise-right G spell S s t (shift push make) n r q = r
 otherwise-right G spell S s t pass n r q = q
 
 -- how a tree came about by a token
 pub data MadeBy (G : Grammar) (s : G.trees.Symbol) : G.trees.Tree s → Type 0 where
-  made_by : (t : G.trees.Token) (push : List G.trees.Symbol → List G.trees.Symbol) (make : (ss : List G.trees.Symbol) → Forest G.trees (push ss) → Forest G.trees (s ∷ ss)) → G.move s t ≡ shift push make
+  made_by : (t : G.trees.Token) (push : List G.trees.Symbol → List G.trees.Symbol) (make : (ss : List G.trees.Symbol) → Forest G.trees (push ss) → Forest G.trees (s ∷ ss))
+      → G.move s t ≡ shift push make
       → (x : G.trees.Tree s) → ((ss : List G.trees.Symbol) (g : Forest G.trees ss) → (f : Forest G.trees (push ss)) × (make ss f ≡ front G.trees s ss x g)) → MadeBy G s x
 
 pub as_made : (G : Grammar) (s : G.trees.Symbol) (x : G.trees.Tree s) → MadeBy G s x → Made G s x
@@ -99,8 +106,10 @@ pub shifts-at : (G : Grammar) (s : G.trees.Symbol) (x : G.trees.Tree s) (b : Mad
 shifts-at G s x (made_by t push make e y back) = ap is_shift e
 
 -- a tree that a lead's tree begins
-abbrev pub lead-made : (G : Grammar) (s s' : G.trees.Symbol) (behind : List G.trees.Symbol → List G.trees.Symbol) (join : (ss : List G.trees.Symbol) → Forest G.trees (s ∷ behind ss) → Forest G.trees (s' ∷ ss))
-    → (x : G.trees.Tree s) (x' : G.trees.Tree s') → ((ss : List G.trees.Symbol) (g : Forest G.trees ss) → (a : Forest G.trees (behind ss)) × (join ss (front G.trees s (behind ss) x a) ≡ front G.trees s' ss x' g))
+abbrev pub lead-made : (G : Grammar) (s s' : G.trees.Symbol) (behind : List G.trees.Symbol → List G.trees.Symbol) (join : (ss : List G.trees.Symbol)
+    → Forest G.trees (s ∷ behind ss) → Forest G.trees (s' ∷ ss))
+    → (x : G.trees.Tree s) (x' : G.trees.Tree s') → ((ss : List G.trees.Symbol) (g : Forest G.trees ss) → (a : Forest G.trees (behind ss))
+    × (join ss (front G.trees s (behind ss) x a) ≡ front G.trees s' ss x' g))
     → (b : MadeBy G s x) → G.move s' (token_of G s x b) ≡ leading G.trees s s' behind join (G.move s (token_of G s x b)) → MadeBy G s' x'
 lead-made G s s' behind join x x' split (made_by t push make e y back) leads =
     made_by t (λ ss. push (behind ss)) (λ ss f. join ss (make (behind ss) f)) (leads ∙ ap (leading G.trees s s' behind join) e) x'

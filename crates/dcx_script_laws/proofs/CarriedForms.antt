@@ -4,12 +4,20 @@ use Rattle.dcx_shape.specs.declared.place.Place.{Place}
 use Rattle.dcx_syntax.specs.declared.tree.Named.{Named}
 use Rattle.dcx_syntax.specs.declared.tree.Module.{Module}
 use Rattle.dcx_syntax.specs.declared.tree.Signed.{Signed}
-use Rattle.dcx_syntax.specs.Expressions.{Expr, expr, Compared, no_comparison, compared, Sum, sum, Added, no_addition, added, Term, term, Scaled, no_scaling, scaled, Factor, factor, Power, power_of, Raised, no_power, raised, Exponent, exponent, Postfix, postfix, Trailers, no_trailer, attribute, call, indexed, Args, no_args, args, MoreArgs, args_end, args_comma, more_args, Arg, by_place, by_name, Indices, no_index, more_indices, Index, at, slice, Optional, absent, present, Step, no_step, step, Primary, number_at, text_at, name_at, truth_at, none_at, unit, round, tuple, empty_list, list, comprehension, Items, no_items, items, MoreItems, items_end, items_comma, more_items}
+use Rattle.dcx_syntax.specs.Expressions.{Expr, expr, Compared, no_comparison, compared, Sum, sum, Added, no_addition, added, Term, term, Scaled, no_scaling}
+use Rattle.dcx_syntax.specs.Expressions.{scaled, Factor, factor, Power, power_of, Raised, no_power, raised, Exponent, exponent, Postfix, postfix, Trailers}
+use Rattle.dcx_syntax.specs.Expressions.{no_trailer, attribute, call, indexed, Args, no_args, args, MoreArgs, args_end, args_comma, more_args, Arg, by_place}
+use Rattle.dcx_syntax.specs.Expressions.{by_name, Indices, no_index, more_indices, Index, at, slice, Optional, absent, present, Step, no_step, step, Primary}
+use Rattle.dcx_syntax.specs.Expressions.{number_at, text_at, name_at, truth_at, none_at, unit, round, tuple, empty_list, list, comprehension, Items, no_items}
+use Rattle.dcx_syntax.specs.Expressions.{items, MoreItems, items_end, items_comma, more_items}
 use Rattle.dcx_script_values.specs.Values.{Value, library, State, Act}
 use Rattle.dcx_signature.specs.Arguments.{Given}
 use Rattle.dcx_signature.specs.Firsts.{expr_place}
 use Rattle.dcx_elab.specs.Turns.{turn, turns}
-use Rattle.dcx_elab.specs.Expressions.{is_range_unless, is_range, name_called, solve_called, no_method, module_called, method_called, signed, with_item, expr_means, compared_means, chained_means, sum_means, added_means, term_means, scaled_means, factor_means, power_means, raised_means, exponent_means, postfix_means, trailers_mean, args_mean, more_args_mean, arg_means, indices_mean, index_means, optional_means, step_means, primary_means, items_mean, more_items_mean}
+use Rattle.dcx_elab.specs.Expressions.{is_range_unless, is_range, name_called, solve_called, no_method, module_called, method_called, signed, with_item}
+use Rattle.dcx_elab.specs.Expressions.{expr_means, compared_means, chained_means, sum_means, added_means, term_means, scaled_means, factor_means, power_means}
+use Rattle.dcx_elab.specs.Expressions.{raised_means, exponent_means, postfix_means, trailers_mean, args_mean, more_args_mean, arg_means, indices_mean}
+use Rattle.dcx_elab.specs.Expressions.{index_means, optional_means, step_means, primary_means, items_mean, more_items_mean}
 use Rattle.dcx_script_laws.proofs.Carried.{Moves, IsCarried, parts}
 use Rattle.dcx_script_laws.proofs.CarriedNodes.{room-moves, solve-moves, arguments-moves, items_through-moves}
 use Rattle.dcx_script_laws.proofs.CarriedCalls.{add_values-moves, scale_values-moves, sign_value-moves, compare_values-moves, index_value-moves, attribute_value-moves, function_called-moves}

@@ -11,9 +11,9 @@ mod Bound
 pub mod Pushed
 mod ByNodes
 mod There
-mod Treed
+pub mod Treed
 mod Negatives
-mod Standing
+pub mod Standing
 mod Summed
 mod Differences
 mod Numbered

@@ -141,5 +141,8 @@ push-grows s t place call args i e = by (pushed s place call args i t e)
     by (found holds same) = ([], ap (λ (u : State). u.nodes) (sym same) ∙ sym (append-nil s.nodes))
     by (added sides there shaped new room last same) = (node s place call args sides ∷ [], ap (λ (u : State). u.nodes) (sym same))
 
+pub grows-from : (s : State) → Grows s s
+grows-from s = ([], sym (append-nil s.nodes))
+
 pub grows-on : (s t u : State) → Grows s t → Grows t u → Grows s u
 grows-on s t u h k = (h.0 ++ k.0, k.1 ∙ ap (λ ns. ns ++ k.0) h.1 ∙ append_assoc s.nodes h.0 k.0)

@@ -18,7 +18,7 @@ use Rattle.dcx_script_values.specs.Nodes.{push}
 use Rattle.dcx_script_laws.proofs.Pushed.{Pushed, found, added, node, pushed, Grows}
 
 -- what unfolds in front of more nodes
-unfold-more : (nodes more : List (Node Call)) (is : List ℕ) (t : Expressions Call) → Unfold nodes is t → Unfold (nodes ++ more) is t
+pub unfold-more : (nodes more : List (Node Call)) (is : List ℕ) (t : Expressions Call) → Unfold nodes is t → Unfold (nodes ++ more) is t
 unfold-more nodes more [] none h = tt
 unfold-more nodes more [] (one call args others) h = absurd h
 unfold-more nodes more (i ∷ is) none h = absurd h

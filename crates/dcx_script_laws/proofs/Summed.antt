@@ -1,5 +1,5 @@
 -- The numbers of sums and differences of operands.
-use Rattle.std.proofs.Common.{◌≡◌, ℕ, Bool, true, false, if◌then◌else◌, List, [], ◌∷◌, Option, Some, None, Result, Ok, Err, option_and_then, refl, sym, ap, ap₂, subst, ◌∙◌, append-nil}
+use Rattle.std.proofs.Common.{◌≡◌, ℕ, Bool, true, false, if◌then◌else◌, List, [], ◌∷◌, Option, Some, None, Result, Ok, Err, option_and_then, refl, sym, ap, ap₂, subst, ◌∙◌}
 use Rattle.dcx_shape.specs.declared.shape.Sides.{Sides}
 use Rattle.dcx_shape.specs.declared.shape.Shape.{Shape}
 use Rattle.dcx_shape.specs.declared.place.Place.{Place}
@@ -17,7 +17,7 @@ use Rattle.dcx_script_values.specs.declared.fault.ElabFault.TheVariants.{ShapeCl
 use Rattle.dcx_script_values.specs.Values.{State, Act, and_then, ◌>>=◌, done, or_fault}
 use Rattle.dcx_script_values.specs.Nodes.{Operand, standing, constant, operand_sides, push, pushed, promoted, all_pushed, all_promoted, broadcast_called, subtracted}
 use Rattle.dcx_script_laws.specs.Trees.{HasTree}
-use Rattle.dcx_script_laws.proofs.Pushed.{Grows, push-tree, push-grows, grows-on}
+use Rattle.dcx_script_laws.proofs.Pushed.{Grows, push-tree, push-grows, grows-from, grows-on}
 use Rattle.dcx_script_laws.proofs.Standing.{Stand, stand-none, stand-more, stand-both, stand-sides, stand-push}
 
 abbrev pub minus_call : Call
@@ -54,9 +54,6 @@ module _ (setting point : Given) where
   gives-after : (s t u : State) (i : ℕ) (v : Numbered) → Grows s t → Gives t u i v → Gives s u i v
   gives-after s t u i v g h = record { tree = h.tree; grows = grows-on s t u g h.grows; stands = h.stands }
 
-  grows-none : (s : State) → Grows s s
-  grows-none s = ([], sym (append-nil s.nodes))
-
   -- ---- operands
   -- what an operand stands for
   abbrev pub OperandStands : State → Operand → Numbered → Type 0
@@ -82,7 +79,7 @@ module _ (setting point : Given) where
   done-gives : (s t : State) (i j : ℕ) (v : Numbered) → HasTree s → Stand setting point s.nodes (i ∷ []) (v ∷ []) → done i s ≡ Ok (j, t) → Gives s t j v
   done-gives s t i j v are h e =
       subst (λ (u : State). Gives s u j v) (same-state i j s t e)
-      (subst (λ k. Gives s s k v) (same-value i j s t e) (record { tree = are; grows = grows-none s; stands = h }))
+      (subst (λ k. Gives s s k v) (same-value i j s t e) (record { tree = are; grows = grows-from s; stands = h }))
 
   pushed-gives : (place : Place) (s t : State) (p : Operand) (i : ℕ) (v : Numbered) → HasTree s → OperandStands s p v → pushed place p s ≡ Ok (i, t) → Gives s t i v
   pushed-gives place s t (standing k) i v are h e = done-gives s t k i v are h e

@@ -1,5 +1,5 @@
 -- Expressions and lines keep the tree of nodes, and only add to it.
-use Rattle.std.proofs.Common.{◌≡◌, ℕ, List, [], Ok, sym, subst, ◌∙◌, append-nil, lit≤}
+use Rattle.std.proofs.Common.{◌≡◌, ℕ, List, [], Ok, sym, subst, ◌∙◌, lit≤}
 use Rattle.std.proofs.lemmas.Option.{none-some}
 use Rattle.dcx_shape.specs.declared.place.Place.{Place}
 use Rattle.dcx_arena.specs.Nodes.{AreNodes}
@@ -17,7 +17,7 @@ use Rattle.dcx_script_laws.proofs.CarriedLines.{IsCarriedByLines, lines-move}
 use Rattle.dcx_script_laws.proofs.Bound.{Any, bind-any}
 use Rattle.dcx_script_laws.proofs.ByNodes.{by_pushes, by_lines}
 use Rattle.dcx_script_laws.proofs.There.Lines.{expressions_there, lines_there, operands_there}
-use Rattle.dcx_script_laws.proofs.Pushed.{Grows, push-tree, push-grows, grows-on}
+use Rattle.dcx_script_laws.proofs.Pushed.{Grows, push-tree, push-grows, grows-from, grows-on}
 
 -- ---- the tree
 abbrev Treed : State → State → Type 0
@@ -42,10 +42,7 @@ grows-same s t u h e = (h.0, e ∙ h.1)
 grows-pushes : (place : Place) (call : Call) (args : List ℕ) → Moves Grows (push place call args)
 grows-pushes place call args s t h = record { at = λ i u e. grows-on s t u h (push-grows t u place call args i e) }
 
-grows-from : (s : State) → Grows s s
-grows-from s = ([], sym (append-nil s.nodes))
-
-grows_is_carried : IsCarried Grows
+pub grows_is_carried : IsCarried Grows
 grows_is_carried = by_pushes Grows grows-from grows-same grows-pushes
 
 grows_by_lines : IsCarriedByLines Grows Any

@@ -1,6 +1,5 @@
 -- What is kept of a problem that is asked.
-use Rattle.std.proofs.Common.{◌≡◌, ℕ, Bool, List, Option, Some, Result, Ok, Err, sym, ap, ◌∙◌, subst}
-use Rattle.std.specs.Prelude.{IfOk}
+use Rattle.std.proofs.Common.{◌≡◌, ℕ, Bool, List, Option, Some, sym, ap, ◌∙◌, subst}
 use Rattle.std.specs.List.{list_any, IsDistinct}
 use Rattle.std.specs.HashSet.{contains}
 use Rattle.std.proofs.lemmas.Option.{same_Some}
@@ -29,11 +28,6 @@ names_reached s a p has listed g names name =
     names name
     ∙ ap (list_any (λ x. same_name name x.name)) g.parameters
     ∙ reached_are s.nodes (roots_of a) p.tree (begins_at p.objective p.constraints) g.nodes s.variables s.parameters listed name
-
--- what is so where there is no error
-pub if_ok : {T E : Type 0} {P Q : T → Type 0} (r : Result T E) → ((x : T) → P x → Q x) → IfOk r P → IfOk r Q
-if_ok (Ok x) f p = f x p
-if_ok (Err e) f p = tt
 
 pub kept_asked : (s : State) (before : Option code_asked.Asked) (q : code_asked.Asked) → IsKept s.nodes s.variables s.parameters before → IsObjective s.nodes q.objective.node →
     AreConstraints s.nodes q.constraints.items → ((name : List ℕ) → contains same_name q.reached name ≡ is_reached s.nodes (asked_of q) name) → IsKept s.nodes s.variables s.parameters (Some q)

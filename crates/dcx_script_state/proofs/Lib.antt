@@ -7,7 +7,7 @@ mod Settings
 mod Pushes
 mod Grown
 mod Reached
-mod Each
+pub mod Each
 mod Tested
 mod Naming
 mod Squares

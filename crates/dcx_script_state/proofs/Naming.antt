@@ -5,7 +5,7 @@ use Rattle.std.proofs.lemmas.List.Elements.{All-nil, All-cons, All-append}
 use Rattle.std.specs.Prelude.{◌||◌, Result, Ok, Err, OnOk, OnErr}
 use Rattle.std.specs.List.{list_any, AllByRecursion, IsDistinct}
 use Rattle.dcx_point.specs.Pairs.{same_name}
-use Rattle.dcx_point.proofs.Puts.{same_name-refl, same_name-false}
+use Rattle.dcx_point.proofs.Names.{unlike}
 use Rattle.dcx_call.specs.declared.attribute.Variable.{Variable}
 use Rattle.dcx_call.specs.declared.attribute.Parameter.{Parameter}
 use Rattle.dcx_call.specs.Attributes.{IsSquare}
@@ -42,9 +42,6 @@ either_true : (a b : Bool) → (a || b) ≡ false → (a ≡ false) × (b ≡ fa
 either_true false b e = (refl, e)
 either_true true b e = absurd (cc)
 
-other_way : (a b : List ℕ) → same_name a b ≡ false → same_name b a ≡ false
-other_way a b e = same_name-false b a (λ f. absurd (let t : same_name a b ≡ true = ap (λ z. same_name z b) (sym f) ∙ same_name-refl b in cc))
-
 -- a name that is among none of two lists comes behind the first
 all_between : (P : List ℕ → Type 0) (xs ys : List (List ℕ)) (n : List ℕ) → P n → AllByRecursion P (xs ++ ys) → AllByRecursion P (xs ++ n ∷ ys)
 all_between P [] ys n h all = (h, all)
@@ -60,7 +57,7 @@ unfolding IsDistinct
 distinct_between f [] ys n e all d = (all, d)
 distinct_between f (x ∷ xs) ys n e all d =
     let t = either_true (same_name n (f x)) (list_any (λ y. same_name n (f y)) xs) e in
-    (all_between (λ y. same_name (f x) y ≡ false) (map f xs) ys n (other_way n (f x) t.0) d.0, distinct_between f xs ys n t.1 all d.1)
+    (all_between (λ y. same_name (f x) y ≡ false) (map f xs) ys n (unlike n (f x) t.0) d.0, distinct_between f xs ys n t.1 all d.1)
 
 -- a name that is among none comes last
 all_last : (P : List ℕ → Type 0) (xs : List (List ℕ)) (n : List ℕ) → AllByRecursion P xs → P n → AllByRecursion P (xs ++ n ∷ [])
@@ -70,7 +67,7 @@ all_last P (x ∷ xs) n all h = (all.0, all_last P xs n all.1 h)
 distinct_last : (xs : List (List ℕ)) (n : List ℕ) → AllByRecursion (λ y. same_name n y ≡ false) xs → IsDistinct same_name xs → IsDistinct same_name (xs ++ n ∷ [])
 unfolding IsDistinct
 distinct_last [] n all d = (tt, tt)
-distinct_last (x ∷ xs) n all d = (all_last (λ y. same_name x y ≡ false) xs n d.0 (other_way n x all.0), distinct_last xs n all.1 d.1)
+distinct_last (x ∷ xs) n all d = (all_last (λ y. same_name x y ≡ false) xs n d.0 (unlike n x all.0), distinct_last xs n all.1 d.1)
 
 none_both : {X : Type 0} (f : X → List ℕ) (xs : List X) (ys : List (List ℕ)) (name : List ℕ) → list_any (λ x. same_name name (f x)) xs ≡ false → AllByRecursion (λ y. same_name name y ≡ false) ys →
     AllByRecursion (λ y. same_name name y ≡ false) (map f xs ++ ys)

@@ -1,5 +1,6 @@
 -- A push of the tree is that of the definition, with the same fault.
-use Rattle.std.proofs.Common.{◌≡◌, ℕ, ◌+◌, ◌≤◌, ◌<◌, Bool, true, false, nat_le, nat_eq, List, [], ◌∷◌, ◌++◌, length, map, Option, Some, None, Result, Ok, Err, refl, sym, ap, ap₂, ◌∙◌, subst, arith, inl, inr}
+use Rattle.std.proofs.Common.{◌≡◌, ℕ, ◌+◌, ◌≤◌, ◌<◌, Bool, true, false, nat_le, nat_eq, List, [], ◌∷◌, ◌++◌, length, map, Option, Some, None, Result, Ok, Err}
+use Rattle.std.proofs.Common.{refl, sym, ap, ap₂, ◌∙◌, subst, arith, inl, inr}
 use Rattle.std.specs.Bool.{Decides}
 use Rattle.std.specs.List.{position_from}
 use Rattle.std.specs.Cmp.Lexicographic.{pointwise, bytes_decides}
@@ -61,7 +62,8 @@ module _ (s : State) (place : Place) (call : Call) (args : List ℕ) (are : AreN
   abbrev guarded : Bool → Option Sides → Result (ℕ × State) ElabFault
   guarded b o =
       and_then (unless (faults.BadArgument place) b s)
-      (λ _ t. and_then (or_fault (faults.ShapeClash place) o t) (λ sides. found_or_added place (record { call = call; args = args; sides = sides; place = place }) (position_from (is_of call args) 0 s.nodes)))
+      (λ _ t. and_then (or_fault (faults.ShapeClash place) o t) (λ sides. found_or_added place (record { call = call; args = args; sides = sides; place = place })
+      (position_from (is_of call args) 0 s.nodes)))
 
   with_shape : (o : Option Sides) → shape_of call (map (sides_at s.nodes) args) ≡ o → push place call args s ≡ guarded true o
   with_shape o e = ap₂ guarded there e
@@ -108,7 +110,8 @@ module _ (s : State) (place : Place) (call : Call) (args : List ℕ) (are : AreN
   pub pushed_err : (f : TreeFault) (after : List (Node Call)) → IsPushed shape_of s.nodes call args place (Err f) after → Fails (tree_fault_at place f) (push place call args s)
   pushed_err f after h = by (shape_of call (map (sides_at s.nodes) args)) refl f h
     where
-      by : (o : Option Sides) → shape_of call (map (sides_at s.nodes) args) ≡ o → (g : TreeFault) → EndsAt s.nodes call args place (Err g) after o → Fails (tree_fault_at place g) (push place call args s)
+      by : (o : Option Sides) → shape_of call (map (sides_at s.nodes) args) ≡ o → (g : TreeFault) → EndsAt s.nodes call args place (Err g) after o
+          → Fails (tree_fault_at place g) (push place call args s)
       by None e Clash h = with_shape None e
       by None e (TooMany what count) h = absurd h
       by None e Memory h = tt
@@ -126,7 +129,8 @@ seen_gives : (s : State) (place : Place) (call : Call) (args : List ℕ) → Are
 seen_gives s place call args are there (Ok id) after h = pushed_ok s place call args are there id after h
 seen_gives s place call args are there (Err f) after h = pushed_err s place call args are there f after h
 
-pub pushed_gives : (s t : State) (place : Place) (call : Call) (args : List ℕ) → s ≡ t → AreNodes shape_of s.nodes → are_there s.nodes args ≡ true → (r : Result NodeId TreeFault) (out : Result NodeId ElabFault)
+pub pushed_gives : (s t : State) (place : Place) (call : Call) (args : List ℕ) → s ≡ t → AreNodes shape_of s.nodes → are_there s.nodes args ≡ true
+    → (r : Result NodeId TreeFault) (out : Result NodeId ElabFault)
     (after : List (Node Call)) → IsPushed shape_of s.nodes call args place r after → out ≡ seen_at place r → Gives (λ (i : NodeId). i.0) out (record s { nodes = after }) (push place call args t)
 pushed_gives s t place call args same are there r out after h is =
     subst (λ u. Gives (λ (i : NodeId). i.0) out (record s { nodes = after }) (push place call args u)) same

@@ -18,16 +18,8 @@ use Rattle.dcx_tree.specs.declared.constraint.Sense.{Sense}
 use Rattle.dcx_tree.specs.contracts.constraint.Sense.{the_row as sense_row}
 use Rattle.dcx_tree.specs.declared.constraint.Constraint.{Constraint}
 use Rattle.dcx_tree.specs.contracts.constraint.Constraint.{the_row as constraint_row}
-use Rattle.dcx_script_values.specs.Values.{Value, Values, nothing, end, item, Asked, State}
-use Rattle.dcx_script_values.specs.Codes.{values_code}
-
-abbrev pub first_of : Values → Value
-first_of end = nothing
-first_of (item v vs) = v
-
--- a value is stored as the list of it alone
-abbrev pub value_code : Coded Value
-value_code = code_by Values values_code (λ v. item v end) first_of (λ v. refl)
+use Rattle.dcx_script_values.specs.Values.{Value, Asked, State}
+use Rattle.dcx_script_values.specs.Codes.{value_code}
 
 abbrev pub name_code : Coded (List ℕ)
 name_code = coded_list coded_ℕ

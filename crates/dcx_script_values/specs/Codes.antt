@@ -1,4 +1,4 @@
--- How the items of a list are stored by the logic: as marks in a row, which give the items back.
+-- How a value and the items of a list are stored by the logic: as marks in a row, which give the items back.
 use Rattle.std.specs.Prelude.{◌≡◌, refl, ℕ, ℤ, zero, suc, Bool, List, [], ◌∷◌, ◌⊎◌}
 use Rattle.std.specs.Coded.{Coded, code_by, coded_list, coded_ℕ, coded_ℤ, coded_bool, coded×, coded⊎}
 use Rattle.std.proofs.Common.{ap, ◌∙◌, inl, inr}
@@ -118,3 +118,11 @@ top st = end
 -- the items of a list as the logic stores them
 abbrev pub values_code : Coded Values
 values_code = code_by (List Mark) (coded_list (coded⊎ leaf_code coded_ℕ)) (λ vs. items_marks vs []) (λ ms. top (read_marks ms [])) (λ vs. ap top (read-items vs [] []))
+
+abbrev pub first_of : Values → Value
+first_of end = nothing
+first_of (item v vs) = v
+
+-- a value is stored as the list of it alone
+abbrev pub value_code : Coded Value
+value_code = code_by Values values_code (λ v. item v end) first_of (λ v. refl)

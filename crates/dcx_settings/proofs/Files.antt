@@ -1,5 +1,6 @@
 -- Settings files: where digits are divided by 0, where lines begin, and why bytes are refused.
-use Rattle.std.proofs.Common.{◌≡◌, ℕ, zero, suc, ◌+◌, ◌-◌, ◌<◌, ◌≤◌, Bool, true, false, List, [], ◌∷◌, ◌++◌, map, length, take, drop, Option, None, Result, Ok, Err, refl, sym, ap, ◌∙◌, subst, arith, append_assoc, length-append, ⊎_elim, IsTrue, ◌⊎◌}
+use Rattle.std.proofs.Common.{◌≡◌, ℕ, zero, suc, ◌+◌, ◌-◌, ◌<◌, ◌≤◌, Bool, true, false, List, [], ◌∷◌, ◌++◌, map, length, take, drop, Option, None, Result, Ok}
+use Rattle.std.proofs.Common.{Err, refl, sym, ap, ◌∙◌, subst, arith, append_assoc, length-append, ⊎_elim, IsTrue, ◌⊎◌}
 use Rattle.std.specs.Prelude.{◌↔◌, ⊤}
 use Rattle.std.proofs.Math.Seq.{drop-append_seam, take-length}
 use Rattle.std.proofs.lemmas.List.{length-map, take-append-drop, drop-map, length-drop}
@@ -11,10 +12,13 @@ use Rattle.dcx_tokens.specs.File.{IsText}
 use Rattle.dcx_tokens.specs.Reading.{IsLexed}
 use Rattle.dcx_settings.specs.declared.settings.SettingItem.{SettingItem}
 use Rattle.dcx_settings.specs.Terminal.{Terminal, comma, semicolon, close_square, newline, terminals, terminal_of}
-use Rattle.dcx_settings.specs.Grammar.{Size, integer, point, quotient, size_text, sign_text, Number, number_text, Value, one, row, matrix, preceded, separated, bracketed, row_text, value_text, Item, item_text, Line, nothing, items, line_text, settings_text, Every}
+use Rattle.dcx_settings.specs.Grammar.{Size, integer, point, quotient, size_text, sign_text, Number, number_text, Value, one, row, matrix, preceded, separated}
+use Rattle.dcx_settings.specs.Grammar.{bracketed, row_text, value_text, Item, item_text, Line, nothing, items, line_text, settings_text, Every}
 use Rattle.dcx_settings.specs.Reading.{IsUnexpected}
 use Rattle.dcx_settings.specs.Meaning.{AreLinesOf, AreSettings}
-use Rattle.dcx_settings.specs.File.{place_at, BeginsDividedByZero, DividesByZero, NeverDividesByZero, FirstDividesByZero, HasFault, divided, behind_line, AreNoSettings, unexpected, too_many, IsTokensReading, HasAllTokens, IsRefused, no_tokens, no_settings, most_settings, IsSettingsReading}
+use Rattle.dcx_settings.specs.File.{place_at, BeginsDividedByZero, DividesByZero, NeverDividesByZero, FirstDividesByZero, HasFault, divided, behind_line}
+use Rattle.dcx_settings.specs.File.{AreNoSettings, unexpected, too_many, IsTokensReading, HasAllTokens, IsRefused, no_tokens, no_settings, most_settings}
+use Rattle.dcx_settings.specs.File.{IsSettingsReading}
 
 -- ---- lines
 -- a token inside a line
@@ -142,7 +146,8 @@ unexpected_at text ts rest place u e =
     unexpected (length ts - length rest) (subst (IsUnexpected (terminals text ts)) behind u) (ap fault.Unexpected e)
 
 pub too_many_at : (text : List ℕ) (ts : List Token) (settings : List (List SettingItem)) (index : ℕ) (place : Place) → AreSettings (terminals text ts) settings → most_settings < length settings
-    → ((lines : List Line) → settings_text lines ≡ terminals text ts → index ≡ length (settings_text (take most_settings lines))) → place ≡ place_at text ts index → AreNoSettings text ts (fault.TooLong place)
+    → ((lines : List Line) → settings_text lines ≡ terminals text ts → index ≡ length (settings_text (take most_settings lines))) → place ≡ place_at text ts index
+    → AreNoSettings text ts (fault.TooLong place)
 too_many_at text ts settings index place h many behind e =
     let l = length-lines h.lines settings h.lines_are in
     too_many h.lines h.spelled (omega (arith, l, many)) (ap fault.TooLong (e ∙ ap (place_at text ts) (behind h.lines h.spelled.text)))

@@ -66,7 +66,8 @@ read_nameless lines is [] l = refl
 read_nameless lines is (name n ∷ us) l = absurd (l n us refl)
 read_nameless lines is (t ∷ us) l = refl
 
-pub nameless_stops : (set : BTreeSet (Bor (List ℕ))) (us : List Terminal) → LacksName us → (lines : List Line) (is : List Item) → HasNames set (names_of is) → read us (at lines (next_item is)) ≡ Err us
+pub nameless_stops : (set : BTreeSet (Bor (List ℕ))) (us : List Terminal) → LacksName us → (lines : List Line) (is : List Item) → HasNames set (names_of is)
+    → read us (at lines (next_item is)) ≡ Err us
 nameless_stops set us l lines is k = read_nameless lines is us l
 
 -- ---- items of a line
@@ -85,11 +86,13 @@ items_more (j ∷ is) [] i item h k = absurd h
 names_more : (is : List Item) (i : Item) → names_of (is ++ i ∷ []) ≡ names_of is ++ i.called ∷ []
 names_more is i = map-append (λ j. j.called) is (i ∷ [])
 
-gained : (old new : BTreeSet (Bor (List ℕ))) (item : SettingItem) (is : List Item) (i : Item) → GainsName old new item.name → item.name ≡ i.called → HasNames old (names_of is) → HasNames new (names_of (is ++ i ∷ []))
+gained : (old new : BTreeSet (Bor (List ℕ))) (item : SettingItem) (is : List Item) (i : Item) → GainsName old new item.name → item.name ≡ i.called → HasNames old (names_of is)
+    → HasNames new (names_of (is ++ i ∷ []))
 gained old new item is i g e h = subst (HasNames new) (ap (λ n. names_of is ++ n ∷ []) e ∙ sym (names_more is i)) (g (names_of is) h)
 
 -- the first item
-pub items_first : (empty set : BTreeSet (Bor (List ℕ))) → HasNames empty [] → (us rest : List Terminal) (item : SettingItem) → GainsName empty set item.name → IsNewItemRead empty us item rest → AreItemsRead set us (item ∷ []) rest
+pub items_first : (empty set : BTreeSet (Bor (List ℕ))) → HasNames empty [] → (us rest : List Terminal) (item : SettingItem) → GainsName empty set item.name
+    → IsNewItemRead empty us item rest → AreItemsRead set us (item ∷ []) rest
 items_first empty set none us rest item g h =
     let i : Item = record { called = h.called; value = h.value } in
     record {
@@ -106,7 +109,8 @@ module _ (set : BTreeSet (Bor (List ℕ))) (us : List Terminal) (found : List Se
   read_semicolon rest e lines = h.reads lines ∙ ap (read_by (value_read lines h.before h.last.called h.last.value)) e
 
   -- one more item
-  pub items_next : (rest : List Terminal) → from ≡ semicolon ∷ rest → (more : BTreeSet (Bor (List ℕ))) (item : SettingItem) (behind : List Terminal) → GainsName set more item.name → IsNewItemRead set rest item behind → AreItemsRead more us (found ++ item ∷ []) behind
+  pub items_next : (rest : List Terminal) → from ≡ semicolon ∷ rest → (more : BTreeSet (Bor (List ℕ))) (item : SettingItem) (behind : List Terminal) → GainsName set more item.name
+      → IsNewItemRead set rest item behind → AreItemsRead more us (found ++ item ∷ []) behind
   items_next rest e more item behind g k =
       let i : Item = record { called = k.called; value = k.value } in
       let is = h.before ++ h.last ∷ [] in
@@ -139,7 +143,8 @@ module _ (set : BTreeSet (Bor (List ℕ))) (us : List Terminal) (found : List Se
   }
 
   -- the line goes on with neither
-  pub items_open : (text : List ℕ) (ts : List Token) → from ≡ terminals text ts → (some : 0 < length us) → Lacks open_curly us → Lacks semicolon from → (s : Stop) → IsStopAt ts s → Lacks newline from → LineStopsAt text us s
+  pub items_open : (text : List ℕ) (ts : List Token) → from ≡ terminals text ts → (some : 0 < length us) → Lacks open_curly us → Lacks semicolon from → (s : Stop) → IsStopAt ts s
+      → Lacks newline from → LineStopsAt text us s
   items_open text ts d some l c Memory a m = tt
   items_open text ts d some l c (At there) a m = λ lines. read_begun lines us some l ∙ h.reads lines ∙ other lines from c m ∙ ap Err (d ∙ ap (terminals text) (sym a))
     where
@@ -150,12 +155,14 @@ module _ (set : BTreeSet (Bor (List ℕ))) (us : List Terminal) (found : List Se
       other lines (t ∷ vs) c m = refl
 
 -- the first item stops
-pub items_none : (set : BTreeSet (Bor (List ℕ))) → HasNames set [] → (text : List ℕ) (us : List Terminal) (s : Stop) → 0 < length us → Lacks open_curly us → NewItemStopsAt set text us s → LineStopsAt text us s
+pub items_none : (set : BTreeSet (Bor (List ℕ))) → HasNames set [] → (text : List ℕ) (us : List Terminal) (s : Stop) → 0 < length us → Lacks open_curly us
+    → NewItemStopsAt set text us s → LineStopsAt text us s
 items_none set none text us Memory some l h = tt
 items_none set none text us (At there) some l h = λ lines. read_begun lines us some l ∙ h lines [] none
 
 -- ---- a line with nothing
-pub nothing_unclosed : (text : List ℕ) (us : List Terminal) (ts : List Token) (s : Stop) → us ≡ open_curly ∷ terminals text ts → IsStopAt ts s → Lacks close_curly (terminals text ts) → LineStopsAt text us s
+pub nothing_unclosed : (text : List ℕ) (us : List Terminal) (ts : List Token) (s : Stop) → us ≡ open_curly ∷ terminals text ts → IsStopAt ts s
+    → Lacks close_curly (terminals text ts) → LineStopsAt text us s
 nothing_unclosed text us ts Memory e a l = tt
 nothing_unclosed text us ts (At there) e a l = λ lines. ap (λ xs. read xs (at lines fresh)) e ∙ other lines (terminals text ts) l ∙ ap (λ xs. Err (terminals text xs)) (sym a)
   where
@@ -164,9 +171,11 @@ nothing_unclosed text us ts (At there) e a l = λ lines. ap (λ xs. read xs (at 
     other lines (close_curly ∷ vs) l = absurd (l vs refl)
     other lines (t ∷ vs) l = refl
 
-pub nothing_unended : (text : List ℕ) (us vs : List Terminal) (ts : List Token) (s : Stop) → us ≡ open_curly ∷ vs → vs ≡ close_curly ∷ terminals text ts → IsStopAt ts s → Lacks newline (terminals text ts) → LineStopsAt text us s
+pub nothing_unended : (text : List ℕ) (us vs : List Terminal) (ts : List Token) (s : Stop) → us ≡ open_curly ∷ vs → vs ≡ close_curly ∷ terminals text ts → IsStopAt ts s
+    → Lacks newline (terminals text ts) → LineStopsAt text us s
 nothing_unended text us vs ts Memory e f a l = tt
-nothing_unended text us vs ts (At there) e f a l = λ lines. ap (λ xs. read xs (at lines fresh)) (e ∙ ap (λ xs. open_curly ∷ xs) f) ∙ other lines (terminals text ts) l ∙ ap (λ xs. Err (terminals text xs)) (sym a)
+nothing_unended text us vs ts (At there) e f a l = λ lines. ap (λ xs. read xs (at lines fresh)) (e ∙ ap (λ xs. open_curly ∷ xs) f) ∙ other lines (terminals text ts) l
+    ∙ ap (λ xs. Err (terminals text xs)) (sym a)
   where
     other : (lines : List Line) (vs : List Terminal) → Lacks newline vs → read vs (at lines closed) ≡ Err vs
     other lines [] l = refl
@@ -180,7 +189,8 @@ lines_of_more (j ∷ ls) (x ∷ found) l line h k = (h.0, lines_of_more ls found
 lines_of_more [] (x ∷ found) l line h k = absurd h
 lines_of_more (j ∷ ls) [] l line h k = absurd h
 
-pub lines_more : (us from rest : List Terminal) (found : List (List SettingItem)) (line : List SettingItem) → AreLinesRead us found from → IsLineRead from line rest → AreLinesRead us (found ++ line ∷ []) rest
+pub lines_more : (us from rest : List Terminal) (found : List (List SettingItem)) (line : List SettingItem) → AreLinesRead us found from → IsLineRead from line rest
+    → AreLinesRead us (found ++ line ∷ []) rest
 lines_more us from rest found line h k = record {
   lines = h.lines ++ k.is_line ∷ [];
   lines_are = lines_of_more h.lines found k.is_line line h.lines_are k.line_is;

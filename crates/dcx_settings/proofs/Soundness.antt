@@ -1,11 +1,18 @@
 -- What is read so far is spelled by the tokens so far, and is good.
-use Rattle.std.proofs.Common.{◌≡◌, ℕ, ◌+◌, ◌*◌, ◌<◌, ◌≤◌, Bool, true, false, IsTrue, ℤ, pos, List, [], ◌∷◌, ◌++◌, map, length, Option, Some, None, Result, Ok, Err, refl, sym, ap, ◌∙◌, subst, arith, append_assoc}
+use Rattle.std.proofs.Common.{◌≡◌, ℕ, ◌+◌, ◌*◌, ◌<◌, ◌≤◌, Bool, true, false, IsTrue, ℤ, pos, List, [], ◌∷◌, ◌++◌, map, length, Option, Some, None, Result, Ok}
+use Rattle.std.proofs.Common.{Err, refl, sym, ap, ◌∙◌, subst, arith, append_assoc}
 use Rattle.std.specs.Prelude.{⊤, nat_le, nat_eq, ◌&&◌, if◌then◌else◌}
 use Rattle.std.proofs.lemmas.Bool.Decides.{nat_tests}
 use Rattle.std.proofs.lemmas.List.{append-nil, map-append, length-append}
 use Rattle.dcx_settings.specs.Terminal.{Terminal, name, digits, decimal, minus, slash, equal, comma, semicolon, open_square, close_square, open_curly, close_curly, newline}
-use Rattle.dcx_settings.specs.Grammar.{integer, point, quotient, sign_text, Number, number_text, Value, one, matrix, preceded, separated, row_text, value_text, Item, item_text, Line, nothing, items, line_text, settings_text, names_of, is_among, are_new, Every, IsGoodNumber, IsGoodRow, AreGoodRows, IsGoodValue, IsGoodLine}
-use Rattle.dcx_settings.specs.Machine.{Part, start, negated, whole_read, divided, complete, Outer, no_matrix, rows_before, Context, alone, in_row, Phase, fresh, opened, closed, next_item, named, assigned, bracket, number, row_closed, next_row, ended, State, at, when, is_zero, number_of, size_begun, number_begun, quotient_read, divisor_read, reading, with_item, value_read, limit, may_end, row_ended, in_row_read, number_read, whole_read_on, width, after_fresh, after_opened, after_closed, after_semicolon, after_name, after_equal, after_bracket, in_number, after_row, before_row, step, go, run}
+use Rattle.dcx_settings.specs.Grammar.{integer, point, quotient, sign_text, Number, number_text, Value, one, matrix, preceded, separated, row_text, value_text}
+use Rattle.dcx_settings.specs.Grammar.{Item, item_text, Line, nothing, items, line_text, settings_text, names_of, is_among, are_new, Every, IsGoodNumber}
+use Rattle.dcx_settings.specs.Grammar.{IsGoodRow, AreGoodRows, IsGoodValue, IsGoodLine}
+use Rattle.dcx_settings.specs.Machine.{Part, start, negated, whole_read, divided, complete, Outer, no_matrix, rows_before, Context, alone, in_row, Phase, fresh}
+use Rattle.dcx_settings.specs.Machine.{opened, closed, next_item, named, assigned, bracket, number, row_closed, next_row, ended, State, at, when, is_zero}
+use Rattle.dcx_settings.specs.Machine.{number_of, size_begun, number_begun, quotient_read, divisor_read, reading, with_item, value_read, limit, may_end}
+use Rattle.dcx_settings.specs.Machine.{row_ended, in_row_read, number_read, whole_read_on, width, after_fresh, after_opened, after_closed, after_semicolon}
+use Rattle.dcx_settings.specs.Machine.{after_name, after_equal, after_bracket, in_number, after_row, before_row, step, go, run}
 use Rattle.dcx_settings.proofs.Facts.{every_more}
 
 -- ---- how a state is spelled
@@ -160,7 +167,8 @@ item_last is n v =
     ap (separated semicolon) (map-append item_text is (record { called = n; value = v } ∷ []))
     ∙ separated-more semicolon (map item_text is) (name n ∷ equal ∷ value_text v) ∙ simp append_assoc
 
-value_sound : (lines : List Line) (is : List Item) (n : List ℕ) (v : Value) (phase : Phase) → Every IsGoodLine lines → IsGoodName is n → IsGoodValue v → phase_text phase ≡ item_front is n ++ value_text v
+value_sound : (lines : List Line) (is : List Item) (n : List ℕ) (v : Value) (phase : Phase) → Every IsGoodLine lines → IsGoodName is n → IsGoodValue v
+    → phase_text phase ≡ item_front is n ++ value_text v
     → (t : Terminal) (s : State) → value_read lines is n v t ≡ Some s → Reaches lines phase t s
 value_sound lines is n v phase ls g h e semicolon s k =
     let to : at lines (next_item (with_item is n v)) ≡ s = cc in
@@ -179,7 +187,8 @@ value_sound lines is n v phase ls g h e t s k = cc
 
 -- ---- steps that keep the lines before
 -- the next phase is spelled by one more token
-kept : (lines : List Line) (phase next : Phase) (t : Terminal) (s : State) → Every IsGoodLine lines → phase_text next ≡ snoc (phase_text phase) t → IsGoodPhase next → Some (at lines next) ≡ Some s → Reaches lines phase t s
+kept : (lines : List Line) (phase next : Phase) (t : Terminal) (s : State) → Every IsGoodLine lines → phase_text next ≡ snoc (phase_text phase) t → IsGoodPhase next
+    → Some (at lines next) ≡ Some s → Reaches lines phase t s
 kept lines phase next t s ls e g k =
     let to : at lines next ≡ s = cc in
     subst (Reaches lines phase t) to (record {
@@ -188,13 +197,15 @@ kept lines phase next t s ls e g k =
     })
 
 -- where a test holds
-kept_when : (b : Bool) (lines : List Line) (phase next : Phase) (t : Terminal) (s : State) → Every IsGoodLine lines → phase_text next ≡ snoc (phase_text phase) t → (b ≡ true → IsGoodPhase next) → when b (at lines next) ≡ Some s → Reaches lines phase t s
+kept_when : (b : Bool) (lines : List Line) (phase next : Phase) (t : Terminal) (s : State) → Every IsGoodLine lines → phase_text next ≡ snoc (phase_text phase) t
+    → (b ≡ true → IsGoodPhase next) → when b (at lines next) ≡ Some s → Reaches lines phase t s
 kept_when true lines phase next t s ls e g k = kept lines phase next t s ls e (g refl) k
 kept_when false lines phase next t s ls e g k = cc
 
 -- ---- behind a number of a row
 -- a row of xs ends
-row_sound : (is : List Item) (n : List ℕ) (o : Outer) (xs : List Number) → IsGoodName is n → IsGoodOuter o → IsGoodRow xs → length xs ≤ limit o → may_end o (length xs) ≡ true → IsGoodPhase (row_ended is n o xs)
+row_sound : (is : List Item) (n : List ℕ) (o : Outer) (xs : List Number) → IsGoodName is n → IsGoodOuter o → IsGoodRow xs → length xs ≤ limit o → may_end o (length xs) ≡ true
+    → IsGoodPhase (row_ended is n o xs)
 row_sound is n no_matrix xs g h r l e = (g, (r, l))
 row_sound is n (rows_before []) xs g h r l e = (g, record { some = omega arith; rows_are = ((r, refl), tt) }, omega (arith, l))
 row_sound is n (rows_before (first ∷ rs)) xs g h r l e =
@@ -216,7 +227,8 @@ numbers_last : (xs : List Number) (x : Number) → separated comma (map number_t
 numbers_last xs x = ap (separated comma) (map-append number_text xs (x ∷ [])) ∙ separated-more comma (map number_text xs) (number_text x)
 
 -- a row that ends, in what it stands in
-row_text_of : (is : List Item) (n : List ℕ) (o : Outer) (xs : List Number) (x : Number) → phase_text (row_ended is n o (xs ++ x ∷ [])) ≡ snoc (item_front is n ++ (context_text (in_row o xs) ++ number_text x)) close_square
+row_text_of : (is : List Item) (n : List ℕ) (o : Outer) (xs : List Number) (x : Number) → phase_text (row_ended is n o (xs ++ x ∷ []))
+    ≡ snoc (item_front is n ++ (context_text (in_row o xs) ++ number_text x)) close_square
 row_text_of is n no_matrix xs x = ap (λ y. item_front is n ++ (open_square ∷ (y ++ close_square ∷ []))) (numbers_last xs x) ∙ simp append_assoc
 row_text_of is n (rows_before rows) xs x =
     ap (λ y. item_front is n ++ open_square ∷ y) (ap (separated comma) (map-append row_text rows ((xs ++ x ∷ []) ∷ [])) ∙ separated-more comma (map row_text rows) (row_text (xs ++ x ∷ [])))
@@ -225,7 +237,8 @@ row_text_of is n (rows_before rows) xs x =
 good_row : (xs : List Number) (x : Number) → Every IsGoodNumber xs → IsGoodNumber x → IsGoodRow (xs ++ x ∷ [])
 good_row xs x h g = let e = length-append xs (x ∷ []) in record { some = omega (arith, e); numbers = every_more IsGoodNumber xs x h g }
 
-row_read_sound : (lines : List Line) (is : List Item) (n : List ℕ) (o : Outer) (xs : List Number) (x : Number) (phase : Phase) → Every IsGoodLine lines → IsGoodName is n → IsGoodContext (in_row o xs) → IsGoodNumber x
+row_read_sound : (lines : List Line) (is : List Item) (n : List ℕ) (o : Outer) (xs : List Number) (x : Number) (phase : Phase) → Every IsGoodLine lines → IsGoodName is n
+    → IsGoodContext (in_row o xs) → IsGoodNumber x
     → phase_text phase ≡ item_front is n ++ (context_text (in_row o xs) ++ number_text x) → (t : Terminal) (s : State) → in_row_read lines is n o (xs ++ x ∷ []) t ≡ Some s → Reaches lines phase t s
 row_read_sound lines is n o xs x phase ls g c h e comma s k =
     kept_when (nat_le (length (xs ++ x ∷ []) + 1) (limit o)) lines phase (number is n (in_row o (xs ++ x ∷ [])) start) comma s ls
@@ -246,8 +259,10 @@ number_read_sound lines is n (in_row o xs) x phase ls g c h e t s k = row_read_s
 
 -- ---- within a number
 -- a part that is one token longer
-part_sound : (lines : List Line) (is : List Item) (n : List ℕ) (c : Context) (phase : Phase) (front : List Terminal) (t : Terminal) (o : Option Part) → Every IsGoodLine lines → IsGoodName is n → IsGoodContext c
-    → phase_text phase ≡ item_front is n ++ (context_text c ++ front) → ((p : Part) → o ≡ Some p → (part_text p ≡ snoc front t) × IsGoodPart p) → (s : State) → reading lines is n c o ≡ Some s → Reaches lines phase t s
+part_sound : (lines : List Line) (is : List Item) (n : List ℕ) (c : Context) (phase : Phase) (front : List Terminal) (t : Terminal) (o : Option Part) → Every IsGoodLine lines
+    → IsGoodName is n → IsGoodContext c
+    → phase_text phase ≡ item_front is n ++ (context_text c ++ front) → ((p : Part) → o ≡ Some p → (part_text p ≡ snoc front t) × IsGoodPart p) → (s : State)
+    → reading lines is n c o ≡ Some s → Reaches lines phase t s
 part_sound lines is n c phase front t None ls g h e by s k = cc
 part_sound lines is n c phase front t (Some p) ls g h e by s k =
     let b = by p refl in
@@ -270,7 +285,8 @@ divisor_is s n (digits d) p e = by (is_zero d) refl e
   where
     by : (b : Bool) → is_zero d ≡ b → quotient_read s n b d ≡ Some p → (part_text p ≡ snoc (sign_text s ++ digits n ∷ slash ∷ []) (digits d)) × IsGoodPart p
     by true z e = cc
-    by false z e = let same : complete (number_of s (quotient n d)) ≡ p = cc in subst (λ q. (part_text q ≡ snoc (sign_text s ++ digits n ∷ slash ∷ []) (digits d)) × IsGoodPart q) same (simp append_assoc, some_number d z)
+    by false z e = let same : complete (number_of s (quotient n d)) ≡ p = cc in subst (λ q. (part_text q ≡ snoc (sign_text s ++ digits n ∷ slash ∷ []) (digits d))
+        × IsGoodPart q) same (simp append_assoc, some_number d z)
 divisor_is s n t p e = cc
 
 whole_sound : (lines : List Line) (is : List Item) (n : List ℕ) (c : Context) (b : Bool) (f : ℤ) → Every IsGoodLine lines → IsGoodName is n → IsGoodContext c
@@ -283,7 +299,8 @@ number_sound : (lines : List Line) (is : List Item) (n : List ℕ) (c : Context)
 number_sound lines is n c start ls g h p t s k = part_sound lines is n c (number is n c start) [] t (number_begun t) ls g h refl (number_begun_is t) s k
 number_sound lines is n c negated ls g h p t s k = part_sound lines is n c (number is n c negated) (minus ∷ []) t (size_begun true t) ls g h refl (size_begun_is true t) s k
 number_sound lines is n c (whole_read b f) ls g h p t s k = whole_sound lines is n c b f ls g h t s k
-number_sound lines is n c (divided b f) ls g h p t s k = part_sound lines is n c (number is n c (divided b f)) (sign_text b ++ digits f ∷ slash ∷ []) t (divisor_read b f t) ls g h refl (divisor_is b f t) s k
+number_sound lines is n c (divided b f) ls g h p t s k = part_sound lines is n c (number is n c (divided b f)) (sign_text b ++ digits f ∷ slash ∷ []) t
+    (divisor_read b f t) ls g h refl (divisor_is b f t) s k
 number_sound lines is n c (complete x) ls g h p t s k = number_read_sound lines is n c x (number is n c (complete x)) ls g h p refl t s k
 
 -- ---- each phase
@@ -313,23 +330,28 @@ semicolon_sound lines is ls b (name n) s k = by (is_among (names_of is) n) refl 
     by false e k = kept lines (next_item is) (named is n) (name n) s ls refl (record { before = b; new = e }) k
 semicolon_sound lines is ls b t s k = cc
 
-name_sound : (lines : List Line) (is : List Item) (n : List ℕ) → Every IsGoodLine lines → IsGoodName is n → (t : Terminal) (s : State) → after_name lines is n t ≡ Some s → Reaches lines (named is n) t s
+name_sound : (lines : List Line) (is : List Item) (n : List ℕ) → Every IsGoodLine lines → IsGoodName is n → (t : Terminal) (s : State) → after_name lines is n t ≡ Some s
+    → Reaches lines (named is n) t s
 name_sound lines is n ls g equal s k = kept lines (named is n) (assigned is n) equal s ls (simp append_assoc) g k
 name_sound lines is n ls g t s k = cc
 
-equal_sound : (lines : List Line) (is : List Item) (n : List ℕ) → Every IsGoodLine lines → IsGoodName is n → (t : Terminal) (s : State) → after_equal lines is n t ≡ Some s → Reaches lines (assigned is n) t s
+equal_sound : (lines : List Line) (is : List Item) (n : List ℕ) → Every IsGoodLine lines → IsGoodName is n → (t : Terminal) (s : State) → after_equal lines is n t ≡ Some s
+    → Reaches lines (assigned is n) t s
 equal_sound lines is n ls g open_square s k = kept lines (assigned is n) (bracket is n) open_square s ls refl g k
 equal_sound lines is n ls g t s k = part_sound lines is n alone (assigned is n) [] t (number_begun t) ls g tt (sym (append-nil _)) (number_begun_is t) s k
 
-bracket_sound : (lines : List Line) (is : List Item) (n : List ℕ) → Every IsGoodLine lines → IsGoodName is n → (t : Terminal) (s : State) → after_bracket lines is n t ≡ Some s → Reaches lines (bracket is n) t s
-bracket_sound lines is n ls g open_square s k = kept lines (bracket is n) (number is n (in_row (rows_before []) []) start) open_square s ls (simp (append_assoc, append-nil)) (g, (tt, tt, omega arith), tt) k
+bracket_sound : (lines : List Line) (is : List Item) (n : List ℕ) → Every IsGoodLine lines → IsGoodName is n → (t : Terminal) (s : State) → after_bracket lines is n t ≡ Some s
+    → Reaches lines (bracket is n) t s
+bracket_sound lines is n ls g open_square s k = kept lines (bracket is n) (number is n (in_row (rows_before []) []) start) open_square s ls (simp (append_assoc, append-nil))
+    (g, (tt, tt, omega arith), tt) k
 bracket_sound lines is n ls g t s k = part_sound lines is n (in_row no_matrix []) (bracket is n) [] t (number_begun t) ls g (tt, tt, omega arith) (simp append-nil) (number_begun_is t) s k
 
 rows_followed : (rows : List (List Number)) → 0 < length rows → followed comma (map row_text rows) ≡ separated comma (map row_text rows) ++ comma ∷ []
 rows_followed [] h = absurd (omega arith)
 rows_followed (r ∷ rs) h = separated-followed comma (map row_text rs) (row_text r)
 
-row_closed_sound : (lines : List Line) (is : List Item) (n : List ℕ) (rows : List (List Number)) → Every IsGoodLine lines → IsGoodPhase (row_closed is n rows) → (t : Terminal) (s : State) → after_row lines is n rows t ≡ Some s → Reaches lines (row_closed is n rows) t s
+row_closed_sound : (lines : List Line) (is : List Item) (n : List ℕ) (rows : List (List Number)) → Every IsGoodLine lines → IsGoodPhase (row_closed is n rows)
+    → (t : Terminal) (s : State) → after_row lines is n rows t ≡ Some s → Reaches lines (row_closed is n rows) t s
 row_closed_sound lines is n rows ls g comma s k =
     kept_when (nat_le ((length rows + 1) * width rows) 20000) lines (row_closed is n rows) (next_row is n rows) comma s ls
     (ap (λ y. item_front is n ++ open_square ∷ y) (rows_followed rows g.1.some) ∙ (simp append_assoc)) (λ b. (g.0, g.1, le_true _ _ b)) k
@@ -340,7 +362,8 @@ pub rows_outer : (rows : List (List Number)) → AreGoodRows (width rows) rows �
 rows_outer [] g h = (tt, tt, omega arith)
 rows_outer (r ∷ rs) g h = let some = g.rows_are.0.0.some in ((g, h), tt, omega (arith, some))
 
-next_row_sound : (lines : List Line) (is : List Item) (n : List ℕ) (rows : List (List Number)) → Every IsGoodLine lines → IsGoodPhase (next_row is n rows) → (t : Terminal) (s : State) → before_row lines is n rows t ≡ Some s → Reaches lines (next_row is n rows) t s
+next_row_sound : (lines : List Line) (is : List Item) (n : List ℕ) (rows : List (List Number)) → Every IsGoodLine lines → IsGoodPhase (next_row is n rows)
+    → (t : Terminal) (s : State) → before_row lines is n rows t ≡ Some s → Reaches lines (next_row is n rows) t s
 next_row_sound lines is n rows ls g open_square s k =
     kept lines (next_row is n rows) (number is n (in_row (rows_before rows) []) start) open_square s ls (simp (append_assoc, append-nil)) (g.0, rows_outer rows g.1 g.2, tt) k
 next_row_sound lines is n rows ls g t s k = cc

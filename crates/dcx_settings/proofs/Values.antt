@@ -39,14 +39,16 @@ module _ (w k : ℕ) (us : List Terminal) (fs : List Frac) (from : List Terminal
 
   pub matrix_open : (text : List ℕ) (ts : List Token) → from ≡ terminals text ts → Lacks comma from → (s : Stop) → IsStopAt ts s → Lacks close_square from → ValueStopsAt matrix_begun text us s
   matrix_open text ts d c Memory a l = tt
-  matrix_open text ts d c (At there) a l = λ lines is n. read_part lines is n (in_row (rows_before []) []) start us ∙ rows_open w k us fs from h c l lines is n ∙ ap Err (d ∙ ap (terminals text) (sym a))
+  matrix_open text ts d c (At there) a l = λ lines is n. read_part lines is n (in_row (rows_before []) []) start us ∙ rows_open w k us fs from h c l lines is n
+      ∙ ap Err (d ∙ ap (terminals text) (sym a))
 
 pub matrix_stops : (text : List ℕ) (us : List Terminal) (s : Stop) → RowsStopAt text us s → ValueStopsAt matrix_begun text us s
 matrix_stops text us Memory h = tt
 matrix_stops text us (At there) h = λ lines is n. read_part lines is n (in_row (rows_before []) []) start us ∙ h lines is n
 
 -- ---- lists and numbers
-read_list : (lines : List Line) (is : List Item) (n : List ℕ) (us : List Terminal) → Lacks open_square us → read us (at lines (bracket is n)) ≡ read_by (number_from lines is n (in_row no_matrix [])) us
+read_list : (lines : List Line) (is : List Item) (n : List ℕ) (us : List Terminal) → Lacks open_square us → read us (at lines (bracket is n))
+    ≡ read_by (number_from lines is n (in_row no_matrix [])) us
 read_list lines is n [] l = refl
 read_list lines is n (open_square ∷ ts) l = absurd (l ts refl)
 read_list lines is n (t ∷ ts) l = refl
@@ -56,7 +58,8 @@ read_alone lines is n [] l = refl
 read_alone lines is n (open_square ∷ ts) l = absurd (l ts refl)
 read_alone lines is n (t ∷ ts) l = refl
 
-pub vector_read : (us rest : List Terminal) (fs : List Frac) → Lacks open_square us → IsRowRead None us fs rest → (shape : Shape) → sides_of shape ≡ Vector (length fs) → IsValueRead bracket us shape fs rest
+pub vector_read : (us rest : List Terminal) (fs : List Frac) → Lacks open_square us → IsRowRead None us fs rest → (shape : Shape) → sides_of shape ≡ Vector (length fs)
+    → IsValueRead bracket us shape fs rest
 vector_read us rest fs l h shape s = record {
   value = row h.numbers;
   good = (h.good, h.few);
@@ -69,7 +72,8 @@ pub vector_stops : (text : List ℕ) (us : List Terminal) (s : Stop) → Lacks o
 vector_stops text us Memory l h = tt
 vector_stops text us (At there) l h = λ lines is n. read_list lines is n us l ∙ h lines is n no_matrix tt
 
-pub scalar_read : (us rest : List Terminal) (f : Frac) (fs : List Frac) → fs ≡ f ∷ [] → Lacks open_square us → IsNumberRead number_from us f rest → (shape : Shape) → sides_of shape ≡ Scalar → IsValueRead assigned us shape fs rest
+pub scalar_read : (us rest : List Terminal) (f : Frac) (fs : List Frac) → fs ≡ f ∷ [] → Lacks open_square us → IsNumberRead number_from us f rest → (shape : Shape)
+    → sides_of shape ≡ Scalar → IsValueRead assigned us shape fs rest
 scalar_read us rest f fs e l h shape s = record {
   value = one h.number;
   good = h.good;
@@ -84,14 +88,28 @@ scalar_stops text us (At there) l h = λ lines is n. read_alone lines is n us l 
 
 -- ---- behind a bracket
 pub bracket_read : (us vs rest : List Terminal) (shape : Shape) (fs : List Frac) → us ≡ open_square ∷ vs → IsValueRead bracket vs shape fs rest → IsValueRead assigned us shape fs rest
-bracket_read us vs rest shape fs e h = record { value = h.value; good = h.good; sides = h.sides; numbers_are = h.numbers_are; reads = λ lines is n. ap (λ ts. read ts (at lines (assigned is n))) e ∙ h.reads lines is n }
+bracket_read us vs rest shape fs e h = record {
+  value = h.value;
+  good = h.good;
+  sides = h.sides;
+  numbers_are = h.numbers_are;
+  reads = λ lines is n. ap
+      (λ ts. read ts (at lines (assigned is n))) e ∙ h.reads lines is n;
+}
 
 pub bracket_stops : (text : List ℕ) (us vs : List Terminal) (s : Stop) → us ≡ open_square ∷ vs → ValueStopsAt bracket text vs s → ValueStopsAt assigned text us s
 bracket_stops text us vs Memory e h = tt
 bracket_stops text us vs (At there) e h = λ lines is n. ap (λ ts. read ts (at lines (assigned is n))) e ∙ h lines is n
 
 pub brackets_read : (us vs rest : List Terminal) (shape : Shape) (fs : List Frac) → us ≡ open_square ∷ vs → IsValueRead matrix_begun vs shape fs rest → IsValueRead bracket us shape fs rest
-brackets_read us vs rest shape fs e h = record { value = h.value; good = h.good; sides = h.sides; numbers_are = h.numbers_are; reads = λ lines is n. ap (λ ts. read ts (at lines (bracket is n))) e ∙ h.reads lines is n }
+brackets_read us vs rest shape fs e h = record {
+  value = h.value;
+  good = h.good;
+  sides = h.sides;
+  numbers_are = h.numbers_are;
+  reads = λ lines is n. ap
+      (λ ts. read ts (at lines (bracket is n))) e ∙ h.reads lines is n;
+}
 
 pub brackets_stop : (text : List ℕ) (us vs : List Terminal) (s : Stop) → us ≡ open_square ∷ vs → ValueStopsAt matrix_begun text vs s → ValueStopsAt bracket text us s
 brackets_stop text us vs Memory e h = tt

@@ -7,10 +7,10 @@ use Rattle.std.proofs.lemmas.Option.{slice_get-get_or}
 use Rattle.std.proofs.lemmas.List.FromFn.{length-map-range_with_len, get_or-map-range_with_len}
 use mir.Syntax.{w128}
 use Rattle.dcx_math.specs.Rational.{whole, ◌/ℚ◌}
-use Rattle.dcx_math.proofs.Ratios.{ratio-one, ratio-is-/ℚ}
 use Rattle.dcx_frac.specs.declared.fraction.Frac.{Frac}
 use Rattle.dcx_frac.specs.Fits.{Fits, IsRepresentable}
 use Rattle.dcx_frac.specs.Frac.{value}
+use Rattle.dcx_frac.proofs.Integers.{over_unit}
 use Rattle.dcx_frac.proofs.Representable.{representable_quotient}
 use Rattle.dcx_atom.specs.Formed.{frac_at}
 use Rattle.dcx_atom.proofs.FormedSums.{frac_at-value}
@@ -41,9 +41,6 @@ reached_up first (pos m) r n k way inside h up e is = is ∙ (rw e (saturated (f
 reached_up first (negsuc m) r n k way inside h up e is = absurd (omega (arith, ints, up))
 
 -- ---- whole numbers as fractions
-pub whole_is : (n : ℤ) → whole n /ℚ whole (pos 1) ≡ whole n
-whole_is n = ratio-is-/ℚ n (pos 1) (record { lt = tt }) ∙ ratio-one n (record { lt = tt })
-
 pub one_is_some : ¬ (pos 1 ≡ pos 0)
 one_is_some e = absurd (omega (arith, ints, e))
 
@@ -51,7 +48,7 @@ pub is_fraction : (n : ℤ) → Fits n → IsRepresentable (whole n /ℚ whole (
 is_fraction n f = representable_quotient n (pos 1) f (lit< tt) one_is_some
 
 pub frac_at-is : (n : ℤ) (f : Frac) → value f ≡ whole n /ℚ whole (pos 1) → frac_at (whole n) ≡ f
-frac_at-is n f e = subst (λ x. frac_at x ≡ f) (e ∙ whole_is n) (frac_at-value f)
+frac_at-is n f e = subst (λ x. frac_at x ≡ f) (e ∙ over_unit n) (frac_at-value f)
 
 -- ---- the items that are gone through
 pub range_items-length : (first step : ℤ) (n : ℕ) → length (range_items first step n) ≡ n

@@ -1,5 +1,6 @@
 -- The products with the coefficients of a row, each put in the place of its unknown.
-use Rattle.std.proofs.Common.{◌≡◌, ◌≢◌, ℕ, zero, suc, ◌+◌, ◌<◌, Bool, true, false, List, [], ◌∷◌, ◌++◌, length, map, get_or, take, set, replicate, Result, Ok, Err, refl, sym, ap, ap₂, ◌∙◌, subst, ℤ, pos, arith}
+use Rattle.std.proofs.Common.{◌≡◌, ◌≢◌, ℕ, zero, suc, ◌+◌, ◌<◌, Bool, true, false, List, [], ◌∷◌, ◌++◌, length, map, get_or, take, set, replicate, Result, Ok}
+use Rattle.std.proofs.Common.{Err, refl, sym, ap, ap₂, ◌∙◌, subst, ℤ, pos, arith}
 use Rattle.std.specs.List.{range_with_len}
 use Rattle.std.proofs.lemmas.List.{get_or-set_same, get_or-set_other, map-append}
 use native.Mathlib.Decide.{ℕ_discrete}
@@ -32,7 +33,8 @@ pub record IsNumerator (r : Result Frac Passes) (z : ℤ) : Type 0 where
   pub above : z ≡ num_of number
 
 -- a number is formed at each place
-pub numerators_filled : (f : ℕ → Result Frac Passes) (a n : ℕ) (zs : List ℤ) → length zs ≡ n → ((j : ℕ) → j < n → IsNumerator (f (a + j)) (entry zs j)) → numerators (map f (range_with_len a n)) ≡ Ok zs
+pub numerators_filled : (f : ℕ → Result Frac Passes) (a n : ℕ) (zs : List ℤ) → length zs ≡ n → ((j : ℕ) → j < n → IsNumerator (f (a + j)) (entry zs j))
+    → numerators (map f (range_with_len a n)) ≡ Ok zs
 numerators_filled f a zero [] l h = refl
 numerators_filled f a zero (z ∷ zs) l h = absurd (omega (arith, l))
 numerators_filled f a (suc n) [] l h = absurd (omega (arith, l))

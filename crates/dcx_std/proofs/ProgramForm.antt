@@ -1,5 +1,6 @@
 -- The scaled program of rows has the form from which the simplex starts.
-use Rattle.std.proofs.Common.{◌≡◌, ℕ, zero, suc, ◌+◌, ◌<◌, ◌≤◌, ◌^◌, Bool, true, false, List, [], ◌∷◌, ◌++◌, map, length, get_or, Some, Ok, refl, sym, ap, ap₂, ◌∙◌, subst, ℤ, pos, unsigned_abs, lit<, arith, ◌⊎◌, inl, inr}
+use Rattle.std.proofs.Common.{◌≡◌, ℕ, zero, suc, ◌+◌, ◌<◌, ◌≤◌, ◌^◌, Bool, true, false, List, [], ◌∷◌, ◌++◌, map, length, get_or, Some, Ok, refl, sym, ap, ap₂}
+use Rattle.std.proofs.Common.{◌∙◌, subst, ℤ, pos, unsigned_abs, lit<, arith, ◌⊎◌, inl, inr}
 use Rattle.std.specs.Prelude.{slice_get, sum_by, ◌<ℤ◌, if◌then◌else◌}
 use Rattle.std.specs.Option.{option_map}
 use Rattle.std.specs.List.{All}
@@ -58,7 +59,8 @@ short_small (y ∷ zs) z h zero = h 0
 short_small (y ∷ zs) z h (suc j) = short_small zs z (λ i. h (suc i)) j
 
 -- ---- the whole rows of the rows
-pub whole_of : (n : ℕ) (rows : List (Row Frac)) (ws : List WholeRow) (i : ℕ) (w : WholeRow) → map (row_made n) rows ≡ map Ok ws → slice_get ws i ≡ Some w → (r : Row Frac) × (slice_get rows i ≡ Some r) × (row_made n r ≡ Ok w)
+pub whole_of : (n : ℕ) (rows : List (Row Frac)) (ws : List WholeRow) (i : ℕ) (w : WholeRow) → map (row_made n) rows ≡ map Ok ws → slice_get ws i ≡ Some w
+    → (r : Row Frac) × (slice_get rows i ≡ Some r) × (row_made n r ≡ Ok w)
 whole_of n [] [] i w e s = cc
 whole_of n [] (v ∷ ws) i w e s = cc
 whole_of n (r ∷ rows) [] i w e s = cc
@@ -69,7 +71,8 @@ pub wholes_count : (n : ℕ) (rows : List (Row Frac)) (ws : List WholeRow) → m
 wholes_count n rows ws e = sym (length-map ws Ok) ∙ sym (ap length e) ∙ length-map rows (row_made n)
 
 -- the rows keep their kinds, so there are so many slacks
-pub starts_slacks : (n : ℕ) (rows : List (Row Frac)) (ws : List WholeRow) → map (row_made n) rows ≡ map Ok ws → sum_by (λ s. slacks_for s.kind) (map (start_of n) ws) ≡ sum_by (λ r. slacks_for r.kind) rows
+pub starts_slacks : (n : ℕ) (rows : List (Row Frac)) (ws : List WholeRow) → map (row_made n) rows ≡ map Ok ws → sum_by (λ s. slacks_for s.kind) (map (start_of n) ws)
+    ≡ sum_by (λ r. slacks_for r.kind) rows
 starts_slacks n [] [] e = refl
 starts_slacks n [] (w ∷ ws) e = cc
 starts_slacks n (r ∷ rows) [] e = cc
@@ -81,7 +84,8 @@ starts_slacks n (r ∷ rows) (w ∷ ws) e =
     ∙ sym (sum_by-cons (λ (s : Row Frac). slacks_for s.kind) r rows)
 
 -- ---- the objective row is primitive
-module _ (n : ℕ) (kinds : List UnknownKind) (starts : List Start) (f : Form Frac) (w : WholeRow) (c : CostRow) (count : length kinds ≡ n) (made : cost_made n f ≡ Ok w) (cost : IsCostOf (columns_of kinds starts) n w c) where
+module _ (n : ℕ) (kinds : List UnknownKind) (starts : List Start) (f : Form Frac) (w : WholeRow) (c : CostRow) (count : length kinds ≡ n) (made : cost_made n f ≡ Ok w)
+    (cost : IsCostOf (columns_of kinds starts) n w c) where
   formed : IsFormedBy Equal f (cost_numbers n f) w
   formed = formed_by Equal f (cost_numbers n f) w made
 
@@ -118,7 +122,8 @@ module _ (n : ℕ) (kinds : List UnknownKind) (starts : List Start) (f : Form Fr
       let rs = map (product_of by) (cost_numbers n f) in
       let count : length made.fractions ≡ n + 2 = sym (length-map made.fractions Ok) ∙ sym (ap length made.are) ∙ length-map (cost_numbers n f) (product_of by) ∙ numbers_count in
       let y = get_or made.fractions (suc n) zero_frac in
-      let here : get_or rs (suc n) (Ok zero_frac) ≡ product_of by one_frac = get_or-map (product_of by) (cost_numbers n f) (suc n) zero_frac (Ok zero_frac) (omega (arith, numbers_count)) ∙ ap (product_of by) last_number in
+      let here : get_or rs (suc n) (Ok zero_frac) ≡ product_of by one_frac = get_or-map (product_of by) (cost_numbers n f) (suc n) zero_frac (Ok zero_frac)
+      (omega (arith, numbers_count)) ∙ ap (product_of by) last_number in
       let there : get_or rs (suc n) (Ok zero_frac) ≡ Ok y = ap (λ s. get_or s (suc n) (Ok zero_frac)) made.are ∙ get_or-map Ok made.fractions (suc n) zero_frac (Ok zero_frac) (omega (arith, count)) in
       ap (λ zs. entry zs (suc n)) made.numerators ∙ get_or-map num_of made.fractions (suc n) zero_frac (pos 0) (omega (arith, count)) ∙ product_one y (sym here ∙ there)
 
@@ -139,7 +144,8 @@ module _ (n : ℕ) (kinds : List UnknownKind) (starts : List Start) (f : Form Fr
 
   lead_is : entry w.numbers (suc n) ≡ divided (gcd_of formed.products) (pos formed.multiple)
   lead_is =
-      ap (λ zs. entry zs (suc n)) numbers_are ∙ get_or-map (divided (gcd_of formed.products)) formed.products (suc n) (pos 0) (pos 0) (omega (arith, products_count)) ∙ ap (divided (gcd_of formed.products)) last_product
+      ap (λ zs. entry zs (suc n)) numbers_are ∙ get_or-map (divided (gcd_of formed.products)) formed.products (suc n) (pos 0) (pos 0) (omega (arith, products_count))
+      ∙ ap (divided (gcd_of formed.products)) last_product
 
   lead_positive : pos 0 <ℤ entry w.numbers (suc n)
   lead_positive =
@@ -161,9 +167,16 @@ module _ (n : ℕ) (kinds : List UnknownKind) (starts : List Start) (f : Form Fr
       let k = has_column 0 kinds u (omega (arith, l, count)) in
       let all = columns_of kinds starts in
       let front : kind_at all k.0 ≡ Unknown u k.1 =
-      get_or_append_left (plain_columns_of kinds starts) (artificial_columns starts) (Unknown 0 false) k.0 (let m = k.2 in omega (arith, m, length-append (all_unknown_columns 0 kinds) (slack_columns starts)))
+      get_or_append_left (plain_columns_of kinds starts) (artificial_columns starts) (Unknown 0 false) k.0
+      (let m = k.2 in omega (arith, m, length-append (all_unknown_columns 0 kinds) (slack_columns starts)))
       ∙ get_or_append_left (all_unknown_columns 0 kinds) (slack_columns starts) (Unknown 0 false) k.0 k.2 ∙ k.3 ∙ ap (λ v. Unknown v k.1) (zero_plus u) in
-      let within : k.0 < length all = (let m = k.2 in omega (arith, m, length-append (plain_columns_of kinds starts) (artificial_columns starts), length-append (all_unknown_columns 0 kinds) (slack_columns starts))) in
+      let within : k.0 < length all = (let m = k.2 in omega (
+        arith,
+        m,
+        length-append (plain_columns_of kinds starts) (artificial_columns starts),
+        length-append
+            (all_unknown_columns 0 kinds) (slack_columns starts),
+      )) in
       let here : entry (objective_row c) k.0 ≡ turned k.1 (entry w.numbers u) =
       get_or_append_left c.entries (c.lead ∷ pos 0 ∷ c.right ∷ []) (pos 0) k.0 (omega (arith, within, row_length))
       ∙ cost_entry_is all n w c cost (whole_small Equal f (cost_numbers n f) w formed) k.0 within ∙ ap (cost_in w.numbers) front in
@@ -193,7 +206,8 @@ module _ (n : ℕ) (kinds : List UnknownKind) (starts : List Start) (f : Form Fr
   objective_primitive =
       let g = gcd_of (objective_row c) in
       let count : length w.numbers ≡ n + 2 = whole_count Equal f (cost_numbers n f) w formed ∙ numbers_count in
-      eq-one_of_dvd-one (subst (λ m. g ∣ m) numbers_primitive (dvd-gcd_of g w.numbers (λ j d l. subst (λ z. g ∣ unsigned_abs z) (get_or_default w.numbers j (pos 0) d l) (divides_all g (gcd_of-dvd_entry (objective_row c)) j (omega (arith, l, count))))))
+      eq-one_of_dvd-one (subst (λ m. g ∣ m) numbers_primitive (dvd-gcd_of g w.numbers (λ j d l. subst (λ z. g ∣ unsigned_abs z) (get_or_default w.numbers j (pos 0) d l)
+      (divides_all g (gcd_of-dvd_entry (objective_row c)) j (omega (arith, l, count))))))
 
   pub objective_form : IsObjective (columns_of kinds starts) c
   objective_form =
@@ -228,8 +242,14 @@ module _ (n : ℕ) (kinds : List UnknownKind) (rows : List (Row Frac)) (f : Form
       let m = made_at all n 0 ws ints i r made e in
       let s = whole_of n rows ws i m.row are m.here in
       let formed = formed_by s.0.kind s.0.form (row_numbers n s.0.form) m.row s.2 in
-      let z : 0 + i ≡ i = omega arith in
-      (m.row, m.here, subst (λ k. IsMadeOf all n k m.row r) z m.made, whole_small s.0.kind s.0.form (row_numbers n s.0.form) m.row formed, factor_positive s.0.kind s.0.form (row_numbers n s.0.form) m.row formed)
+      let z : 0 + i ≡ i = omega arith in (
+        m.row,
+        m.here,
+        subst (λ k. IsMadeOf all n k m.row r) z m.made,
+        whole_small s.0.kind s.0.form (row_numbers n s.0.form) m.row formed,
+        factor_positive s.0.kind s.0.form
+            (row_numbers n s.0.form) m.row formed,
+      )
 
   ints_count : length ints ≡ length rows
   ints_count = made_count all n 0 ws ints made ∙ wholes_count n rows ws are
@@ -271,7 +291,8 @@ module _ (n : ℕ) (kinds : List UnknownKind) (rows : List (Row Frac)) (f : Form
       empty j k u jl kl e d = refl
 
       by : (i < length ints) ⊎ (length ints ≤ i) → IsTurned all (entries_at ints i)
-      by (inl l) = let h = row_facts i (get_or ints i no_row) (slice_get-get_or ints i no_row l) in subst (IsTurned all) (sym (get_or-map entries_of ints i no_row [] l)) (row_turned all n i h.0 (get_or ints i no_row) h.2 h.3)
+      by (inl l) = let h = row_facts i (get_or ints i no_row) (slice_get-get_or ints i no_row l) in subst (IsTurned all) (sym (get_or-map entries_of ints i no_row [] l))
+          (row_turned all n i h.0 (get_or ints i no_row) h.2 h.3)
       by (inr l) = subst (IsTurned all) (sym (get_or_past (map entries_of ints) i [] (omega (arith, l, length-map ints entries_of)))) empty
 
   pub program_form : IsProgram ints all objective phase

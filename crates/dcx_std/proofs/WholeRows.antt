@@ -82,7 +82,8 @@ whole_row_is kind f numbers m zs e d =
     ∙ ap (λ r. and_then r (λ ys. Ok (lowest_row kind m ys))) d
 
 -- a product that passes is told
-pub whole_row_passes : (kind : RowKind) (f : Form Frac) (numbers : List Frac) (m : ℕ) (passes : Passes) → multiple_of f ≡ Ok m → numerators (map (product_of (frac_at (whole (pos m)))) numbers) ≡ Err passes
+pub whole_row_passes : (kind : RowKind) (f : Form Frac) (numbers : List Frac) (m : ℕ) (passes : Passes) → multiple_of f ≡ Ok m
+    → numerators (map (product_of (frac_at (whole (pos m)))) numbers) ≡ Err passes
     → whole_row_of kind f numbers ≡ Err passes
 whole_row_passes kind f numbers m passes e d =
     ap (λ r. and_then r (λ k. and_then (numerators (map (product_of (frac_at (whole (pos k)))) numbers)) (λ ys. Ok (lowest_row kind k ys)))) e

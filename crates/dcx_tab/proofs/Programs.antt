@@ -72,7 +72,8 @@ module _ (rows : List IntRow) (kinds : List ColumnKind) (objective phase : CostR
   apart_by : (i j k l : ℕ) → first_basic_at rows k ≡ i → first_basic_at rows l ≡ j → k ≡ l → i ≡ j
   apart_by i j k l p q e = sym p ∙ ap (first_basic_at rows) e ∙ q
 
-  own_row_apart : (i j : ℕ) → i < j → (c : (i < length kinds - plain_count kinds) ⊎ (length kinds - plain_count kinds ≤ i)) (e : (j < length kinds - plain_count kinds) ⊎ (length kinds - plain_count kinds ≤ j)) → j < length kinds - plain_count kinds → own_row i c ≢ own_row j e
+  own_row_apart : (i j : ℕ) → i < j → (c : (i < length kinds - plain_count kinds) ⊎ (length kinds - plain_count kinds ≤ i)) (e : (j < length kinds - plain_count kinds)
+      ⊎ (length kinds - plain_count kinds ≤ j)) → j < length kinds - plain_count kinds → own_row i c ≢ own_row j e
   unfolding own_row
   own_row_apart i j h (inl l) (inl m) q same =
       let p = form.starting (plain_count kinds + i) (artificial_row i l).row (artificial_row i l).is in
@@ -131,7 +132,8 @@ module _ (rows : List IntRow) (kinds : List ColumnKind) (objective phase : CostR
       one n = omega arith
 
   -- a fact of each row of the tableau
-  pub each_row_by : (P : ℕ → Row → Type 0) → ((i : ℕ) (r : IntRow) → i < length rows → IsProgramRow kinds i r → slice_get rows i ≡ Some r → P i (tableau_row r)) → P (length rows) (objective_row objective) → P (length rows + 1) (phase_row phase)
+  pub each_row_by : (P : ℕ → Row → Type 0) → ((i : ℕ) (r : IntRow) → i < length rows → IsProgramRow kinds i r → slice_get rows i ≡ Some r → P i (tableau_row r))
+      → P (length rows) (objective_row objective) → P (length rows + 1) (phase_row phase)
       → (i : ℕ) → i < length rows + 2 → P i (row_at (first_table rows kinds objective phase).rows i)
   each_row_by P f o w i h = by i h (cases_lt i (length rows)) (cases_lt i (length rows + 1))
     where
@@ -144,7 +146,8 @@ module _ (rows : List IntRow) (kinds : List ColumnKind) (objective phase : CostR
   three_more entries a b c e = let l = length-append entries (a ∷ b ∷ c ∷ []) in omega (arith, l, e)
 
   pub widths : (i : ℕ) → i < length rows + 2 → length (row_at (first_table rows kinds objective phase).rows i) ≡ length kinds + 3
-  widths = each_row_by (λ i row. length row ≡ length kinds + 3) (λ i r h f e. three_more r.entries _ _ _ f.width) (three_more objective.entries _ _ _ form.cost.width) (three_more phase.entries _ _ _ form.sum.width)
+  widths = each_row_by (λ i row. length row ≡ length kinds + 3) (λ i r h f e. three_more r.entries _ _ _ f.width) (three_more objective.entries _ _ _ form.cost.width)
+      (three_more phase.entries _ _ _ form.sum.width)
 
   pub all_small : (i : ℕ) → i < length rows + 2 → AllSmall (row_at (first_table rows kinds objective phase).rows i)
   all_small = each_row_by (λ i row. AllSmall row) (λ i r h f e. f.small) form.cost.small form.sum.small

@@ -17,6 +17,7 @@ use Rattle.dcx_token_laws.specs.Lines.{IsOfWords, depth_of, kinds, StandsAt, Tur
 use Rattle.dcx_token_laws.specs.Words.{IsWord}
 use Rattle.dcx_token_laws.proofs.Basics.{nil_not, head_is, tail_is, right_nil}
 use Rattle.dcx_token_laws.proofs.Heads.{Fronts, first_on, second_on, fronts, none_word, none_end}
+use Rattle.dcx_token_laws.proofs.Spelled.{all_left}
 
 -- ---- kinds
 pub word_not_newline : (k : TokenKind) → IsOfWords k → k ≡ kind.Newline → ⊥
@@ -216,10 +217,6 @@ not_newline (line ms first more end rest turns places words closed together newl
 last_of : (P : ℕ → Type 0) (x : ℕ) (outer : List ℕ) → All P (outer ++ x ∷ []) → P x
 last_of P x [] h = All-head P x [] h
 last_of P x (y ∷ outer) h = last_of P x outer (All-tail P y (outer ++ x ∷ []) h)
-
-all_left : (P : ℕ → Type 0) (xs ys : List ℕ) → All P (xs ++ ys) → All P xs
-all_left P [] ys h = All-nil P
-all_left P (x ∷ xs) ys h = All-cons P x xs (All-head P x (xs ++ ys) h) (all_left P xs ys (All-tail P x (xs ++ ys) h))
 
 not_less : (d : ℕ) → d < d → ⊥
 not_less d h = absurd (omega (arith, h))

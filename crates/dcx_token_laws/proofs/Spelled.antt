@@ -6,7 +6,7 @@ use Rattle.std.specs.Char.{is_ascii_digit}
 use Rattle.std.specs.List.{All, prefix_len}
 use Rattle.std.proofs.Math.Numerals.{one-add}
 use Rattle.std.proofs.lemmas.List.{take-append-drop, length-take-le}
-use Rattle.std.proofs.lemmas.List.Elements.{All-head, All-tail}
+use Rattle.std.proofs.lemmas.List.Elements.{All-nil, All-cons, All-head, All-tail}
 use Rattle.unicode_ident.specs.Ident.{is_xid_continue}
 use Rattle.dcx_frac.specs.declared.fraction.Frac.{Frac}
 use Rattle.dcx_tokens.specs.declared.token.Keyword.{Keyword}
@@ -37,6 +37,10 @@ run_stops p (c ∷ cs) (x ∷ xs) rest e h = by (p c) refl e (λ f. run_stops p 
     by : (b : Bool) → p c ≡ b → drop (cond b (1 + prefix_len p cs) 0) (c ∷ cs) ≡ x ∷ (xs ++ rest) → (drop (prefix_len p cs) cs ≡ x ∷ (xs ++ rest) → x ∷ xs ≡ []) → x ∷ xs ≡ []
     by true is f more = more (sym (ap (λ n. drop n (c ∷ cs)) (one-add (prefix_len p cs))) ∙ f)
     by false is f more = absurd (never_both (p c) (subst (λ d. p d ≡ true) (sym (head_is c x cs (xs ++ rest) f)) (All-head (λ d. IsTrue (p d)) x xs h)) is)
+
+pub all_left : (P : ℕ → Type 0) (xs ys : List ℕ) → All P (xs ++ ys) → All P xs
+all_left P [] ys h = All-nil P
+all_left P (x ∷ xs) ys h = All-cons P x xs (All-head P x (xs ++ ys) h) (all_left P xs ys (All-tail P x (xs ++ ys) h))
 
 pub all_right : (P : ℕ → Type 0) (xs ys : List ℕ) → All P (xs ++ ys) → All P ys
 all_right P [] ys h = h

@@ -4,7 +4,7 @@ use Rattle.std.specs.Prelude.{Ok, IsTrue}
 use Rattle.std.specs.List.{All}
 use Rattle.std.proofs.Math.Numerals.{one-add}
 use Rattle.std.proofs.lemmas.List.{append-nil}
-use Rattle.std.proofs.lemmas.List.Elements.{All-nil, All-cons, All-head, All-tail}
+use Rattle.std.proofs.lemmas.List.Elements.{All-nil, All-head, All-tail}
 use Rattle.dcx_tokens.specs.declared.token.TokenKind.{TokenKind}
 use Rattle.dcx_tokens.specs.declared.token.TokenKind.TheVariants as kind
 use Rattle.dcx_tokens.specs.Front.{is_blank, ends_line, up_to_line_end}
@@ -21,7 +21,7 @@ use Rattle.dcx_token_laws.proofs.Steps as steps
 use Rattle.dcx_token_laws.proofs.Steps.{IsToken, Step}
 use Rattle.dcx_token_laws.proofs.Totals.{token_long}
 use Rattle.dcx_token_laws.proofs.Basics.{is_char, never_both}
-use Rattle.dcx_token_laws.proofs.Spelled.{all_right}
+use Rattle.dcx_token_laws.proofs.Spelled.{all_left, all_right}
 
 -- no line begins in front of blanks at the end of these characters
 abbrev pub NotLed : List ℕ → Type 0
@@ -43,10 +43,6 @@ starts_more P not before xs y ys e (inr (z, is)) h = not (last_has P z xs 10 y y
 
 pub ten_blank : is_blank 10 ≡ true → ⊥
 ten_blank e = cc
-
-pub all_left : (P : ℕ → Type 0) (xs ys : List ℕ) → All P (xs ++ ys) → All P xs
-all_left P [] ys h = All-nil P
-all_left P (x ∷ xs) ys h = All-cons P x xs (All-head P x (xs ++ ys) h) (all_left P xs ys (All-tail P x (xs ++ ys) h))
 
 -- behind what begins with no blank and has no line feed
 not_led : (front : List ℕ) (c : ℕ) (ws : List ℕ) → is_blank c ≡ false → HasNoFeed (c ∷ ws) → NotLed (front ++ c ∷ ws)

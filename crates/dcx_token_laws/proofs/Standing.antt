@@ -32,7 +32,8 @@ use Rattle.dcx_token_laws.proofs.Forms.{IsFormed, IsLed, begins, never_ok, nests
 use Rattle.dcx_token_laws.proofs.Heads.{Fronts, first_on, second_on, fronts}
 use Rattle.dcx_token_laws.proofs.Numerals.{by_spelling, told}
 use Rattle.dcx_token_laws.proofs.Spots as spots
-use Rattle.dcx_token_laws.proofs.Spots.{Spot, spot_formed, starts_more, ten_blank, all_left}
+use Rattle.dcx_token_laws.proofs.Spelled.{all_left}
+use Rattle.dcx_token_laws.proofs.Spots.{Spot, spot_formed, starts_more, ten_blank}
 use Rattle.dcx_token_laws.proofs.Stacks.{marks_outside, LastOf, is_last, is_inner, last_of, some_there}
 use Rattle.dcx_token_laws.proofs.Steps as steps
 use Rattle.dcx_token_laws.proofs.Steps.{IsToken, Step, stepped}

@@ -294,7 +294,8 @@ module _ (words : List (List ℕ)) (told : Option Files) (risen : Type 0) where
       (λ os count. run.Solved word.Setting a.work.problem.sense os count) (task_takes (tasks.Resolve warm) script name limit a.work.problem free)
       (λ os count. refl) old new r (λ os count k. k) h
   does_at tasks.Certificate script name bytes limit a settings old new r form there gives free are (inl (e, few)) =
-      subst (Causes words told risen old new) (sym e) (solving (certificate script name limit) a.work settings form (accepted_work told (certificate script name limit) bytes a there gives) refl are few)
+      subst (Causes words told risen old new) (sym e) (solving (certificate script name limit) a.work settings form
+      (accepted_work told (certificate script name limit) bytes a there gives) refl are few)
   does_at tasks.Certificate script name bytes limit a settings old new r form there gives free are (inr (c, stopped, is, flag, steps, e)) =
       subst (Causes words told risen old new) (sym e) (inl (record {
         script = script;
@@ -376,7 +377,8 @@ module _ (words : List (List ℕ)) (told : Option Files) (risen : Type 0) where
         steps = steps.mapped (has.map, has.is_map);
       })
   ranged script name parameter bytes limit a old new r form there gives (inl (free, wanting e few)) =
-      subst (Causes words told risen old new) (sym e) (beginning (range script name parameter limit) a.work parameter form (accepted_work told (range script name parameter limit) bytes a there gives) refl few)
+      subst (Causes words told risen old new) (sym e) (beginning (range script name parameter limit) a.work parameter form
+      (accepted_work told (range script name parameter limit) bytes a there gives) refl few)
 
   pub certified : (script name file : List ℕ) (p : Problem) (settings : List Pairs) (sections : Sections) (list : List Section) (n certs : ℕ) → command_of words ≡ Some (certify script name file) →
       GivesSections told script name file p settings sections → list ≡ sections.list → ArePassed p settings list → certs ≡ count_by is_cert list → Causes words told risen n n (run.Certified certs)
@@ -419,9 +421,11 @@ module _ (words : List (List ℕ)) (told : Option Files) (risen : Type 0) where
       OrWhole ⊤ a.work.problem (TriesAt a.work size limit old new) old new r → Causes words told risen old new r
   tried size limit a old new r form gives (inl (free, inl (e, same))) = subst (Causes words told risen old new) (sym e) (none same)
   tried size limit a old new r form gives (inl (free, inr (settings, are, h))) =
-      solved_so words told risen (trial size limit) form a.work (accepted_work told (trial size limit) (trial_text size) a refl gives) settings are (λ os count. run.Trial size os) free (λ os count. refl)
+      solved_so words told risen (trial size limit) form a.work (accepted_work told (trial size limit) (trial_text size) a refl gives) settings are
+      (λ os count. run.Trial size os) free (λ os count. refl)
       old new r (λ os count k. k) h
-  tried size limit a old new r form gives (inr (refuses, h)) = whole_ends words told risen (trial size limit) form a.work (accepted_work told (trial size limit) (trial_text size) a refl gives) old new r tt h
+  tried size limit a old new r form gives (inr (refuses, h)) = whole_ends words told risen (trial size limit) form a.work
+      (accepted_work told (trial size limit) (trial_text size) a refl gives) old new r tt h
 
 -- ---- words
 -- a run with a cause tells the usage line exactly where the words are no plain form
@@ -442,7 +446,8 @@ wanting_caused words told risen old new (run.Refused r) h = at_most_beginning wo
 wanting_caused words told risen old new (run.Checked c) h = none h.1
 wanting_caused words told risen old new (run.Solved word sense outcomes warm) h = solved_within words told old new (run.Solved word sense outcomes warm) h
 wanting_caused words told risen old new (run.Certificates text stopped) (inl h) =
-    solving (certificate h.script h.name h.limit) h.asked.work h.asked.settings h.asked.form h.asked.problem refl h.asked.are_of (no_more_of h.asked.work.problem (length h.asked.settings) old new h.steps)
+    solving (certificate h.script h.name h.limit) h.asked.work h.asked.settings h.asked.form h.asked.problem refl h.asked.are_of
+    (no_more_of h.asked.work.problem (length h.asked.settings) old new h.steps)
 wanting_caused words told risen old new (run.Certificates text stopped) (inr (h, whole, same)) = none same
 wanting_caused words told risen old new (run.Certified n) h = none h.1
 wanting_caused words told risen old new (run.CertRefused section fault) h = none h.1

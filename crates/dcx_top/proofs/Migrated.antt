@@ -112,7 +112,10 @@ refused_alike : (words other : List (List ℕ)) (files : Files) (a b : Command) 
     → Twins a b → Causes words (Some files) (Rose before now) old new r
     → Causes other (Some files) (Rose past later) from to s → IsAnswered r → IsAnswered s → Refuses r → r ≡ s
 refused_alike words other files a b before now old new past later from to (run.Refused t) s form meant twins h k i j is =
-    one_refusal (run.Refused t) s tt (only_run other (Some files) (Rose before now) from from (run.Refused t) (refused_moved words other (Some files) a b form meant twins t h.0, inl refl) tt s past later from to k j)
+    one_refusal (run.Refused t) s tt (only_run other (Some files) (Rose before now) from from (run.Refused t) (
+      refused_moved words other (Some files) a b form meant twins t h.0,
+      inl refl,
+    ) tt s past later from to k j)
 refused_alike words other files a b before now old new past later from to (run.CertRefused section fault) s form meant twins h k i j is =
     one_refusal (run.CertRefused section fault) s tt
     (only_run other (Some files) (Rose before now) from from (run.CertRefused section fault)

@@ -68,23 +68,28 @@ module _ (words : List (List ℕ)) (files : Files) where
     same_bytes : (a b : List ℕ) → files f.name ≡ Some a → files g.name ≡ Some b → a ≡ b
     same_bytes a b h k = same_Some a b (sym h ∙ ap files same_name ∙ k)
 
-    text_here : (x : Sections) (a b : List ℕ) → a ≡ b → IsTextOf (problem_outline f.asked.work.problem) (length f.asked.settings) a x → IsTextOf (problem_outline g.asked.work.problem) (length g.asked.settings) b x
+    text_here : (x : Sections) (a b : List ℕ) → a ≡ b → IsTextOf (problem_outline f.asked.work.problem) (length f.asked.settings) a x
+        → IsTextOf (problem_outline g.asked.work.problem) (length g.asked.settings) b x
     text_here x a b e h = moved (λ w ss. IsTextOf (problem_outline w.problem) (length ss) b x) (subst (λ z. IsTextOf (problem_outline f.asked.work.problem) (length f.asked.settings) z x) e h)
 
     -- the sections of a certificate are one
     same_sections : (x y : Sections) → HasTextOf (Some files) f.name f.asked.work.problem f.asked.settings x → HasTextOf (Some files) g.name g.asked.work.problem g.asked.settings y → x ≡ y
     same_sections x y h k =
-        (one_text (problem_outline g.asked.work.problem) (length g.asked.settings) (length g.asked.settings) k.bytes x y (text_here x h.bytes k.bytes (same_bytes h.bytes k.bytes h.are_told k.are_told) h.text) k.text).0
+        (one_text (problem_outline g.asked.work.problem) (length g.asked.settings) (length g.asked.settings) k.bytes x y
+        (text_here x h.bytes k.bytes (same_bytes h.bytes k.bytes h.are_told k.are_told) h.text) k.text).0
 
     -- what is read isn't misread
-    pub read_or_misread : (x : Sections) (section : ℕ) (fault : CertFault) → HasTextOf (Some files) f.name f.asked.work.problem f.asked.settings x → IsMisread (Some files) g.name g.asked.work.problem (length g.asked.settings) section fault → ⊥
+    pub read_or_misread : (x : Sections) (section : ℕ) (fault : CertFault) → HasTextOf (Some files) f.name f.asked.work.problem f.asked.settings x
+        → IsMisread (Some files) g.name g.asked.work.problem (length g.asked.settings) section fault → ⊥
     read_or_misread x section fault h k = k.misfit.no_text x (text_here x h.bytes k.bytes (same_bytes h.bytes k.bytes h.are_told k.are_told) h.text)
 
     -- what is misread is misread at one line
-    misread_once : (m n : ℕ) (p q : CertFault) → IsMisread (Some files) f.name f.asked.work.problem (length f.asked.settings) m p → IsMisread (Some files) g.name g.asked.work.problem (length g.asked.settings) n q → (m ≡ n) × (p ≡ q)
+    misread_once : (m n : ℕ) (p q : CertFault) → IsMisread (Some files) f.name f.asked.work.problem (length f.asked.settings) m p
+        → IsMisread (Some files) g.name g.asked.work.problem (length g.asked.settings) n q → (m ≡ n) × (p ≡ q)
     misread_once m n p q h k =
         let same = same_bytes h.bytes k.bytes h.are_told k.are_told in
-        let here = moved (λ a ss. IsMisfit (problem_outline a.problem) (length ss) k.bytes h.line) (subst (λ z. IsMisfit (problem_outline f.asked.work.problem) (length f.asked.settings) z h.line) same h.misfit) in
+        let here = moved (λ a ss. IsMisfit (problem_outline a.problem) (length ss) k.bytes h.line)
+        (subst (λ z. IsMisfit (problem_outline f.asked.work.problem) (length f.asked.settings) z h.line) same h.misfit) in
         let line = one_line (problem_outline g.asked.work.problem) (length g.asked.settings) k.bytes h.line k.line here k.misfit in
         (h.none ∙ sym k.none, h.fault ∙ ap faults.Form line ∙ sym k.fault)
 
@@ -96,7 +101,8 @@ module _ (words : List (List ℕ)) (files : Files) where
     read_so : (P : Work → List Pairs → Sections → Type 0) → P f.files.asked.work f.files.asked.settings x → P g.files.asked.work g.files.asked.settings y
     read_so P h = subst (λ (z : Sections). P g.files.asked.work g.files.asked.settings z) one_sections (moved c d f.files g.files (λ w ss. P w ss x) h)
 
-    failed_once : (m n : ℕ) (p q : CertFault) → IsFirstRefused f.files.asked.work.problem f.files.asked.settings x.list m p → IsFirstRefused g.files.asked.work.problem g.files.asked.settings y.list n q → (m ≡ n) × (p ≡ q)
+    failed_once : (m n : ℕ) (p q : CertFault) → IsFirstRefused f.files.asked.work.problem f.files.asked.settings x.list m p
+        → IsFirstRefused g.files.asked.work.problem g.files.asked.settings y.list n q → (m ≡ n) × (p ≡ q)
     failed_once m n p q h k =
         (refusals_are_one g.files.asked.work.problem g.files.asked.settings y.list).one m n p q (read_so (λ a ss z. IsFirstRefused a.problem ss z.list m p) h) k
 

@@ -11,7 +11,8 @@ use Rattle.dcx_top.specs.Commands.{limit_of}
 use Rattle.dcx_top.specs.Runs.{IsFilteredRun}
 use Rattle.dcx_top.proofs.OneAsked.{asked_once}
 
-pub filtered_once : (words : List (List ℕ)) (files : Files) (old new was now : ℕ) (os qs : List FilterOutcome) → IsFilteredRun words (Some files) old new os → IsFilteredRun words (Some files) was now qs → AreAlikeFilters os qs
+pub filtered_once : (words : List (List ℕ)) (files : Files) (old new was now : ℕ) (os qs : List FilterOutcome) → IsFilteredRun words (Some files) old new os
+    → IsFilteredRun words (Some files) was now qs → AreAlikeFilters os qs
 filtered_once words files old new was now os qs h k =
     filters_are_one h.asked.work.problem h.limit h.asked.settings os qs h.asked.problem.accepted h.are
     (asked_once words files HasNoWhole HasNoWhole (λ c w ss. AreFilterOutcomes w.problem (limit_of c) ss qs) (iis h.script h.name h.limit) (iis k.script k.name k.limit) h.asked k.asked k.are)

@@ -67,7 +67,8 @@ module _ (words : List (List ℕ)) (files : Files) where
       → IsRangedRun words (Some files) old new name sense os → ⊥
   refused_or_ranged r old new name sense os h k =
       let command = range k.script k.name name k.limit in
-      never_refused files command k.asked.work k.asked.settings r k.asked.problem (λ refusing. k.asked.marks) (allowed command k.asked.work.problem name refl k.ranged) k.asked.are_of (short_of_none command refl)
+      never_refused files command k.asked.work k.asked.settings r k.asked.problem (λ refusing. k.asked.marks) (allowed command k.asked.work.problem name refl k.ranged)
+      k.asked.are_of (short_of_none command refl)
       (refuses words files command k.asked.form r h)
 
   -- ---- runs that read a certificate

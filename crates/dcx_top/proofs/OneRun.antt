@@ -25,7 +25,8 @@ use Rattle.dcx_top.proofs.OneKind.{Asks, may_be, same_kind, ask_checks, ask_solv
 use Rattle.dcx_top.proofs.OneSolved.{solved_once}
 use Rattle.dcx_top.proofs.OneFiltered.{filtered_once}
 use Rattle.dcx_top.proofs.OneRanged.{ranged_once}
-use Rattle.dcx_top.proofs.OneRefusal.{command_of_refused, refused_once, refused_or_checked, refused_or_solved, refused_or_filtered, refused_or_ranged, refused_or_written, refused_or_migrated, refused_or_certified, refused_or_cert_refused}
+use Rattle.dcx_top.proofs.OneRefusal.{command_of_refused, refused_once, refused_or_checked, refused_or_solved, refused_or_filtered, refused_or_ranged}
+use Rattle.dcx_top.proofs.OneRefusal.{refused_or_written, refused_or_migrated, refused_or_certified, refused_or_cert_refused}
 use Rattle.dcx_top.proofs.OneCertificate.{written_once, migrated_once, certified_once, cert_refused_once, certified_or_refused, migrated_or_refused}
 
 module _ (words : List (List ℕ)) (files : Files) where
@@ -133,7 +134,8 @@ module _ (words : List (List ℕ)) (files : Files) where
     of_certified n run.ReadFault h k j = absurd j
     of_certified n run.Memory h k j = absurd j
 
-    of_filtered : (old new : ℕ) (os : List FilterOutcome) (s : Run) → IsFilteredRun words (Some files) old new os → Causes words (Some files) rose was now s → IsAnswered s → AreOneRun (run.Filtered os) s
+    of_filtered : (old new : ℕ) (os : List FilterOutcome) (s : Run) → IsFilteredRun words (Some files) old new os → Causes words (Some files) rose was now s → IsAnswered s
+        → AreOneRun (run.Filtered os) s
     of_filtered old new os run.Usage h k j = apart filters (ask_filters words files old new os h) run.Usage refl k
     of_filtered old new os (run.Refused t) h k j = absurd (refused_or_filtered words files t old new os k.0 h)
     of_filtered old new os (run.Checked d) h k j = apart filters (ask_filters words files old new os h) (run.Checked d) refl k
@@ -147,7 +149,8 @@ module _ (words : List (List ℕ)) (files : Files) where
     of_filtered old new os run.ReadFault h k j = absurd j
     of_filtered old new os run.Memory h k j = absurd j
 
-    of_ranged : (old new : ℕ) (name : List ℕ) (sense : Sense) (os : List RangeOutcome) (s : Run) → IsRangedRun words (Some files) old new name sense os → Causes words (Some files) rose was now s → IsAnswered s → AreOneRun (run.Ranged name sense os) s
+    of_ranged : (old new : ℕ) (name : List ℕ) (sense : Sense) (os : List RangeOutcome) (s : Run) → IsRangedRun words (Some files) old new name sense os
+        → Causes words (Some files) rose was now s → IsAnswered s → AreOneRun (run.Ranged name sense os) s
     of_ranged old new name sense os run.Usage h k j = apart ranges (ask_ranges words files old new name sense os h) run.Usage refl k
     of_ranged old new name sense os (run.Refused t) h k j = absurd (refused_or_ranged words files t old new name sense os k.0 h)
     of_ranged old new name sense os (run.Checked d) h k j = apart ranges (ask_ranges words files old new name sense os h) (run.Checked d) refl k
@@ -170,7 +173,8 @@ module _ (words : List (List ℕ)) (files : Files) where
     not_refused : {A : Type 0} (k : Kind) → Asks words k → is_reading k ≡ false → (n : ℕ) (f : CertFault) → IsCertRefusedRun words (Some files) n f → A
     not_refused k a off n f h = no_other words files k a rose was was (run.CertRefused n f) off (h, refl)
 
-    of_bytes : (old new : ℕ) (b : List ℕ) (z : Bool) (s : Run) → AreBytesOf words (Some files) old new b z → Causes words (Some files) rose was now s → IsAnswered s → AreOneRun (run.Certificates b z) s
+    of_bytes : (old new : ℕ) (b : List ℕ) (z : Bool) (s : Run) → AreBytesOf words (Some files) old new b z → Causes words (Some files) rose was now s → IsAnswered s
+        → AreOneRun (run.Certificates b z) s
     of_bytes old new b z run.Usage (inl h) k j = uncommanded (certificate h.script h.name h.limit) k.0 h.asked.form
     of_bytes old new b z run.Usage (inr (h, off, still)) k j = uncommanded (migrate h.script h.settings h.name) k.0 h.passed.reads.files.asked.form
     of_bytes old new b z (run.Refused t) (inl h) k j = absurd (refused_or_written words files t old new b z k.0 h)

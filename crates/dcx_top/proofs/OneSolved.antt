@@ -24,11 +24,13 @@ module _ (words : List (List ℕ)) (files : Files) where
   no_count p limit ss os m (inl (none, h)) = h.1
   no_count p limit ss os m (inr (has, are, is)) = is
 
-  uncounted : (p : Problem) (limit : ℕ) (ss : List Pairs) (os qs : List Outcome) (m n : Option ℕ) → AreFound false p limit ss os m → AreFound false p limit ss qs n → AreOneFound os m qs n → AreAlike os qs
+  uncounted : (p : Problem) (limit : ℕ) (ss : List Pairs) (os qs : List Outcome) (m n : Option ℕ) → AreFound false p limit ss os m → AreFound false p limit ss qs n
+      → AreOneFound os m qs n → AreAlike os qs
   uncounted p limit ss os qs m n h k alike =
       subst (λ (x : Option ℕ). AreOneFound os x qs None) (no_count p limit ss os m h) (subst (λ (y : Option ℕ). AreOneFound os m qs y) (no_count p limit ss qs n k) alike)
 
-  tell_one : (command : Command) (sense : Sense) (os qs : List Outcome) (m n : Option ℕ) (r s : Run) → (is_warm_command command ≡ false → AreAlike os qs) → TellsOutcomes command sense os m r → TellsOutcomes command sense qs n s → AreOneFound os m qs n →
+  tell_one : (command : Command) (sense : Sense) (os qs : List Outcome) (m n : Option ℕ) (r s : Run) → (is_warm_command command ≡ false → AreAlike os qs)
+      → TellsOutcomes command sense os m r → TellsOutcomes command sense qs n s → AreOneFound os m qs n →
       AreOneRun r s
   tell_one (check script) sense os qs m n r s without h k alike = absurd h
   tell_one (solve script limit) sense os qs m n r s without h k alike = told_solved word.Solve sense os qs m n h k alike

@@ -41,7 +41,8 @@ names_shown (p ∷ ps) (v ∷ vs) e =
     let rest : variables_of ps ≡ map (λ (w : Variable). (w.name, w.shape)) vs = cc in
     ap₂ ◌∷◌ (ap (λ (r : List ℕ × Shape). r.0) first) (names_shown ps vs rest)
 
-one_point : (p : Problem) (x y : Pairs) → variables_of x ≡ map (λ (v : Variable). (v.name, v.shape)) p.variables → variables_of y ≡ map (λ (v : Variable). (v.name, v.shape)) p.variables → IsSamePoint p x y → x ≡ y
+one_point : (p : Problem) (x y : Pairs) → variables_of x ≡ map (λ (v : Variable). (v.name, v.shape)) p.variables
+    → variables_of y ≡ map (λ (v : Variable). (v.name, v.shape)) p.variables → IsSamePoint p x y → x ≡ y
 one_point p x y h k same = same_pairs x y same.names (subst (IsDistinct same_name) (sym names) (variables_distinct p)) sides (by_names p x y names same)
   where
     names : names_of x ≡ map (λ (v : Variable). v.name) p.variables

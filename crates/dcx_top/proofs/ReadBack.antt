@@ -27,11 +27,13 @@ module _ (words : List (List ℕ)) (files : Files) (script settings name : List 
   with_none : {A : Type 0} (c : Command) → command_of words ≡ Some c → certificate_name c ≡ None → A
   with_none c is none = absurd (none-some name (sym none ∙ ap certificate_name (same_Some c (certify script settings name) (sym is ∙ form))))
 
-  tried : (sections : Sections) → ReadsSections words (Some files) (certify script settings name) sections → (risen : Type 0) (old new : ℕ) (r : Run) → Causes words (Some files) risen old new r → IsAnswered r → IsTried r
+  tried : (sections : Sections) → ReadsSections words (Some files) (certify script settings name) sections → (risen : Type 0) (old new : ℕ) (r : Run)
+      → Causes words (Some files) risen old new r → IsAnswered r → IsTried r
   tried sections reads risen old new run.Usage h i = absurd (none-some (certify script settings name) (sym h.0 ∙ form))
   tried sections reads risen old new (run.Refused t) h i = absurd (refused_or_read words files t (certify script settings name) sections h.0 reads)
   tried sections reads risen old new (run.Checked c) h i = with_none (check h.0.script) h.0.form refl
-  tried sections reads risen old new (run.Solved w z os u) h i = with_none h.command h.asked.form (of_outcomes h.command h.asked.work.problem.sense h.outcomes h.warm (run.Solved w z os u) h.tells).certificate
+  tried sections reads risen old new (run.Solved w z os u) h i = with_none h.command h.asked.form (of_outcomes h.command h.asked.work.problem.sense h.outcomes h.warm
+      (run.Solved w z os u) h.tells).certificate
   tried sections reads risen old new (run.Certificates text stopped) (inl h) i = with_none (certificate h.script h.name h.limit) h.asked.form refl
   tried sections reads risen old new (run.Certificates text stopped) (inr (h, off, still)) i =
       absurd (not_migrate h.script h.settings h.name script settings name (same_Some (migrate h.script h.settings h.name) (certify script settings name) (sym h.passed.reads.files.asked.form ∙ form)))
@@ -97,7 +99,8 @@ module _ (writing reading : List (List ℕ)) (script settings name : List ℕ) (
     read_back : (risen : Type 0) (from to : ℕ) (r : Run) → Causes reading (Some g) risen from to r → IsAnswered r → IsReadBack text r
     read_back risen from to r k i = record {
       long = λ l. (right_verdict reading (Some g) risen from to r k i (certify script settings name) h.asked.problem.bytes h.asked.are_of.bytes text form has).refused.1
-          (long_certificate (without_fault (Some f) (certificate h.script h.name h.limit) h.asked.work h.asked.problem) (λ n is. (h.asked.are_of.lines, h.asked.are_of.spelled)) (record { name = name; asked = refl; long = l }));
+          (long_certificate (without_fault (Some f) (certificate h.script h.name h.limit) h.asked.work h.asked.problem) (λ n is. (h.asked.are_of.lines, h.asked.are_of.spelled))
+          (record { name = name; asked = refl; long = l }));
       read = λ few. tried reading g script settings name form h.sections (reads few) risen from to r k i;
     }
 

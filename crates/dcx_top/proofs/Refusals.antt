@@ -136,7 +136,8 @@ module _ (words : List (List ℕ)) (files : Files) (command : Command) (form : c
   refuses r (bad_settings c a name e g free allows is (inl (long, (bytes, there, more)))) =
       of_command r c e (in_settings a name bytes g free allows is there (record { fault = reads.TooLong start_of_text.place; refused = no_settings_text (more, refl); told = long }))
   refuses r (bad_settings c a name e g free allows is (inr (bytes, there, h))) = of_command r c e (in_settings a name bytes g free allows is there h)
-  refuses r (long_certificate c f (long, (bytes, there, more))) = of_command r c f.asked.form (in_length f.asked.work f.asked.settings f.name bytes f.asked.problem f.asked.marks f.asked.are_of f.named there more long)
+  refuses r (long_certificate c f (long, (bytes, there, more))) = of_command r c f.asked.form (in_length f.asked.work f.asked.settings f.name bytes f.asked.problem f.asked.marks
+      f.asked.are_of f.named there more long)
 
 -- what a script is refused for, where a variable is to be whole, is one
 one_whole : (p : Problem) (r t : Refusal) → IsRefusedForWhole p r → IsRefusedForWhole p t → r ≡ t

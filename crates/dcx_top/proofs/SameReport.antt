@@ -1,5 +1,6 @@
 -- Two runs of one command over the same contents tell the same.
-use Rattle.std.proofs.Common.{◌≡◌, ◌≢◌, ℕ, ◌+◌, Bool, true, false, ◌||◌, ◌&&◌, not, cond, if◌then◌else◌, List, [], ◌∷◌, ◌++◌, codes, decimal, count_by, Option, Some, None, refl, sym, ap, ap₂, subst, ◌∙◌, true≢false}
+use Rattle.std.proofs.Common.{◌≡◌, ◌≢◌, ℕ, ◌+◌, Bool, true, false, ◌||◌, ◌&&◌, not, cond, if◌then◌else◌, List, [], ◌∷◌, ◌++◌, codes, decimal, count_by, Option}
+use Rattle.std.proofs.Common.{Some, None, refl, sym, ap, ap₂, subst, ◌∙◌, true≢false}
 use Rattle.std.specs.List.{AllByRecursion, AllZip, list_any, list_all, flat_map, enumerate_from}
 use Rattle.std.proofs.lemmas.List.Elements.{All-from_recursion}
 use Rattle.std.proofs.lemmas.List.Sums.{sum_by-cons}
@@ -230,6 +231,7 @@ same_contents_same_report words None None before now old new past later from to 
     reported r s (only_run words None (Rose before now) old new r h size limit form (answered r i) s past later from to k (answered s j)) i j
 same_contents_same_report words (Some f) (Some g) before now old new past later from to r s same h k i j =
     let one : f ≡ g = λ d name. same name d in
-    reported r s (only_run words (Some f) (Rose before now) old new r h (answered r i) s past later from to (subst (λ (z : Files). Causes words (Some z) (Rose past later) from to s) (sym one) k) (answered s j)) i j
+    reported r s (only_run words (Some f) (Rose before now) old new r h (answered r i) s past later from to
+    (subst (λ (z : Files). Causes words (Some z) (Rose past later) from to s) (sym one) k) (answered s j)) i j
 same_contents_same_report words (Some f) None before now old new past later from to r s same h k i j = absurd same
 same_contents_same_report words None (Some g) before now old new past later from to r s same h k i j = absurd same

@@ -133,14 +133,16 @@ module _ (files : Files) (command : Command) (script settings certificate : List
     filtered os h =
         let c = iis h.script h.name h.limit in
         let same = same_command words files command form c h.asked.form in
-        goes_on (run.Filtered os) tt (λ t. t) c same h.asked.work h.asked.settings h.asked.problem (λ refusing. h.asked.marks) (unasked c h.asked.work.problem refl) h.asked.are_of (short_without c same refl)
+        goes_on (run.Filtered os) tt (λ t. t) c same h.asked.work h.asked.settings h.asked.problem (λ refusing. h.asked.marks) (unasked c h.asked.work.problem refl) h.asked.are_of
+        (short_without c same refl)
 
     ranged : (name : List ℕ) (sense : Sense) (os : List RangeOutcome) → IsRangedRun words (Some files) old new name sense os
         → IsVerdictOn command script settings certificate (run.Ranged name sense os)
     ranged name sense os h =
         let c = range h.script h.name name h.limit in
         let same = same_command words files command form c h.asked.form in
-        goes_on (run.Ranged name sense os) tt (λ t. t) c same h.asked.work h.asked.settings h.asked.problem (λ refusing. h.asked.marks) (allowed c h.asked.work.problem name refl h.ranged) h.asked.are_of
+        goes_on (run.Ranged name sense os) tt (λ t. t) c same h.asked.work h.asked.settings h.asked.problem (λ refusing. h.asked.marks)
+        (allowed c h.asked.work.problem name refl h.ranged) h.asked.are_of
         (short_without c same refl)
 
     -- a certificate that is read isn't too long

@@ -47,5 +47,6 @@ no_files name = None
 -- where the run is answered and files are told, each run with a cause tells the same; and so does each run of a trial, whatever is told
 abbrev pub IsOnlyRun : List (List ℕ) → Option Files → Run → Type 0
 IsOnlyRun words None r =
-    (size limit : ℕ) → command_of words ≡ Some (trial size limit) → IsAnswered r → (other : Run) (before now old new : ℕ) → Causes words None (Rose before now) old new other → IsAnswered other → AreOneRun r other
+    (size limit : ℕ) → command_of words ≡ Some (trial size limit) → IsAnswered r → (other : Run) (before now old new : ℕ) → Causes words None (Rose before now) old new other
+    → IsAnswered other → AreOneRun r other
 IsOnlyRun words (Some files) r = IsAnswered r → (other : Run) (before now old new : ℕ) → Causes words (Some files) (Rose before now) old new other → IsAnswered other → AreOneRun r other

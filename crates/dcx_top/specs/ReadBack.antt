@@ -21,6 +21,7 @@ pub record IsReadBack (text : List ℕ) (r : Run) : Type 0 where
 
 -- so it is of the bytes of a certificate, where the files of both runs agree on the script and on the settings file
 abbrev pub CertificatesAreReadBack : Type 0
-CertificatesAreReadBack = (writing reading : List (List ℕ)) (script settings name : List ℕ) (limit : ℕ) (f g : Files) (before now old new past later from to : ℕ) (text : List ℕ) (stopped : Bool) (r : Run) →
+CertificatesAreReadBack = (writing reading : List (List ℕ)) (script settings name : List ℕ) (limit : ℕ) (f g : Files) (before now old new past later from to : ℕ) (text : List ℕ)
+    (stopped : Bool) (r : Run) →
     command_of writing ≡ Some (certificate script settings limit) → command_of reading ≡ Some (certify script settings name) → g script ≡ f script → g settings ≡ f settings → g name ≡ Some text →
     Causes writing (Some f) (Rose before now) old new (run.Certificates text stopped) → Causes reading (Some g) (Rose past later) from to r → IsAnswered r → IsReadBack text r

@@ -157,7 +157,8 @@ pub data IsCertRefusedRun (words : List (List ℕ)) (told : Option Files) (secti
 pub data IsRefusedRun (words : List (List ℕ)) (told : Option Files) (r : Refusal) : Type 0 where
   long_script : (command : Command) (name : List ℕ) → command_of words ≡ Some command → script_name command ≡ Some name → IsLong told Script name r → IsRefusedRun words told r
   bad_script : (command : Command) (bytes : List ℕ) → command_of words ≡ Some command → IsScriptOf told command bytes → RefusesScript bytes r → IsRefusedRun words told r
-  for_whole : (command : Command) (work : Work) → command_of words ≡ Some command → IsAcceptedWork told command work → RefusesWhole command → IsRefusedForWhole work.problem r → IsRefusedRun words told r
+  for_whole : (command : Command) (work : Work) → command_of words ≡ Some command → IsAcceptedWork told command work → RefusesWhole command → IsRefusedForWhole work.problem r
+      → IsRefusedRun words told r
   for_range : (command : Command) (work : Work) (name : List ℕ) → command_of words ≡ Some command → IsAcceptedWork told command work → HasNoWhole work.problem → parameter_name command ≡ Some name
       → IsRefusedForRange work.problem name r
       → IsRefusedRun words told r

@@ -27,5 +27,6 @@ pub record AreReportedAlike (r s : Run) : Type 0 where
 
 -- so it is of any two runs with their causes of the same words
 abbrev pub SameContentsSameReport : Type 0
-SameContentsSameReport = (words : List (List ℕ)) (told other : Option Files) (before now old new past later from to : ℕ) (r s : Run) → TellTheSame words told other → Causes words told (Rose before now) old new r →
+SameContentsSameReport = (words : List (List ℕ)) (told other : Option Files) (before now old new past later from to : ℕ) (r s : Run) → TellTheSame words told other
+    → Causes words told (Rose before now) old new r →
     Causes words other (Rose past later) from to s → LacksNothing r → LacksNothing s → AreReportedAlike r s

@@ -1,10 +1,9 @@
 -- Each node of a problem over a tree is reached, as nodes of disciplined convex programming are.
-use Rattle.std.proofs.Common.{◌≡◌, inl, inr, ℕ, suc, ◌+◌, ◌<◌, arith, true, List, [], ◌∷◌, length, map, Option, Some, None, option_map, slice_get, refl, sym, ap, ◌∙◌, subst}
+use Rattle.std.proofs.Common.{◌≡◌, inl, inr, ℕ, suc, ◌+◌, ◌<◌, arith, true, List, [], ◌∷◌, length, Option, Some, None, option_map, slice_get, refl, sym, ap, ◌∙◌, subst}
 use Rattle.std.specs.Option.{unwrap_or}
 use Rattle.std.specs.List.{range_with_len}
 use Rattle.std.proofs.lemmas.Option.{slice_get-map, slice_get-get_or}
 use Rattle.std.proofs.lemmas.List.FromFn.{length-range_with_len, get_or-range_with_len}
-use Rattle.dcx_shape.specs.declared.shape.Sides.{Sides}
 use Rattle.dcx_arena.specs.Nodes.{IsNode}
 use Rattle.dcx_arena.specs.Gather.{has}
 use Rattle.dcx_arena.specs.Unfold.{Leads}
@@ -15,17 +14,13 @@ use Rattle.dcx_convex.specs.Problems.{IsReached, Objective, Left, Right, Argumen
 use Rattle.dcx_convex.specs.Problems as problems
 use Rattle.dcx_call.specs.declared.call.Call.{Call}
 use Rattle.dcx_call.specs.declared.call.Call.TheVariants as calls
-use Rattle.dcx_call.specs.Calls.{own_sides, shape_of}
+use Rattle.dcx_call.specs.Calls.{shape_of}
 use Rattle.dcx_tree.specs.declared.problem.Problem.{Problem}
 use Rattle.dcx_tree.specs.declared.constraint.Constraint.{Constraint}
 use Rattle.dcx_tree.specs.Nodes.{Node, head_of, arg_sides, convex_node}
 use Rattle.dcx_tree.specs.Problems.{roots_of, sides_in}
 use Rattle.dcx_tree.specs.Meaning.{names_in, convex_constraint, convex_problem}
-
--- what has its own sides has no arguments
-no_args : (own sides : Sides) (f : ℕ → Sides) (ids : List ℕ) (a : ℕ) → own_sides own (map f ids) ≡ Some sides → has ids a ≡ true → ⊥
-no_args own sides f [] a e h = cc
-no_args own sides f (i ∷ ids) a e h = cc
+use Rattle.dcx_tree.proofs.Arguments.{no_args}
 
 -- number i of those in order is i
 pub range_at : (n i : ℕ) → i < n → slice_get (range_with_len 0 n) i ≡ Some i

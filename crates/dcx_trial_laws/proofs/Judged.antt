@@ -1,14 +1,14 @@
 -- What the rules say of nodes, where parameters are affine, by the expressions for which the nodes stand.
 use Rattle.std.proofs.Common.{◌≡◌, ℕ, List, [], ◌∷◌, ◌++◌, map, Ok, option_map, refl, sym, ap, ap₂, subst, ◌∙◌}
 use Rattle.std.specs.List.{slice_get}
-use Rattle.std.proofs.lemmas.Option.{slice_get_within, slice_get-map}
+use Rattle.std.proofs.lemmas.Option.{slice_get-map}
 use Rattle.dcx_shape.specs.declared.shape.Sides.{Sides}
 use Rattle.dcx_shape.specs.declared.shape.Sides.TheVariants.{Scalar}
 use Rattle.dcx_shape.specs.declared.place.Place.{Place}
 use Rattle.dcx_affine.specs.declared.pairing.Pairing.TheVariants.{Times, MatTimes, Over}
 use Rattle.dcx_arena.specs.Nodes.{Node, AreNodes}
 use Rattle.dcx_arena.specs.Unfold.{Expressions, none, one, Unfold}
-use Rattle.dcx_arena.proofs.Nodes.{in_front, at_end}
+use Rattle.dcx_arena.proofs.Nodes.{at_end}
 use Rattle.dcx_call.specs.declared.call.Call.{Call}
 use Rattle.dcx_call.specs.declared.call.Call.TheVariants as calls
 use Rattle.dcx_call.specs.Calls.{shape_of}
@@ -19,6 +19,7 @@ use Rattle.dcx_tree.proofs.Lawful.{tree_lawful}
 use Rattle.dcx_script_values.specs.Values.{State}
 use Rattle.dcx_script_values.specs.Nodes.{push}
 use Rattle.dcx_script_laws.proofs.Pushed.{Pushed, found, added, node, pushed, Grows}
+use Rattle.dcx_script_laws.proofs.Standing.{unfold-more}
 
 -- ---- of an expression
 abbrev no_names : Names
@@ -58,14 +59,6 @@ told names nodes are (i ∷ is) (one call args others) (n, at, same, a, o) =
     ap₂ (λ g gs. g ∷ gs) here (told names nodes are is others o)
 
 -- ---- of nodes in a list that grows
--- what unfolds in front of more nodes
-unfold-more : (nodes more : List (Node Call)) (is : List ℕ) (t : Expressions Call) → Unfold nodes is t → Unfold (nodes ++ more) is t
-unfold-more nodes more [] none h = tt
-unfold-more nodes more [] (one call args others) h = absurd h
-unfold-more nodes more (i ∷ is) none h = absurd h
-unfold-more nodes more (i ∷ is) (one call args others) (n, at, same, a, o) =
-    (n, in_front nodes more i (slice_get_within nodes i n at) ∙ at, same, unfold-more nodes more n.args args a, unfold-more nodes more is others o)
-
 -- these nodes stand for expressions of which this is said
 pub record Stand (nodes : List (Node Call)) (is : List ℕ) (gs : List Judgement) : Type 0 where
   pub tree : Expressions Call

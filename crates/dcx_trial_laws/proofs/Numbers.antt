@@ -13,7 +13,8 @@ use Rattle.dcx_frac.specs.Results.{dec_fits}
 use Rattle.dcx_frac.proofs.Integers.{whole_fits, over_unit}
 use Rattle.dcx_atom.specs.Formed.{frac_at}
 use Rattle.dcx_tokens.specs.Number.{frac_at as fraction_of}
-use Rattle.dcx_tokens.specs.Number.{Spelling, spelling_at, fraction_digits, fraction_len, exponent_digits, exponent_len, is_negative, mantissa_len, value_of, is_in_limits, frac_of_spelling, number_at, is_spoiled, digits}
+use Rattle.dcx_tokens.specs.Number.{Spelling, spelling_at, fraction_digits, fraction_len, exponent_digits, exponent_len, is_negative, mantissa_len, value_of}
+use Rattle.dcx_tokens.specs.Number.{is_in_limits, frac_of_spelling, number_at, is_spoiled, digits}
 use Rattle.dcx_tokens.specs.Front.{run_of}
 use Rattle.dcx_token_laws.proofs.Numerals.{number_by, by_spelling}
 use Rattle.dcx_token_laws.proofs.Longer.{number_longer}

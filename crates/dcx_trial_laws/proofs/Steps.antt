@@ -1,5 +1,6 @@
 -- What the step that reads a piece leaves.
-use Rattle.std.proofs.Common.{◌≡◌, ℕ, ◌+◌, ◌-◌, ◌^◌, ◌<◌, pos, Bool, true, false, cond, eqb, ◌&&◌, List, [], ◌∷◌, ◌++◌, length, take, decimal, append-nil, one-add, length-append, Option, Some, None, is_none, refl, ap, ◌∙◌, subst, arith}
+use Rattle.std.proofs.Common.{◌≡◌, ℕ, ◌+◌, ◌-◌, ◌^◌, ◌<◌, pos, Bool, true, false, cond, eqb, ◌&&◌, List, [], ◌∷◌, ◌++◌, length, take, decimal, append-nil}
+use Rattle.std.proofs.Common.{one-add, length-append, Option, Some, None, is_none, refl, ap, ◌∙◌, subst, arith}
 use Rattle.std.specs.Prelude.{Result, Ok}
 use Rattle.std.specs.List.{list_all}
 use Rattle.std.specs.Str.Parse.{AllDigits}
@@ -30,7 +31,8 @@ use Rattle.dcx_token_laws.proofs.Firsts.{short_len}
 use Rattle.dcx_token_laws.proofs.Steps.{line_end_front, blank_front, name_front, number_front, sign_front_is, name_token, number_token, sign_token}
 use Rattle.dcx_trial_laws.proofs.Numbers.{number_is}
 use Rattle.dcx_trial_laws.proofs.Pieces.{Spot, next_of, further, begins_token, is_single, begins_word, word_goes_on, ends_word, ends_number}
-use Rattle.dcx_trial_laws.proofs.Tests.{type_of, Position, Front, halves, front_is, no_line_end, one_is, moved_single, run_none, run_word, word_begins, no_word_begins, is_digit, digit_is, digits_single, digit_begins, unspoiled, no_number}
+use Rattle.dcx_trial_laws.proofs.Tests.{type_of, Position, Front, halves, front_is, no_line_end, one_is, moved_single, run_none, run_word, word_begins}
+use Rattle.dcx_trial_laws.proofs.Tests.{no_word_begins, is_digit, digit_is, digits_single, digit_begins, unspoiled, no_number}
 
 -- how far a line is read: it has a token, or nothing stands in it
 abbrev pub Line : Type 0

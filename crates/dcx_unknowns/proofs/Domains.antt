@@ -1,11 +1,9 @@
 -- The domain of a problem: each variable that is listed stands in the tree under the number of its name.
 use Rattle.std.proofs.Common.{◌≡◌, ℕ, zero, suc, ◌≤◌, false, if◌then◌else◌, List, [], ◌∷◌, map, Some, option_map, sym, ap, subst, ◌∙◌}
-use Rattle.std.proofs.Props.{props}
 use Rattle.std.specs.Prelude.{slice_get}
 use Rattle.std.specs.List.{AllByRecursion, IsDistinct}
 use Rattle.std.proofs.Math.Logic.{∥∥₁_elim}
 use Rattle.std.proofs.lemmas.Option.{none-some, same_Some, slice_get-map, slice_get_within, get_or_from_slice_get}
-use Rattle.dcx_math.proofs.Orders.{≤ℚ_prop, ≡ℚ_prop}
 use Rattle.dcx_shape.specs.declared.shape.Sides.{Sides}
 use Rattle.dcx_point.specs.Pairs.{same_name}
 use Rattle.dcx_point.proofs.Puts.{same_name-refl}
@@ -13,7 +11,8 @@ use Rattle.dcx_call.specs.declared.attribute.Variable.{Variable}
 use Rattle.dcx_call.specs.declared.call.Call.{Call}
 use Rattle.dcx_call.specs.declared.call.Call.TheVariants as calls
 use Rattle.dcx_convex.specs.Nodes as convex
-use Rattle.dcx_convex.specs.Nodes.{Numbers, Point, Keeps, VariableKeeps}
+use Rattle.dcx_convex.specs.Nodes.{Point, VariableKeeps}
+use Rattle.dcx_convex.proofs.Domains.{keeps_prop, variable_prop}
 use Rattle.dcx_tree.specs.declared.problem.Problem.{Problem}
 use Rattle.dcx_tree.specs.Nodes.{variable_attribute, head_of, arg_sides, convex_node, convex_nodes, number_in}
 use Rattle.dcx_tree.specs.Problems.{IsListed, HasCall, AreDeclared}
@@ -41,19 +40,6 @@ number_of (n ∷ names) zero name d e =
     ap (λ b. if b then 0 else suc (number_in names name)) (ap (same_name n) (sym (same_Some n name e)) ∙ same_name-refl n)
 number_of (n ∷ names) (suc k) name d e =
     ap (λ b. if b then 0 else suc (number_in names name)) (name_apart n names k name d.0 e) ∙ ap suc (number_of names k name d.1 e)
-
-keeps_prop : (a : convex.Attribute) (s : Sides) (x : Numbers) → IsProp (Keeps a s x)
-keeps_prop convex.Free s x = hlevel props
-keeps_prop convex.Nonneg s x = hlevel ≤ℚ_prop
-keeps_prop convex.Nonpos s x = hlevel ≤ℚ_prop
-keeps_prop convex.Symmetric s x = hlevel ≡ℚ_prop
-keeps_prop convex.Diag s x = hlevel ≡ℚ_prop
-
-variable_prop : (x : Point) (h : convex.Head) → IsProp (VariableKeeps x h)
-variable_prop x (convex.Variable d) = keeps_prop d.attribute d.sides (x d.number)
-variable_prop x (convex.Parameter d) = hlevel props
-variable_prop x (convex.Constant ys) = hlevel props
-variable_prop x (convex.Apply c) = hlevel props
 
 module _ (p : Problem) where
   -- ---- where it is known what is declared

@@ -32,7 +32,8 @@ module _ (columns : List ℕ) where
 
   module _ (limit : ℕ) (u : Table) (m : ℕ) where
     -- what follows at a tableau where a column is taken
-    pub next : (t : Table) (n : ℕ) → Installs columns limit u m t n → (r c : ℕ) → IsTaken columns t c → IsGiving columns t c r → IsAllowed limit t n r c × Installs columns limit u m (after_pivot r c t) (n + 1)
+    pub next : (t : Table) (n : ℕ) → Installs columns limit u m t n → (r c : ℕ) → IsTaken columns t c → IsGiving columns t c r → IsAllowed limit t n r c
+        × Installs columns limit u m (after_pivot r c t) (n + 1)
     next t n (Installed a) r c x y = absurd (x.not_basic (a c x.listed))
     next t n (Takes t' n' s d x' y' z rest) r c x y =
         let e = taken_one t' d c x' x in
@@ -71,24 +72,29 @@ module _ (columns : List ℕ) where
   once limit u m v k t n (Takes t' n' s d x' y' z rest) y = once limit u m v k (after_pivot s d t') (n' + 1) rest (next limit v k t' n' y s d x' y').1
 
   -- ---- along the loop
-  pub alike_next : (limit : ℕ) (t : Table) (n : ℕ) (v : Table) (k r c : ℕ) → InstallsAlike columns limit t n v k → IsTaken columns v c → IsGiving columns v c r → IsAllowed limit v k r c → InstallsAlike columns limit t n (after_pivot r c v) (k + 1)
+  pub alike_next : (limit : ℕ) (t : Table) (n : ℕ) (v : Table) (k r c : ℕ) → InstallsAlike columns limit t n v k → IsTaken columns v c → IsGiving columns v c r
+      → IsAllowed limit v k r c → InstallsAlike columns limit t n (after_pivot r c v) (k + 1)
   alike_next limit t n v k r c a x y z = record {
     onward = λ u m i. a.onward u m (Takes v k r c x y z i);
     back = λ u m i. (next limit u m v k (a.back u m i) r c x y).1;
   }
 
-  pub refused : (limit : ℕ) (t : Table) (n : ℕ) (v : Table) (k r c : ℕ) → InstallsAlike columns limit t n v k → IsTaken columns v c → IsGiving columns v c r → ¬ (IsAllowed limit v k r c) → NeverInstalls columns limit t n
+  pub refused : (limit : ℕ) (t : Table) (n : ℕ) (v : Table) (k r c : ℕ) → InstallsAlike columns limit t n v k → IsTaken columns v c → IsGiving columns v c r
+      → ¬ (IsAllowed limit v k r c) → NeverInstalls columns limit t n
   refused limit t n v k r c a x y f u m i = f (next limit u m v k (a.back u m i) r c x y).0
 
-  pub none_gives : (limit : ℕ) (t : Table) (n : ℕ) (v : Table) (k c : ℕ) → InstallsAlike columns limit t n v k → IsTaken columns v c → ((r : ℕ) → ¬ (IsGiving columns v c r)) → NeverInstalls columns limit t n
+  pub none_gives : (limit : ℕ) (t : Table) (n : ℕ) (v : Table) (k c : ℕ) → InstallsAlike columns limit t n v k → IsTaken columns v c → ((r : ℕ) → ¬ (IsGiving columns v c r))
+      → NeverInstalls columns limit t n
   none_gives limit t n v k c a x none u m i = stuck limit u m v k (a.back u m i) c x none
 
   -- the listed columns below c stay basic, and c becomes so
-  basic_more_by : (t : Table) (r c k : ℕ) → IsSound t → IsGiving columns t c r → ((k : ℕ) → k < c → IsListed columns k → IsBasic t k) → k < c + 1 → IsListed columns k → (k ≡ c) ⊎ (k ≢ c) → IsBasic (after_pivot r c t) k
+  basic_more_by : (t : Table) (r c k : ℕ) → IsSound t → IsGiving columns t c r → ((k : ℕ) → k < c → IsListed columns k → IsBasic t k) → k < c + 1 → IsListed columns k
+      → (k ≡ c) ⊎ (k ≢ c) → IsBasic (after_pivot r c t) k
   basic_more_by t r c k s y f h l (inl e) = subst (IsBasic (after_pivot r c t)) (sym e) (now_basic t r c s (is_pivot t c r y))
   basic_more_by t r c k s y f h l (inr n) = still_basic t r c k (λ e. y.may.unlisted (subst (IsListed columns) (sym e) l)) (f k (omega (arith, n, h)) l)
 
-  pub basic_more : (t : Table) (r c : ℕ) → IsSound t → IsGiving columns t c r → ((k : ℕ) → k < c → IsListed columns k → IsBasic t k) → (k : ℕ) → k < c + 1 → IsListed columns k → IsBasic (after_pivot r c t) k
+  pub basic_more : (t : Table) (r c : ℕ) → IsSound t → IsGiving columns t c r → ((k : ℕ) → k < c → IsListed columns k → IsBasic t k) → (k : ℕ) → k < c + 1 → IsListed columns k
+      → IsBasic (after_pivot r c t) k
   basic_more t r c s y f k h l = basic_more_by t r c k s y f h l (cases_eq k c)
 
   already_by : (t : Table) (c k : ℕ) → IsBasic t c → ((k : ℕ) → k < c → IsListed columns k → IsBasic t k) → k < c + 1 → IsListed columns k → (k ≡ c) ⊎ (k ≢ c) → IsBasic t k

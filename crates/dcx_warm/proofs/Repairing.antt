@@ -75,7 +75,8 @@ once limit u m v k t n (Repaired f) h y = done limit v k u m y f
 once limit u m v k t n (Turns t' n' s d x' y' z rest) h y = once limit u m v k (after_pivot s d t') (n' + 1) rest (sound_next t' s d h (is_pivot t' s d x' y')) (next limit v k t' n' y h s d x' y').1
 
 -- ---- along the loop
-pub alike_next : (limit : ℕ) (t : Table) (n : ℕ) (v : Table) (k r c : ℕ) → RepairsAlike limit t n v k → IsSound v → IsLeaving v r → IsEntering v r c → IsAllowed limit v k r c → RepairsAlike limit t n (after_pivot r c v) (k + 1)
+pub alike_next : (limit : ℕ) (t : Table) (n : ℕ) (v : Table) (k r c : ℕ) → RepairsAlike limit t n v k → IsSound v → IsLeaving v r → IsEntering v r c → IsAllowed limit v k r c
+    → RepairsAlike limit t n (after_pivot r c v) (k + 1)
 alike_next limit t n v k r c a h x y z = record {
   onward = λ u m i. a.onward u m (Turns v k r c x y z i);
   back = λ u m i. (next limit u m v k (a.back u m i) h r c x y).1;

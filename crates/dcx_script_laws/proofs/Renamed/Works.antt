@@ -1,11 +1,12 @@
 -- What is handed out of a script under other names.
-use Rattle.std.proofs.Common.{◌≡◌, ℕ, suc, List, [], ◌∷◌, map, length, Option, Some, None, option_map, Result, Ok, refl, sym, ap, ap₂, subst, ◌∙◌, arith}
+use Rattle.std.proofs.Common.{◌≡◌, ℕ, List, [], ◌∷◌, map, length, Option, Some, None, option_map, Result, Ok, refl, sym, ap, ap₂, subst, ◌∙◌}
 use Rattle.std.specs.Prelude.{filter}
 use Rattle.std.specs.List.{slice_get, flat_map}
 use Rattle.std.proofs.lemmas.List.{length-map}
 use Rattle.std.proofs.lemmas.Option.{slice_get-map, same_Some}
 use Rattle.dcx_arena.specs.Nodes.{Node}
 use Rattle.dcx_arena.specs.Gather.{postorder, order_of, StandFor, IsRenamed, IsGathered}
+use Rattle.dcx_arena.proofs.OneGathering.{one_list}
 use Rattle.dcx_arena.proofs.Unfolds.{IsOnce, once_all}
 use Rattle.dcx_point.specs.Pairs.{Pairs}
 use Rattle.dcx_call.specs.declared.attribute.Variable.{Variable}
@@ -33,13 +34,6 @@ use Rattle.dcx_script_laws.proofs.Renamed.Declarations.{standing_renamed}
 use Rattle.dcx_script_laws.proofs.Renamed.Lines.{meaning_follows}
 
 -- ---- what is the same
--- lists that are as long, and have the same at each place
-lists_at : {X : Type 0} (xs ys : List X) → length xs ≡ length ys → ((k : ℕ) (x y : X) → slice_get xs k ≡ Some x → slice_get ys k ≡ Some y → x ≡ y) → xs ≡ ys
-lists_at [] [] e h = refl
-lists_at [] (y ∷ ys) e h = absurd (omega arith)
-lists_at (x ∷ xs) [] e h = absurd (omega arith)
-lists_at (x ∷ xs) (y ∷ ys) e h = ap₂ (λ a l. a ∷ l) (h 0 x y refl refl) (lists_at xs ys (omega arith) (λ k. h (suc k)))
-
 -- what stands for the same in an order that has each once
 stand_one : (order there other here : List ℕ) → IsOnce order → StandFor order there here → StandFor order other here → there ≡ other
 stand_one order [] [] here once a b = refl
@@ -108,7 +102,7 @@ module _ (rename : List ℕ → List ℕ) (nodes : List (Node Call)) (roots : Li
       node_renamed_at m n l x a b e
 
   pub tree_renamed : there ≡ map (node_renamed rename) here
-  tree_renamed = lists_at there (map (node_renamed rename) here) (h.count ∙ ap length same_order ∙ sym g.count ∙ sym (length-map here (node_renamed rename))) at
+  tree_renamed = one_list there (map (node_renamed rename) here) (h.count ∙ ap length same_order ∙ sym g.count ∙ sym (length-map here (node_renamed rename))) at
     where
       by : (k : ℕ) (x y : Node Call) (o : Option (Node Call)) → slice_get here k ≡ o → slice_get there k ≡ Some x → option_map (node_renamed rename) o ≡ Some y → x ≡ y
       by k x y None q p e = absurd (cc)

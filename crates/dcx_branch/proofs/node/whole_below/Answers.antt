@@ -3,8 +3,9 @@ use Rattle.std.proofs.Common.{◌≡◌, ◌≢◌, ◌<◌, ◌^◌, sym, ap, a
 use Rattle.std.specs.Int.{w128, int_div_euclid}
 use Rattle.std.proofs.lemmas.Int.{fits_signed_from_abs}
 use Rattle.dcx_frac.specs.Frac.{num_of, den_of, value}
+use Rattle.dcx_frac.proofs.Integers.{whole_value}
 use Rattle.dcx_branch.specs.Between.{IsBetween}
-use Rattle.dcx_branch.proofs.Between.{one_whole, divided_between, divided_room}
+use Rattle.dcx_branch.proofs.Between.{divided_between, divided_room}
 use Rattle.dcx_branch.proofs.Rooms.{room_fits}
 use Rattle.dcx_branch.proofs.node.whole_below.Goals as goal
 
@@ -14,7 +15,7 @@ returns-then-den-eq1-clause-below c =
     let small : unsigned_abs c.den-den.result < 2 ^ 127 = subst (λ z. unsigned_abs z < 2 ^ 127) (sym c.den-den.ensures) f.den_fits in
     let fits = fits_signed_from_abs w128 c.den-den.result small in
     let one : c.den-den.result ≡ pos 1 = simp to_z-of_z at (ap (to_z w128) c.if-den-eq1.true) in
-    (num_of f, one_whole f (sym c.den-den.ensures ∙ one))
+    (num_of f, whole_value f (sym c.den-den.ensures ∙ one))
 
 pub returns-else-den-eq1-clause-below : goal.returns-else-den-eq1-clause-below
 returns-else-den-eq1-clause-below c =

@@ -1,36 +1,34 @@
--- The rows that are lent are those of the program: so what is solved answers it, and each stop is one of the setting.
-use Rattle.std.proofs.Common.{sym, subst}
-use Rattle.dcx_lp_solve.specs.Solved.{IsSolved, Stops as RowsStop}
-use Rattle.dcx_graph.proofs.Mapped.{given_rows}
+-- The rows that are lent are those of the program: what is made of them is its scaled program, and what stops that stops the setting.
+use Rattle.std.proofs.Common.{sym, ap, ◌∙◌, subst}
+use Rattle.dcx_std.specs.IntegerRows.{IsMade, IsStopOf}
+use Rattle.dcx_lp_solve.specs.Stops.{run_stop}
+use Rattle.dcx_graph.proofs.Mapped.{given_rows, known_of}
 use Rattle.dcx_cache.specs.Answers.{Stops}
-use Rattle.dcx_cache.proofs.Answered.{is_answered}
-use Rattle.dcx_cache.proofs.Stopped.{run_stops, reading_stops}
+use Rattle.dcx_cache.proofs.Stopped.{rows_stops}
 use Rattle.dcx_cache.proofs.answering.answered.Goals as goal
+
+pub answered_scaled-requires-clause-scaled : goal.answered_scaled-requires-clause-scaled
+answered_scaled-requires-clause-scaled c =
+    let q = c.args.reduced.program in
+    let kinds = c.rows.result.now.kinds in
+    let rows = c.rows.result.now.rows in
+    let objective = c.rows.result.now.objective in
+    let same = given_rows q kinds rows objective c.rows.ensures.kinds c.rows.ensures.rows c.rows.ensures.objective in
+    record {
+      fits = c.requires.fits;
+      gives = c.requires.program;
+      known = known_of q kinds rows objective c.rows.ensures.kinds c.rows.ensures.rows c.rows.ensures.objective c.rows.result.now.rows_known c.rows.result.now.objective_known;
+      made = subst (λ r. IsMade r c.in-Ok.program) same (c.in-Ok.ensures {u = tt}).made;
+    }
 
 pub returns-in-Err-clause-stops : goal.returns-in-Err-clause-stops
 returns-in-Err-clause-stops c =
     let p = c.args.problem.now in
     let s = c.args.setting.now in
     let q = c.args.reduced.program in
-    let same = given_rows q c.rows.result.now.kinds c.rows.result.now.rows c.rows.result.now.objective c.rows.ensures.kinds c.rows.ensures.rows c.rows.ensures.objective in
-    subst (Stops p s c.args.limit) (sym c.run_stop.ensures)
-    (run_stops p s c.args.limit c.requires.fits q c.requires.program c.in-Err.stop (subst (λ r. RowsStop c.args.limit r c.in-Err.stop) same c.in-Err.ensures.stops))
-
-pub map_back-requires : goal.map_back-requires
-map_back-requires c =
-    let p = c.args.problem.now in
-    let s = c.args.setting.now in
-    let q = c.args.reduced.program in
-    let same = given_rows q c.rows.result.now.kinds c.rows.result.now.rows c.rows.result.now.objective c.rows.ensures.kinds c.rows.ensures.rows c.rows.ensures.objective in
-    let is = subst (λ r. IsSolved c.args.limit r c.in-Ok.solved) same c.in-Ok.ensures.solved in
-    record { answered = is_answered p s c.requires.accepted c.requires.fits c.args.limit q c.in-Ok.solved c.requires.program is }
-
-pub returns-in-Err-map_back-clause-stops : goal.returns-in-Err-map_back-clause-stops
-returns-in-Err-map_back-clause-stops c =
-    let p = c.args.problem.now in
-    let s = c.args.setting.now in
-    let q = c.args.reduced.program in
-    let same = given_rows q c.rows.result.now.kinds c.rows.result.now.rows c.rows.result.now.objective c.rows.ensures.kinds c.rows.ensures.rows c.rows.ensures.objective in
-    let is = subst (λ r. IsSolved c.args.limit r c.in-Ok.solved) same c.in-Ok.ensures.solved in
-    subst (Stops p s c.args.limit) (sym c.reading_stop.ensures)
-    (reading_stops p s c.args.limit c.requires.fits q c.requires.program c.in-Ok.solved is c.in-Err-map_back.stop c.in-Err-map_back.ensures.stops)
+    let kinds = c.rows.result.now.kinds in
+    let rows = c.rows.result.now.rows in
+    let objective = c.rows.result.now.objective in
+    let same = given_rows q kinds rows objective c.rows.ensures.kinds c.rows.ensures.rows c.rows.ensures.objective in
+    let is = subst (λ r. IsStopOf r c.in-Err.stop) same (c.in-Err.ensures {u = tt}).stops in
+    subst (Stops p s c.args.limit) (sym (c.run_stop.ensures ∙ ap run_stop c.rows_stop.ensures)) (rows_stops p s c.args.limit c.requires.fits q c.requires.program c.in-Err.stop is)

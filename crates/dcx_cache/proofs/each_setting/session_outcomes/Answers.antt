@@ -33,7 +33,8 @@ loop-setting-preserved g c =
 pub loop-setting-init : goal.loop-setting-init
 loop-setting-init g c =
     record {
-      outcomes = subst (λ os. EndInTurn (g.E.EachSetting.ends c.args.each.now c.args.session.now.problem) [] (c.args.session.now.columns, c.args.tally.now) os (c.args.session.now.columns, c.args.tally.now))
+      outcomes = subst (λ os. EndInTurn (g.E.EachSetting.ends c.args.each.now c.args.session.now.problem) [] (c.args.session.now.columns, c.args.tally.now) os
+          (c.args.session.now.columns, c.args.tally.now))
           (sym c.in_ok-outcomes.ensures.items) refl;
       same = refl;
       counted = λ h. refl;

@@ -38,7 +38,8 @@ apply-requires-clause-args c =
     let first = first_id ids c.index.result.now one c.index.ensures in
     let there = subst (λ (k : ℕ). array_at c.args.arrays.now k ≡ Some c.kept_value.result.now) (sym first) c.kept_value.ensures in
     subst (TakesArguments a.problem.now a.setting.now a.ray.now c.args.node.0) (sym c.from_ref-only.ensures.value)
-    (only_takes a.problem.now a.setting.now a.ray.now c.args.node.0 (positions ids) c.kept_value.result.now c.in-Ok.ensures all (c.requires.kept.steep (get_or (positions ids) 0 0) c.kept_value.result.now there))
+    (only_takes a.problem.now a.setting.now a.ray.now c.args.node.0 (positions ids) c.kept_value.result.now c.in-Ok.ensures all
+    (c.requires.kept.steep (get_or (positions ids) 0 0) c.kept_value.result.now there))
 
 pub is_first_fixed-requires-clause-there : goal.is_first_fixed-requires-clause-there
 is_first_fixed-requires-clause-there c =

@@ -21,7 +21,8 @@ returns-clause-row c =
     let w = d.width ∙ b.width ∙ a.width ∙ c.put_entries.ensures.width ∙ c.requires.width in
     row_is m i (xs ++ c.args.z ∷ c.args.w ∷ c.args.right ∷ []) (omega (arith, l, w))
     (λ j lt. line_read (λ k. number_at m i k) xs c.args.z c.args.w c.args.right n (n + 1) (n + 2) refl refl refl
-    (λ k k_in. d.same i k (λ h. let e = h.1 in omega (arith, e, k_in)) ∙ b.same i k (λ h. let e = h.1 in omega (arith, e, k_in)) ∙ a.same i k (λ h. let e = h.1 in omega (arith, e, k_in)) ∙ c.put_entries.ensures.there k k_in)
+    (λ k k_in. d.same i k (λ h. let e = h.1 in omega (arith, e, k_in)) ∙ b.same i k (λ h. let e = h.1 in omega (arith, e, k_in))
+    ∙ a.same i k (λ h. let e = h.1 in omega (arith, e, k_in)) ∙ c.put_entries.ensures.there k k_in)
     (d.same i n (λ h. let e = h.1 in omega (arith, e)) ∙ b.same i n (λ h. let e = h.1 in omega (arith, e)) ∙ a.there ∙ to_z-of_z fz)
     (d.same i (n + 1) (λ h. let e = h.1 in omega (arith, e)) ∙ b.there ∙ to_z-of_z fw)
     (d.there ∙ to_z-of_z fr) j (omega (arith, lt, w)))

@@ -31,11 +31,14 @@ returns-clause-row c =
     let m = c.args.links.now in
     let a = c.mix_row.new.links in
     let by = turned c.args.column (row_of m c.args.r) in
-    c.reduce_row.ensures.row ∙ ap (λ (x : Row). primitive_part x) (cleared_row m a c.args.i c.args.r c.args.column c.args.factors.row c.args.factors.by c.mix_row.ensures.width c.requires.some c.requires.factors c.mix_row.ensures.mixed)
+    c.reduce_row.ensures.row ∙ ap (λ (x : Row). primitive_part x) (cleared_row m a c.args.i c.args.r c.args.column c.args.factors.row c.args.factors.by c.mix_row.ensures.width
+    c.requires.some c.requires.factors c.mix_row.ensures.mixed)
     ∙ sym (eliminated_some c.args.column by (row_of m c.args.i) c.requires.met)
 
 pub returns-clause-same : goal.returns-clause-same
-returns-clause-same c = λ k other. row_same c.args.links.now c.reduce_row.new.links k (c.reduce_row.ensures.width ∙ c.mix_row.ensures.width) (λ j. c.reduce_row.ensures.same k j other ∙ c.mix_row.ensures.same k j other)
+returns-clause-same c = λ k other. row_same c.args.links.now c.reduce_row.new.links k (c.reduce_row.ensures.width ∙ c.mix_row.ensures.width)
+    (λ j. c.reduce_row.ensures.same k j other ∙ c.mix_row.ensures.same k j other)
 
 pub returns-clause-bounded : goal.returns-clause-bounded
-returns-clause-bounded c = mixed_bounds c.args.links.now c.mix_row.new.links c.reduce_row.new.links c.args.i c.args.r c.args.factors.row c.args.factors.by c.mix_row.ensures.width c.reduce_row.ensures.row c.mix_row.ensures.mixed
+returns-clause-bounded c = mixed_bounds c.args.links.now c.mix_row.new.links c.reduce_row.new.links c.args.i c.args.r c.args.factors.row c.args.factors.by c.mix_row.ensures.width
+    c.reduce_row.ensures.row c.mix_row.ensures.mixed

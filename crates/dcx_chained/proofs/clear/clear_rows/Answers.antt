@@ -53,7 +53,8 @@ factors_of-factors-requires-clause-small c =
     let b = n.below in
     let i_in : i < m.height = omega (arith, b, h) in
     let f : SFits w128 c.in-Some.met.value = search rules in
-    let small : AllSmall (row_of c.rows.links i) = small_row c.args.column (turned c.args.column (row_of m c.args.r)) (row_of m i) (row_of c.rows.links i) (v.rows i i_in n.other) (as_long m i c.args.r c.args.column c.requires.some) (c.requires.small i i_in) (c.requires.formed i i_in n.other) in
+    let small : AllSmall (row_of c.rows.links i) = small_row c.args.column (turned c.args.column (row_of m c.args.r)) (row_of m i) (row_of c.rows.links i) (v.rows i i_in n.other)
+    (as_long m i c.args.r c.args.column c.requires.some) (c.requires.small i i_in) (c.requires.formed i i_in n.other) in
     simp to_z-of_z (subst (λ z. unsigned_abs z < 2 ^ 127) n.met (small c.args.column))
 
 pub clear_row-requires-clause-factors : goal.clear_row-requires-clause-factors
@@ -63,7 +64,8 @@ clear_row-requires-clause-factors c =
     let n = c.in-Some.ensures in
     let f : SFits w128 c.get-pivot.result = search rules in
     let g : SFits w128 c.in-Some.met.value = search rules in
-    let p : entry (row_of c.rows.links c.args.r) c.args.column ≡ c.get-pivot.result = ap (λ (w : Row). entry w c.args.column) v.pivot ∙ entry-row_of m c.args.r c.args.column c.requires.column ∙ sym c.get-pivot.ensures in
+    let p : entry (row_of c.rows.links c.args.r) c.args.column ≡ c.get-pivot.result = ap (λ (w : Row). entry w c.args.column) v.pivot
+    ∙ entry-row_of m c.args.r c.args.column c.requires.column ∙ sym c.get-pivot.ensures in
     (simp to_z-of_z at c.factors_of-factors.ensures.clears) c.args.column (row_of c.rows.links c.args.r) (row_of c.rows.links c.in-Some.met.at) p n.met
 
 pub clear_row-requires-clause-factor : goal.clear_row-requires-clause-factor
@@ -86,7 +88,8 @@ clear_row-requires-clause-formed c =
     let b = n.below in
     let i_in : i < m.height = omega (arith, b, h) in
     let by = turned c.args.column (row_of m c.args.r) in
-    let was = was_row c.args.column by (row_of m i) (row_of c.rows.links i) (v.rows i i_in n.other) (as_long m i c.args.r c.args.column c.requires.some) (turned-positive c.args.column (row_of m c.args.r) c.requires.some) (λ z. n.some (sym n.met ∙ z)) in
+    let was = was_row c.args.column by (row_of m i) (row_of c.rows.links i) (v.rows i i_in n.other) (as_long m i c.args.r c.args.column c.requires.some)
+    (turned-positive c.args.column (row_of m c.args.r) c.requires.some) (λ z. n.some (sym n.met ∙ z)) in
     subst (λ (w : Row). IsRowFormed c.args.column (turned c.args.column w) (row_of c.rows.links i)) (sym v.pivot) (subst (IsRowFormed c.args.column by) (sym was) (c.requires.formed i i_in n.other))
 
 -- the row is within what bounds the mixed numbers of sized rows
@@ -102,7 +105,8 @@ resize-are_narrow-requires-clause-mixed c = λ t bound bounds j.
     let h = v.height in
     let b = c.in-Some.ensures.below in
     let i_in : i < m.height = omega (arith, b, h) in
-    let pivot : unsigned_abs (entry (row_of now r) j) ≤ c.size_of-pivot_size.result = subst (λ (w : Row). unsigned_abs (entry w j) ≤ c.size_of-pivot_size.result) (sym v.pivot) (c.size_of-pivot_size.ensures j) in
+    let pivot : unsigned_abs (entry (row_of now r) j) ≤ c.size_of-pivot_size.result = subst (λ (w : Row). unsigned_abs (entry w j) ≤ c.size_of-pivot_size.result) (sym v.pivot)
+    (c.size_of-pivot_size.ensures j) in
     let x : unsigned_abs (entry (row_of next i) j) ≤ unsigned_abs (f.row *ℤ entry (row_of now i) j -ℤ f.by *ℤ entry (row_of now r) j) = c.clear_row.ensures.bounded j in
     let y : unsigned_abs (f.row *ℤ entry (row_of now i) j -ℤ f.by *ℤ entry (row_of now r) j) ≤ bound = bounds (entry (row_of now i) j) (entry (row_of now r) j) ((v.narrow t i i_in).within j) pivot in
     omega (arith, x, y)
@@ -133,7 +137,8 @@ rows-smaller c =
     let in_next : column < next.width = let h = cl.width in omega (arith, in_column, h) in
     let some : entry (row_of now c.args.r) column ≢ pos 0 = subst (λ (x : Row). entry x column ≢ pos 0) (sym v.pivot) c.requires.some in
     let zero : number_at next i column ≡ pos 0 = sym (entry-row_of next i column in_next) ∙ ap (λ (x : Row). entry x column) cl.row
-    ∙ eliminated_there column (turned column (row_of now c.args.r)) (row_of now i) (as_long now i c.args.r column some) (turned-positive column (row_of now c.args.r) some) (λ z. n.some (sym n.met ∙ z)) in
+    ∙ eliminated_there column (turned column (row_of now c.args.r)) (row_of now i) (as_long now i c.args.r column some) (turned-positive column (row_of now c.args.r) some)
+    (λ z. n.some (sym n.met ∙ z)) in
     let met : number_at now i column ≢ pos 0 = λ z. n.some (sym n.met ∙ entry-row_of now i column in_column ∙ z) in
     subst (λ k. some_count (listed k (λ q. number_at next q column)) < some_count (listed now.height (λ q. number_at now q column))) (sym cl.height)
     (some_count-less now.height (λ q. number_at now q column) (λ q. number_at next q column) i n.below met zero (λ q lt other. number_of_row next now q q column in_next in_column (cl.same q other)))
@@ -152,7 +157,8 @@ rows-preserved c =
     let i_in : i < m.height = omega (arith, b, h) in
     let column = c.args.column in
     let by = turned column (row_of m c.args.r) in
-    let was = was_row column by (row_of m i) (row_of now i) (v.rows i i_in n.other) (as_long m i c.args.r column c.requires.some) (turned-positive column (row_of m c.args.r) c.requires.some) (λ z. n.some (sym n.met ∙ z)) in
+    let was = was_row column by (row_of m i) (row_of now i) (v.rows i i_in n.other) (as_long m i c.args.r column c.requires.some)
+    (turned-positive column (row_of m c.args.r) c.requires.some) (λ z. n.some (sym n.met ∙ z)) in
     let cleared : row_of next i ≡ eliminated column by (row_of m i) = cl.row ∙ ap (λ (w : Row). eliminated column (turned column w) (row_of now i)) v.pivot ∙ ap (eliminated column by) was in
     let re = c.resize-are_narrow.ensures in
     let sizes = c.resize-are_narrow.new.sizes in

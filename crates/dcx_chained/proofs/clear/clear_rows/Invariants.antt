@@ -11,7 +11,8 @@ invariant-rows l = record {
   height : l.links.height ≡ l.initial.links.height;
   width : l.links.width ≡ l.initial.links.width;
   pivot : row_of l.links l.r ≡ row_of l.initial.links l.r;
-  rows : (i : ℕ) → i < l.initial.links.height → i ≢ l.r → (row_of l.links i ≡ row_of l.initial.links i) ⊎ (row_of l.links i ≡ eliminated l.column (turned l.column (row_of l.initial.links l.r)) (row_of l.initial.links i));
+  rows : (i : ℕ) → i < l.initial.links.height → i ≢ l.r → (row_of l.links i ≡ row_of l.initial.links i)
+      ⊎ (row_of l.links i ≡ eliminated l.column (turned l.column (row_of l.initial.links l.r)) (row_of l.initial.links i));
   narrow : l.are_narrow ≡ true → AreSized l.initial.links.height l.sizes l.links;
 }
 

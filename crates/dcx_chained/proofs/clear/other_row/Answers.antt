@@ -14,10 +14,12 @@ returns-in_err-first-clause-none c = if_none c.from_residual.result (λ i lt oth
     none_over c.args.links.now c.args.column w is c.requires c.in_err-first.ensures.steps.0 i (omega (arith, from)) lt)
 
 pub returns-then-first-r-clause-below : goal.returns-then-first-r-clause-below
-returns-then-first-r-clause-below c = met_below c.args.links.now c.args.column c.column-walk.result c.in_ok-first.first (ap (λ (x : Walk). x.numbers) c.column-walk.ensures) c.requires c.in_ok-first.ensures.steps.0
+returns-then-first-r-clause-below c = met_below c.args.links.now c.args.column c.column-walk.result c.in_ok-first.first (ap (λ (x : Walk). x.numbers) c.column-walk.ensures)
+    c.requires c.in_ok-first.ensures.steps.0
 
 pub returns-then-first-r-clause-met : goal.returns-then-first-r-clause-met
-returns-then-first-r-clause-met c = met_is c.args.links.now c.args.column c.column-walk.result c.in_ok-first.first (ap (λ (x : Walk). x.numbers) c.column-walk.ensures) c.requires c.in_ok-first.ensures.steps.0
+returns-then-first-r-clause-met c = met_is c.args.links.now c.args.column c.column-walk.result c.in_ok-first.first (ap (λ (x : Walk). x.numbers) c.column-walk.ensures) c.requires
+    c.in_ok-first.ensures.steps.0
 
 pub returns-then-first-r-clause-some : goal.returns-then-first-r-clause-some
 returns-then-first-r-clause-some c = c.in_ok-first.ensures.steps.0.some
@@ -38,7 +40,8 @@ returns-in_err-second-clause-none c = if_none c.from_residual-in_err-second.resu
     ])
 
 pub returns-clause-below : goal.returns-clause-below
-returns-clause-below c = met_below c.args.links.now c.args.column c.next.new.self c.in_ok-second.second (ap (λ (x : Walk). x.numbers) c.in_ok-first.ensures.steps.1 ∙ ap (λ (x : Walk). x.numbers) c.column-walk.ensures) c.requires c.in_ok-second.ensures.steps.0
+returns-clause-below c = met_below c.args.links.now c.args.column c.next.new.self c.in_ok-second.second (ap (λ (x : Walk). x.numbers) c.in_ok-first.ensures.steps.1
+    ∙ ap (λ (x : Walk). x.numbers) c.column-walk.ensures) c.requires c.in_ok-second.ensures.steps.0
 
 pub returns-clause-other : goal.returns-clause-other
 returns-clause-other c = λ e.
@@ -48,7 +51,8 @@ returns-clause-other c = λ e.
     omega (arith, from, b, r, e)
 
 pub returns-clause-met : goal.returns-clause-met
-returns-clause-met c = met_is c.args.links.now c.args.column c.next.new.self c.in_ok-second.second (ap (λ (x : Walk). x.numbers) c.in_ok-first.ensures.steps.1 ∙ ap (λ (x : Walk). x.numbers) c.column-walk.ensures) c.requires c.in_ok-second.ensures.steps.0
+returns-clause-met c = met_is c.args.links.now c.args.column c.next.new.self c.in_ok-second.second (ap (λ (x : Walk). x.numbers) c.in_ok-first.ensures.steps.1
+    ∙ ap (λ (x : Walk). x.numbers) c.column-walk.ensures) c.requires c.in_ok-second.ensures.steps.0
 
 pub returns-clause-some : goal.returns-clause-some
 returns-clause-some c = c.in_ok-second.ensures.steps.0.some

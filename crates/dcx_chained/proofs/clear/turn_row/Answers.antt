@@ -10,7 +10,8 @@ use Rattle.dcx_chained.proofs.Turned.{small_negative, negated_row, turned_positi
 use Rattle.dcx_chained.proofs.clear.turn_row.Goals as goal
 
 pub multiply-requires-clause-fits : goal.multiply-requires-clause-fits
-multiply-requires-clause-fits c = λ k lt. small_negative (number_at c.args.links.now c.args.r k) (subst (λ z. unsigned_abs z < 2 ^ 127) (entry-row_of c.args.links.now c.args.r k lt) (c.requires.small k))
+multiply-requires-clause-fits c = λ k lt. small_negative (number_at c.args.links.now c.args.r k)
+    (subst (λ z. unsigned_abs z < 2 ^ 127) (entry-row_of c.args.links.now c.args.r k lt) (c.requires.small k))
 
 pub returns-then-get-lt0-clause-row : goal.returns-then-get-lt0-clause-row
 returns-then-get-lt0-clause-row c =

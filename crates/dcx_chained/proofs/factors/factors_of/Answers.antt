@@ -27,7 +27,8 @@ returns-then-p-gt0-clause-clears c = λ column pivot row is_p is_a.
     let g : SFits w128 c.args.a = search rules in
     let h = c.if-p-gt0.true in
     let positive : pos 0 <ℤ c.args.p = grind (arith, ints) in
-    clears_positive column pivot row c.args.p c.args.a c.least_factors.result.row c.least_factors.result.by positive is_p is_a (simp to_z-of_z at c.least_factors.ensures.row) (simp to_z-of_z at c.least_factors.ensures.by)
+    clears_positive column pivot row c.args.p c.args.a c.least_factors.result.row c.least_factors.result.by positive is_p is_a (simp to_z-of_z at c.least_factors.ensures.row)
+    (simp to_z-of_z at c.least_factors.ensures.by)
 
 pub overflow_sub-p : goal.overflow_sub-p
 overflow_sub-p c =
@@ -88,4 +89,5 @@ returns-clause-clears c = λ column pivot row is_p is_a.
     let small = small_quotient (gcd (unsigned_abs (pos 0 -ℤ c.args.p)) (unsigned_abs c.args.a)) c.args.a c.least_factors-factors.result.by is_b c.requires.small in
     let m = abs-zero-minus c.least_factors-factors.result.by in
     let t : SFits w128 (pos 0 -ℤ c.least_factors-factors.result.by) = fits_signed_from_abs w128 (pos 0 -ℤ c.least_factors-factors.result.by) (omega (arith, m, small)) in
-    simp to_z-of_z (clears_negative column pivot row c.args.p (pos 0 -ℤ c.args.p) c.args.a c.least_factors-factors.result.row (pos 0 -ℤ c.least_factors-factors.result.by) c.least_factors-factors.result.by n refl is_p is_a is_r is_b refl)
+    simp to_z-of_z (clears_negative column pivot row c.args.p (pos 0 -ℤ c.args.p) c.args.a c.least_factors-factors.result.row (pos 0 -ℤ c.least_factors-factors.result.by)
+    c.least_factors-factors.result.by n refl is_p is_a is_r is_b refl)

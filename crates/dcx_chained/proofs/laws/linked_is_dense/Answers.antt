@@ -5,4 +5,5 @@ use Rattle.dcx_chained.proofs.Agreements.{one_list}
 use Rattle.dcx_chained.proofs.laws.linked_is_dense.Goals as goal
 
 pub returns : goal.returns
-returns c = λ dense dense' linked linked' pivots answers answers' same first second. one_list (dense_table dense) (chained_table linked) (dense_table dense') (chained_table linked') pivots answers answers' same first second
+returns c = λ dense dense' linked linked' pivots answers answers' same first second. one_list (dense_table dense) (chained_table linked) (dense_table dense')
+    (chained_table linked') pivots answers answers' same first second

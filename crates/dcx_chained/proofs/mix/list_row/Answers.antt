@@ -67,7 +67,8 @@ numbers-preserved c =
       numbers = ap (λ (y : Walk). y.numbers) s.1 ∙ v.numbers;
       few = omega (arith, f, b, few);
       below = omega (arith, f, l, w);
-      listed = subst (λ n. AreListed (row_of m c.args.r) n (set c.numbers.to c.numbers.count x) (c.numbers.count + 1)) (sym f) (listed_step (row_of m c.args.r) c.numbers.walk.from c.numbers.to c.numbers.count v.listed x next x refl refl room);
+      listed = subst (λ n. AreListed (row_of m c.args.r) n (set c.numbers.to c.numbers.count x) (c.numbers.count + 1)) (sym f)
+          (listed_step (row_of m c.args.r) c.numbers.walk.from c.numbers.to c.numbers.count v.listed x next x refl refl room);
     }
 
 pub returns-clause-listed : goal.returns-clause-listed

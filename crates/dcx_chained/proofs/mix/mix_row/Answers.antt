@@ -20,19 +20,22 @@ pub subtract-requires-clause-product : goal.subtract-requires-clause-product
 subtract-requires-clause-product c =
     let fr : SFits w128 c.args.factors.row = search rules in
     let fb : SFits w128 c.args.factors.by = search rules in
-    simp to_z-of_z (small_product c.args.links.now c.scale_row.new.links c.args.i c.args.r c.args.factors.row c.args.factors.by c.args.entries.now c.args.count c.requires.listed (simp to_z-of_z at c.scale_row.ensures.there) c.requires.formed)
+    simp to_z-of_z (small_product c.args.links.now c.scale_row.new.links c.args.i c.args.r c.args.factors.row c.args.factors.by c.args.entries.now c.args.count c.requires.listed
+    (simp to_z-of_z at c.scale_row.ensures.there) c.requires.formed)
 
 pub subtract-requires-clause-fits : goal.subtract-requires-clause-fits
 subtract-requires-clause-fits c =
     let fr : SFits w128 c.args.factors.row = search rules in
     let fb : SFits w128 c.args.factors.by = search rules in
-    simp to_z-of_z (small_rest c.args.links.now c.scale_row.new.links c.args.i c.args.r c.args.factors.row c.args.factors.by c.args.entries.now c.args.count c.requires.listed (simp to_z-of_z at c.scale_row.ensures.there) c.requires.formed)
+    simp to_z-of_z (small_rest c.args.links.now c.scale_row.new.links c.args.i c.args.r c.args.factors.row c.args.factors.by c.args.entries.now c.args.count c.requires.listed
+    (simp to_z-of_z at c.scale_row.ensures.there) c.requires.formed)
 
 pub returns-clause-mixed : goal.returns-clause-mixed
 returns-clause-mixed c =
     let fr : SFits w128 c.args.factors.row = search rules in
     let fb : SFits w128 c.args.factors.by = search rules in
-    mixed_entry c.args.links.now c.scale_row.new.links c.subtract.new.self c.args.i c.args.r c.args.factors.row c.args.factors.by c.args.entries.now c.args.count c.requires.listed (simp to_z-of_z at c.scale_row.ensures.there) (simp to_z-of_z at c.subtract.ensures.there)
+    mixed_entry c.args.links.now c.scale_row.new.links c.subtract.new.self c.args.i c.args.r c.args.factors.row c.args.factors.by c.args.entries.now c.args.count c.requires.listed
+    (simp to_z-of_z at c.scale_row.ensures.there) (simp to_z-of_z at c.subtract.ensures.there)
     (λ j none. c.subtract.ensures.same c.args.i j (λ _. none))
 
 pub returns-clause-same : goal.returns-clause-same

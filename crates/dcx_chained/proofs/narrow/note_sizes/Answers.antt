@@ -15,7 +15,8 @@ rows-preserved c =
     let now = c.note_size.new.sizes in
     record {
       sized = λ k lt. elim (cases_eq k i) [
-        | inl e ↦ subst (λ q. IsSized (size_at now q) (row_of m q)) (sym e) (sized_where (size_at now i) (row_of m i) c.size_of-size.result (n.narrow c.if-not-note_size.false) (n.there c.if-not-note_size.false) c.size_of-size.ensures)
+        | inl e ↦ subst (λ q. IsSized (size_at now q) (row_of m q)) (sym e) (sized_where (size_at now i) (row_of m i) c.size_of-size.result (n.narrow c.if-not-note_size.false)
+            (n.there c.if-not-note_size.false) c.size_of-size.ensures)
         | inr d ↦ subst (λ z. IsSized z (row_of m k)) (sym (n.others k d)) (v.sized k (omega (arith, lt, d)))
       ];
     }

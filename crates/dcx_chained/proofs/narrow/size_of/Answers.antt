@@ -42,4 +42,5 @@ numbers-preserved c =
 pub returns : goal.returns
 returns c =
     let v = c.numbers.invariant in
-    within_over (row_of c.args.links.now c.args.i) c.numbers.walk.from c.numbers.size (subst (λ (ns : Row). IsOver (record { numbers = ns; from = c.numbers.walk.from })) v.numbers c.in_default.ensures.steps.0) v.within
+    within_over (row_of c.args.links.now c.args.i) c.numbers.walk.from c.numbers.size (subst (λ (ns : Row). IsOver (record { numbers = ns; from = c.numbers.walk.from })) v.numbers
+    c.in_default.ensures.steps.0) v.within

@@ -55,4 +55,5 @@ numbers-preserved c =
 pub returns : goal.returns
 returns c =
     let v = c.numbers.invariant in
-    divides_over (row_of c.args.links.now c.args.i) c.numbers.walk.from c.numbers.found v.found (subst (λ (ns : Row). IsOver (record { numbers = ns; from = c.numbers.walk.from })) v.numbers c.in_default.ensures.steps.0)
+    divides_over (row_of c.args.links.now c.args.i) c.numbers.walk.from c.numbers.found v.found (subst (λ (ns : Row). IsOver (record { numbers = ns; from = c.numbers.walk.from }))
+    v.numbers c.in_default.ensures.steps.0)

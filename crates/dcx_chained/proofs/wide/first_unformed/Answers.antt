@@ -75,5 +75,6 @@ pub returns-clause-none : goal.returns-clause-none
 returns-clause-none c = λ k lt.
     let m = c.args.links.now in
     let v = c.columns.invariant in
-    formed_over c.args.factors.row (row_of m c.args.i) c.args.factors.by (row_of m c.args.r) c.columns.pairs.from m.width (over_of c.columns.pairs (row_of m c.args.i) (row_of m c.args.r) v.first v.second c.in_default.ensures.steps.0)
+    formed_over c.args.factors.row (row_of m c.args.i) c.args.factors.by (row_of m c.args.r) c.columns.pairs.from m.width (over_of c.columns.pairs (row_of m c.args.i)
+    (row_of m c.args.r) v.first v.second c.in_default.ensures.steps.0)
     (sym (length-row_of m c.args.i)) (sym (length-row_of m c.args.r)) v.formed k lt

@@ -15,4 +15,5 @@ pub returns-clause-first : goal.returns-clause-first
 returns-clause-first c = IfSome_then c.first_unformed.result c.first_unformed.ensures.first (λ j formed k lt. c.requires.factors.formed k (formed k lt))
 
 pub returns-clause-none : goal.returns-clause-none
-returns-clause-none c = IfNone_then c.first_unformed.result c.first_unformed.ensures.none (λ formed other met k lt. c.requires.factors.formed k (formed k (let l = length-row_of c.args.links.now c.args.i in omega (arith, lt, l))))
+returns-clause-none c = IfNone_then c.first_unformed.result c.first_unformed.ensures.none (λ formed other met k lt. c.requires.factors.formed k
+    (formed k (let l = length-row_of c.args.links.now c.args.i in omega (arith, lt, l))))

@@ -1,11 +1,11 @@
 -- The sum has the pairs passed: one more is added, or it is the first that stops.
 use Rattle.std.proofs.Common.{Err, get_or, arith}
 use Rattle.std.proofs.lemmas.Result.{err_from_is_err_and}
+use Rattle.dcx_call.proofs.Products.{own_item}
 use Rattle.dcx_linear.specs.Stops.{OnPass-weaker}
 use Rattle.dcx_entries.specs.Sums.{adds_pair, adds_each}
 use Rattle.dcx_entries.specs.Standing.{args_of}
 use Rattle.dcx_entries.proofs.Folds.{goes, stops, ends}
-use Rattle.dcx_entries.proofs.PairEntries.{item_is}
 use Rattle.dcx_entries.proofs.pairs.add_pairs.Goals as goal
 
 pub returns-in_err-add_pair : goal.returns-in_err-add_pair
@@ -17,7 +17,7 @@ returns-in_err-add_pair g c =
     (OnPass-weaker _ (λ passes. adds_pair t.number_of t.sum_gives t.change_gives c.args.scaling (args_of t.of_number c.args.args.now) x c.pairs.sum (Err passes))
     (λ passes. adds_each (adds_pair t.number_of t.sum_gives t.change_gives c.args.scaling (args_of t.of_number c.args.args.now)) c.args.pairs.now c.args.sum.now (Err passes))
     (λ passes h. stops (adds_pair t.number_of t.sum_gives t.change_gives c.args.scaling (args_of t.of_number c.args.args.now)) c.args.sum.now c.args.pairs.now c.pairs.pair-index x (omega arith)
-    (item_is c.args.pairs.now c.pairs.pair-index (record { left = 0; right = 0 }) (omega arith)) c.pairs.sum passes h c.pairs.invariant)
+    (own_item c.args.pairs.now c.pairs.pair-index (record { left = 0; right = 0 }) (omega arith)) c.pairs.sum passes h c.pairs.invariant)
     c.in_err-add_pair.ensures)
 
 pub pairs-preserved : goal.pairs-preserved
@@ -25,7 +25,7 @@ pairs-preserved g c =
     let t = g.C.Coef in
     let x = get_or c.args.pairs.now c.pairs.pair-index (record { left = 0; right = 0 }) in
     goes (adds_pair t.number_of t.sum_gives t.change_gives c.args.scaling (args_of t.of_number c.args.args.now)) c.args.sum.now c.args.pairs.now c.pairs.pair-index x (omega arith)
-    (item_is c.args.pairs.now c.pairs.pair-index (record { left = 0; right = 0 }) (omega arith)) c.pairs.sum c.add_pair.new.sum c.in_ok-add_pair.ensures c.pairs.invariant
+    (own_item c.args.pairs.now c.pairs.pair-index (record { left = 0; right = 0 }) (omega arith)) c.pairs.sum c.add_pair.new.sum c.in_ok-add_pair.ensures c.pairs.invariant
 
 pub returns : goal.returns
 returns g c =

@@ -54,7 +54,8 @@ entries-preserved c =
       before = λ k le k_in. let z = c.requires.rising i k (omega (arith, le)) k_in in let y = n.within in omega (arith, z, y);
       there = λ k k_in. elim (cases_eq k i) [
         | inl e ↦ simp to_z-of_z (subst (λ x. number_in s row (column_at es x) ≡ number_in o row (column_at es x) -ℤ c.args.by *ℤ value_at es x) (sym e) here)
-        | inr d ↦ let below : k < i = omega (arith, k_in, d) in let z = c.requires.rising k i below lt in simp to_z-of_z (n.same row (column_at es k) (λ h. let y = h.1 in omega (arith, z, y)) ∙ (simp to_z-of_z at (v.there k below)))
+        | inr d ↦ let below : k < i = omega (arith, k_in, d) in let z = c.requires.rising k i below lt in simp to_z-of_z
+            (n.same row (column_at es k) (λ h. let y = h.1 in omega (arith, z, y)) ∙ (simp to_z-of_z at (v.there k below)))
       ];
       same = λ r d h. n.same r d (λ e. h e.0 i (omega arith) e.1) ∙ v.same r d (λ e k k_in. h e k (omega (arith, k_in)));
     }

@@ -10,7 +10,8 @@ use Rattle.dcx_links.proofs.number.number_at_spot.Goals as goal
 pub returns-then-spot-eq-NONE : goal.returns-then-spot-eq-NONE
 returns-then-spot-eq-NONE c =
     let s = c.args.store.now in
-    sym (number_none s.cells.items c.args.row c.args.column (empty_none s.cells.items s.row_heads.items s.column_heads.items s.free c.requires.sound c.args.row c.args.column _ _ _ c.requires.spot c.if-spot-eq-NONE.true))
+    sym (number_none s.cells.items c.args.row c.args.column (empty_none s.cells.items s.row_heads.items s.column_heads.items s.free c.requires.sound c.args.row c.args.column _ _ _
+    c.requires.spot c.if-spot-eq-NONE.true))
 
 pub returns-then-cell-column : goal.returns-then-cell-column
 returns-then-cell-column c =
@@ -28,4 +29,5 @@ returns-else-cell-column c =
     let p = c.requires.spot in
     let lt = link_within s.cells.items s.row_heads.items s.column_heads.items s.free c.requires.sound c.args.row c.args.column _ _ _ p c.if-spot-eq-NONE.false in
     let e : c.index-cell.result.now ≡ cell_at s.cells.items c.args.spot.link = cell_read s.cells.items c.args.spot.link c.index-cell.result.now lt c.index-cell.ensures in
-    sym (number_none s.cells.items c.args.row c.args.column (empty_other s.cells.items s.row_heads.items s.column_heads.items s.free c.requires.sound c.args.row c.args.column _ _ _ p c.if-spot-eq-NONE.false (λ g. c.if-cell-column.false (ap (λ (x : Cell). x.column) e ∙ g))))
+    sym (number_none s.cells.items c.args.row c.args.column (empty_other s.cells.items s.row_heads.items s.column_heads.items s.free c.requires.sound c.args.row c.args.column _ _ _
+    p c.if-spot-eq-NONE.false (λ g. c.if-cell-column.false (ap (λ (x : Cell). x.column) e ∙ g))))

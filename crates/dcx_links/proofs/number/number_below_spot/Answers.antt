@@ -10,7 +10,8 @@ use Rattle.dcx_links.proofs.number.number_below_spot.Goals as goal
 pub returns-then-spot-eq-NONE : goal.returns-then-spot-eq-NONE
 returns-then-spot-eq-NONE c =
     let s = c.args.store.now in
-    sym (number_none s.cells.items c.args.row c.args.column (empty_none_below s.cells.items s.row_heads.items s.column_heads.items s.free c.requires.sound c.args.row c.args.column _ _ _ c.requires.spot c.if-spot-eq-NONE.true))
+    sym (number_none s.cells.items c.args.row c.args.column (empty_none_below s.cells.items s.row_heads.items s.column_heads.items s.free c.requires.sound c.args.row c.args.column
+    _ _ _ c.requires.spot c.if-spot-eq-NONE.true))
 
 pub returns-then-cell-row : goal.returns-then-cell-row
 returns-then-cell-row c =
@@ -20,7 +21,8 @@ returns-then-cell-row c =
     let e : c.index-cell.result.now ≡ cell_at s.cells.items c.args.spot.link = cell_read s.cells.items c.args.spot.link c.index-cell.result.now lt c.index-cell.ensures in
     let f : SFits w128 c.index-cell.result.now.value = search rules in
     let g : (cell_at s.cells.items c.args.spot.link).row ≡ c.args.row = ap (λ (x : Cell). x.row) (sym e) ∙ c.if-cell-row.true in
-    simp to_z-of_z (ap (λ (x : Cell). x.value) e ∙ number_found_below s.cells.items s.row_heads.items s.column_heads.items s.free c.requires.sound c.args.row c.args.column _ _ _ p c.if-spot-eq-NONE.false g)
+    simp to_z-of_z (ap (λ (x : Cell). x.value) e ∙ number_found_below s.cells.items s.row_heads.items s.column_heads.items s.free c.requires.sound c.args.row c.args.column _ _ _ p
+    c.if-spot-eq-NONE.false g)
 
 pub returns-else-cell-row : goal.returns-else-cell-row
 returns-else-cell-row c =
@@ -28,4 +30,5 @@ returns-else-cell-row c =
     let p = c.requires.spot in
     let lt = link_within_below s.cells.items s.row_heads.items s.column_heads.items s.free c.requires.sound c.args.row c.args.column _ _ _ p c.if-spot-eq-NONE.false in
     let e : c.index-cell.result.now ≡ cell_at s.cells.items c.args.spot.link = cell_read s.cells.items c.args.spot.link c.index-cell.result.now lt c.index-cell.ensures in
-    sym (number_none s.cells.items c.args.row c.args.column (empty_other_below s.cells.items s.row_heads.items s.column_heads.items s.free c.requires.sound c.args.row c.args.column _ _ _ p c.if-spot-eq-NONE.false (λ g. c.if-cell-row.false (ap (λ (x : Cell). x.row) e ∙ g))))
+    sym (number_none s.cells.items c.args.row c.args.column (empty_other_below s.cells.items s.row_heads.items s.column_heads.items s.free c.requires.sound c.args.row c.args.column
+    _ _ _ p c.if-spot-eq-NONE.false (λ g. c.if-cell-row.false (ap (λ (x : Cell). x.row) e ∙ g))))

@@ -17,4 +17,5 @@ returns-then-at-capacity-clause-sound c =
     rw (c.push_reserved.ensures.items, l) (pushed o.cells.items o.row_heads.items o.column_heads.items o.free c.requires.sound x refl (sym c.if-store.false) few)
 
 pub returns-then-at-capacity-clause-same : goal.returns-then-at-capacity-clause-same
-returns-then-at-capacity-clause-same c = λ r d. rw c.push_reserved.ensures.items (number_push c.args.store.now.cells.items (record { value = pos 0; row = 0; column = 0; next_in_row = none; next_in_column = none }) refl r d)
+returns-then-at-capacity-clause-same c = λ r d. rw c.push_reserved.ensures.items (number_push c.args.store.now.cells.items
+    (record { value = pos 0; row = 0; column = 0; next_in_row = none; next_in_column = none }) refl r d)

@@ -30,7 +30,8 @@ pub returns-clause-there : goal.returns-clause-there
 returns-clause-there c = λ k.
     let v = c.cells.invariant in
     let fb : SFits w128 c.args.by = search rules in
-    rewritten (divided (unsigned_abs c.args.by)) (divided-zero (unsigned_abs c.args.by)) c.args.store.now c.cells.store c.args.row c.cells.from c.cells.link v.sound v.next (simp to_z-of_z at v.done) v.left c.cells-test.false k
+    rewritten (divided (unsigned_abs c.args.by)) (divided-zero (unsigned_abs c.args.by)) c.args.store.now c.cells.store c.args.row c.cells.from c.cells.link v.sound v.next
+    (simp to_z-of_z at v.done) v.left c.cells-test.false k
 
 pub change_at-requires-clause-number : goal.change_at-requires-clause-number
 change_at-requires-clause-number c =
@@ -45,8 +46,10 @@ change_at-requires-clause-number c =
     let here = walk_here s.cells.items s.row_heads.items s.column_heads.items s.free v.sound c.args.row c.cells.from c.cells.link v.next c.cells-test.true in
     let in_row = v.sound.column_within c.cells.link c.args.row (cell_at s.cells.items c.cells.link).column here in
     let w = v.columns in
-    let is = number_first (divided (unsigned_abs c.args.by)) (divided-zero (unsigned_abs c.args.by)) c.args.store.now s c.args.row c.cells.from c.cells.link v.sound v.next (simp to_z-of_z at v.done) v.left c.cells-test.true ∙ ap (λ (y : Cell). y.value) (sym e) in
-    let d : unsigned_abs c.args.by ∣ unsigned_abs x.value = subst (λ z. unsigned_abs c.args.by ∣ unsigned_abs z) is (c.requires.divides (cell_at s.cells.items c.cells.link).column (omega (arith, in_row, w))) in
+    let is = number_first (divided (unsigned_abs c.args.by)) (divided-zero (unsigned_abs c.args.by)) c.args.store.now s c.args.row c.cells.from c.cells.link v.sound v.next
+    (simp to_z-of_z at v.done) v.left c.cells-test.true ∙ ap (λ (y : Cell). y.value) (sym e) in
+    let d : unsigned_abs c.args.by ∣ unsigned_abs x.value = subst (λ z. unsigned_abs c.args.by ∣ unsigned_abs z) is (c.requires.divides (cell_at s.cells.items c.cells.link).column
+    (omega (arith, in_row, w))) in
     let some : x.value ≢ pos 0 = λ z. here.number (ap (λ (y : Cell). y.value) (sym e) ∙ z) in
     let f : c.quotient.result ≡ divided (unsigned_abs c.args.by) x.value = simp to_z-of_z at c.quotient.ensures in
     simp to_z-of_z (λ z. divided_some (unsigned_abs c.args.by) x.value some d (sym f ∙ z))
@@ -61,7 +64,8 @@ cells-smaller c =
     let q = ap (λ (y : Cell). y.column) e in
     let here = walk_here s.cells.items s.row_heads.items s.column_heads.items s.free v.sound c.args.row c.cells.from c.cells.link v.next c.cells-test.true in
     let in_row = v.sound.column_within c.cells.link c.args.row (cell_at s.cells.items c.cells.link).column here in
-    let b = at_beyond (divided (unsigned_abs c.args.by)) (divided-zero (unsigned_abs c.args.by)) c.args.store.now s c.args.row c.cells.from c.cells.link v.sound v.next (simp to_z-of_z at v.done) v.left c.cells-test.true in
+    let b = at_beyond (divided (unsigned_abs c.args.by)) (divided-zero (unsigned_abs c.args.by)) c.args.store.now s c.args.row c.cells.from c.cells.link v.sound v.next
+    (simp to_z-of_z at v.done) v.left c.cells-test.true in
     let w = c.change_at.ensures.columns in
     omega (arith, q, in_row, b, w)
 
@@ -85,14 +89,17 @@ cells-preserved c =
     let next : IsNext (InRow n.cells.items) c.args.row (x.column + 1) c.index.result.now.next_in_row =
     subst (λ k. IsNext (InRow n.cells.items) c.args.row (x.column + 1) k) link_is (ch.sound.rows_linked.linked c.args.row (Some c.cells.link) (x.column + 1) (x.column, here, refl)) in
     let there : number_in n c.args.row (cell_at s.cells.items c.cells.link).column ≡ divided (unsigned_abs c.args.by) (cell_at s.cells.items c.cells.link).value =
-    subst (λ k. number_in n c.args.row k ≡ divided (unsigned_abs c.args.by) (cell_at s.cells.items c.cells.link).value) q ((simp to_z-of_z at ch.there) ∙ (simp to_z-of_z at c.quotient.ensures) ∙ ap (λ (y : Cell). divided (unsigned_abs c.args.by) y.value) e) in
+    subst (λ k. number_in n c.args.row k ≡ divided (unsigned_abs c.args.by) (cell_at s.cells.items c.cells.link).value) q ((simp to_z-of_z at ch.there)
+    ∙ (simp to_z-of_z at c.quotient.ensures) ∙ ap (λ (y : Cell). divided (unsigned_abs c.args.by) y.value) e) in
     let same : (r k : ℕ) → ¬ ((r ≡ c.args.row) × (k ≡ (cell_at s.cells.items c.cells.link).column)) → number_in n r k ≡ number_in s r k = λ r k other. ch.same r k (λ h. other (h.0, h.1 ∙ q)) in
     record {
       sound = ch.sound;
       rows = ch.rows ∙ v.rows;
       columns = ch.columns ∙ v.columns;
       next = next;
-      done = simp to_z-of_z (λ k k_in. done_on (divided (unsigned_abs c.args.by)) (divided-zero (unsigned_abs c.args.by)) c.args.store.now s c.args.row c.cells.from c.cells.link v.sound v.next (simp to_z-of_z at v.done) v.left c.cells-test.true n there same k (omega (arith, k_in, q)));
-      left = λ k le. left_on (divided (unsigned_abs c.args.by)) (divided-zero (unsigned_abs c.args.by)) c.args.store.now s c.args.row c.cells.from c.cells.link v.sound v.next (simp to_z-of_z at v.done) v.left c.cells-test.true n there same k (omega (arith, le, q));
+      done = simp to_z-of_z (λ k k_in. done_on (divided (unsigned_abs c.args.by)) (divided-zero (unsigned_abs c.args.by)) c.args.store.now s c.args.row c.cells.from c.cells.link
+          v.sound v.next (simp to_z-of_z at v.done) v.left c.cells-test.true n there same k (omega (arith, k_in, q)));
+      left = λ k le. left_on (divided (unsigned_abs c.args.by)) (divided-zero (unsigned_abs c.args.by)) c.args.store.now s c.args.row c.cells.from c.cells.link v.sound v.next
+          (simp to_z-of_z at v.done) v.left c.cells-test.true n there same k (omega (arith, le, q));
       same = λ r k d. ch.same r k (λ h. d h.0) ∙ v.same r k d;
     }

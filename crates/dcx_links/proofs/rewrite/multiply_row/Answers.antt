@@ -45,7 +45,8 @@ overflow_mul-by c =
     let here = walk_here s.cells.items s.row_heads.items s.column_heads.items s.free v.sound c.args.row c.cells.from c.cells.link v.next c.cells-test.true in
     let in_row = v.sound.column_within c.cells.link c.args.row (cell_at s.cells.items c.cells.link).column here in
     let w = v.columns in
-    let is = number_first (λ z. c.args.by *ℤ z) (*ℤ-zero c.args.by) c.args.store.now s c.args.row c.cells.from c.cells.link v.sound v.next (simp to_z-of_z at v.done) v.left c.cells-test.true ∙ ap (λ (y : Cell). y.value) (sym e) in
+    let is = number_first (λ z. c.args.by *ℤ z) (*ℤ-zero c.args.by) c.args.store.now s c.args.row c.cells.from c.cells.link v.sound v.next
+    (simp to_z-of_z at v.done) v.left c.cells-test.true ∙ ap (λ (y : Cell). y.value) (sym e) in
     simp to_z-of_z (fits_signed_from_abs w128 (c.args.by *ℤ c.index-cell.result.now.value)
     (subst (λ z. unsigned_abs (c.args.by *ℤ z) < 2 ^ 127) is (c.requires.fits (cell_at s.cells.items c.cells.link).column (omega (arith, in_row, w)))))
 
@@ -94,7 +95,8 @@ cells-preserved c =
     let was = walk_here s.cells.items s.row_heads.items s.column_heads.items s.free v.sound c.args.row c.cells.from c.cells.link v.next c.cells-test.true in
     let in_row = v.sound.column_within c.cells.link c.args.row (cell_at s.cells.items c.cells.link).column was in
     let w = v.columns in
-    let is = number_first (λ z. c.args.by *ℤ z) (*ℤ-zero c.args.by) c.args.store.now s c.args.row c.cells.from c.cells.link v.sound v.next (simp to_z-of_z at v.done) v.left c.cells-test.true ∙ ap (λ (y : Cell). y.value) (sym e) in
+    let is = number_first (λ z. c.args.by *ℤ z) (*ℤ-zero c.args.by) c.args.store.now s c.args.row c.cells.from c.cells.link v.sound v.next
+    (simp to_z-of_z at v.done) v.left c.cells-test.true ∙ ap (λ (y : Cell). y.value) (sym e) in
     let fp : SFits w128 (c.args.by *ℤ x.value) = fits_signed_from_abs w128 (c.args.by *ℤ x.value)
     (subst (λ z. unsigned_abs (c.args.by *ℤ z) < 2 ^ 127) is (c.requires.fits (cell_at s.cells.items c.cells.link).column (omega (arith, in_row, w)))) in
     let here : IsAt n.cells.items c.cells.link c.args.row x.column = ch.here in
@@ -111,7 +113,9 @@ cells-preserved c =
       rows = ch.rows ∙ v.rows;
       columns = ch.columns ∙ v.columns;
       next = next;
-      done = simp to_z-of_z (λ k k_in. done_on (λ z. c.args.by *ℤ z) (*ℤ-zero c.args.by) c.args.store.now s c.args.row c.cells.from c.cells.link v.sound v.next (simp to_z-of_z at v.done) v.left c.cells-test.true n there same k (omega (arith, k_in, q)));
-      left = λ k le. left_on (λ z. c.args.by *ℤ z) (*ℤ-zero c.args.by) c.args.store.now s c.args.row c.cells.from c.cells.link v.sound v.next (simp to_z-of_z at v.done) v.left c.cells-test.true n there same k (omega (arith, le, q));
+      done = simp to_z-of_z (λ k k_in. done_on (λ z. c.args.by *ℤ z) (*ℤ-zero c.args.by) c.args.store.now s c.args.row c.cells.from c.cells.link v.sound v.next
+          (simp to_z-of_z at v.done) v.left c.cells-test.true n there same k (omega (arith, k_in, q)));
+      left = λ k le. left_on (λ z. c.args.by *ℤ z) (*ℤ-zero c.args.by) c.args.store.now s c.args.row c.cells.from c.cells.link v.sound v.next
+          (simp to_z-of_z at v.done) v.left c.cells-test.true n there same k (omega (arith, le, q));
       same = λ r k d. ch.same r k (λ h. d h.0) ∙ v.same r k d;
     }

@@ -10,13 +10,15 @@ pub returns-clause-spot : goal.returns-clause-spot
 returns-clause-spot c =
     let b = bound_in_row c.args.cells.now c.loop-link.from in
     let v = c.loop-link.invariant in
-    let n : IsNext (InRow c.args.cells.now) c.args.row b c.loop-link.link = subst (λ x. IsNext (InRow c.args.cells.now) c.args.row b x) (sym v.leads) (c.requires.lines.linked c.args.row c.loop-link.from b v.from) in
+    let n : IsNext (InRow c.args.cells.now) c.args.row b c.loop-link.link = subst (λ x. IsNext (InRow c.args.cells.now) c.args.row b x) (sym v.leads)
+    (c.requires.lines.linked c.args.row c.loop-link.from b v.from) in
     let e : c.loop-link.link ≡ none = c.loop-link-test.false in
     record {
       next = n;
       from = v.from;
       within = v.below;
       gap = λ i q at le.
-          let lt = nothing_from (InRow c.args.cells.now) c.args.row b c.args.column c.loop-link.link n v.below (λ i m q at. let z = at_within c.args.cells.now i at.number in omega (arith, z, c.requires.few)) e i q at in
+          let lt = nothing_from (InRow c.args.cells.now) c.args.row b c.args.column c.loop-link.link n v.below (λ i m q at. let z = at_within c.args.cells.now i at.number in omega
+          (arith, z, c.requires.few)) e i q at in
           omega (arith, lt, le);
     }

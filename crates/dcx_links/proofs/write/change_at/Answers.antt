@@ -13,7 +13,8 @@ returns-clause-here c =
     let lt = at_within o.cells.items c.args.at c.requires.here.number in
     let e : c.index_mut.result.now ≡ cell_at o.cells.items c.args.at = cell_read o.cells.items c.args.at c.index_mut.result.now lt c.index_mut.ensures.value in
     let f : SFits w128 c.args.value = search rules in
-    let whole = now_at o.cells.items o.row_heads.items o.column_heads.items o.free c.requires.sound c.args.at c.args.row c.args.column c.requires.here c.args.value c.requires.number c.args.at c.args.row c.args.column c.requires.here in
+    let whole = now_at o.cells.items o.row_heads.items o.column_heads.items o.free c.requires.sound c.args.at c.args.row c.args.column c.requires.here c.args.value
+    c.requires.number c.args.at c.args.row c.args.column c.requires.here in
     rw e (simp to_z-of_z whole)
 
 pub returns-clause-sound : goal.returns-clause-sound

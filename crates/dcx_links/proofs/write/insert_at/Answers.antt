@@ -24,7 +24,8 @@ returns-clause-here c =
     let a = c.args.in_row in
     let b = c.args.in_column in
     let f : SFits w128 c.args.value = search rules in
-    let w = insertion o c.requires.sound c.requires.ready c.args.row c.args.column c.requires.row c.requires.column c.requires.empty c.args.value c.requires.number a.from a.link c.requires.in_row c.requires.row_link b.from b.link c.requires.in_column c.requires.column_link c.index.result.now c.index.ensures in
+    let w = insertion o c.requires.sound c.requires.ready c.args.row c.args.column c.requires.row c.requires.column c.requires.empty c.args.value c.requires.number a.from a.link
+    c.requires.in_row c.requires.row_link b.from b.link c.requires.in_column c.requires.column_link c.index.result.now c.index.ensures in
     rw (c.link_column.ensures.cells, c.link_row.ensures.cells) (simp to_z-of_z w.here)
 
 pub returns-clause-sound : goal.returns-clause-sound
@@ -33,7 +34,8 @@ returns-clause-sound c =
     let a = c.args.in_row in
     let b = c.args.in_column in
     let f : SFits w128 c.args.value = search rules in
-    let w = insertion o c.requires.sound c.requires.ready c.args.row c.args.column c.requires.row c.requires.column c.requires.empty c.args.value c.requires.number a.from a.link c.requires.in_row c.requires.row_link b.from b.link c.requires.in_column c.requires.column_link c.index.result.now c.index.ensures in
+    let w = insertion o c.requires.sound c.requires.ready c.args.row c.args.column c.requires.row c.requires.column c.requires.empty c.args.value c.requires.number a.from a.link
+    c.requires.in_row c.requires.row_link b.from b.link c.requires.in_column c.requires.column_link c.index.result.now c.index.ensures in
     rw (c.link_column.ensures.cells, c.link_column.ensures.heads, c.link_row.ensures.cells, c.link_row.ensures.heads) (simp to_z-of_z w.sound)
 
 pub returns-clause-there : goal.returns-clause-there
@@ -42,7 +44,8 @@ returns-clause-there c =
     let a = c.args.in_row in
     let b = c.args.in_column in
     let f : SFits w128 c.args.value = search rules in
-    let w = insertion o c.requires.sound c.requires.ready c.args.row c.args.column c.requires.row c.requires.column c.requires.empty c.args.value c.requires.number a.from a.link c.requires.in_row c.requires.row_link b.from b.link c.requires.in_column c.requires.column_link c.index.result.now c.index.ensures in
+    let w = insertion o c.requires.sound c.requires.ready c.args.row c.args.column c.requires.row c.requires.column c.requires.empty c.args.value c.requires.number a.from a.link
+    c.requires.in_row c.requires.row_link b.from b.link c.requires.in_column c.requires.column_link c.index.result.now c.index.ensures in
     rw (c.link_column.ensures.cells, c.link_row.ensures.cells) (simp to_z-of_z w.there)
 
 pub returns-clause-same : goal.returns-clause-same
@@ -51,7 +54,8 @@ returns-clause-same c = λ r d n.
     let a = c.args.in_row in
     let b = c.args.in_column in
     let f : SFits w128 c.args.value = search rules in
-    let w = insertion o c.requires.sound c.requires.ready c.args.row c.args.column c.requires.row c.requires.column c.requires.empty c.args.value c.requires.number a.from a.link c.requires.in_row c.requires.row_link b.from b.link c.requires.in_column c.requires.column_link c.index.result.now c.index.ensures in
+    let w = insertion o c.requires.sound c.requires.ready c.args.row c.args.column c.requires.row c.requires.column c.requires.empty c.args.value c.requires.number a.from a.link
+    c.requires.in_row c.requires.row_link b.from b.link c.requires.in_column c.requires.column_link c.index.result.now c.index.ensures in
     rw (c.link_column.ensures.cells, c.link_row.ensures.cells) (simp to_z-of_z (w.same r d n))
 
 pub returns-clause-rows : goal.returns-clause-rows

@@ -17,5 +17,6 @@ returns-clause-there c =
     let fb : SFits w128 c.args.by = search rules in
     let fn : SFits w128 c.number_at_spot-number.result = search rules in
     let e : c.number_at_spot-number.result ≡ number_in c.args.store.now c.args.row c.args.column = c.number_at_spot-number.ensures in
-    let fd : SFits w128 (c.number_at_spot-number.result -ℤ c.args.by) = fits_signed_from_abs w128 (c.number_at_spot-number.result -ℤ c.args.by) (subst (λ z. unsigned_abs (z -ℤ c.args.by) < 2 ^ 127) (sym e) c.requires.fits) in
+    let fd : SFits w128 (c.number_at_spot-number.result -ℤ c.args.by) = fits_signed_from_abs w128 (c.number_at_spot-number.result -ℤ c.args.by)
+    (subst (λ z. unsigned_abs (z -ℤ c.args.by) < 2 ^ 127) (sym e) c.requires.fits) in
     (simp to_z-of_z at c.put_at.ensures.there) ∙ ap (λ z. z -ℤ c.args.by) e

@@ -17,7 +17,8 @@ index_mut-requires c =
     let lt = spot_within o c.requires.sound c.args.row c.args.column c.requires.there c.args.in_row.from c.args.in_row.link c.requires.in_row in
     let l = c.link_column.new.cells.ok.0 in
     let x = c.index-cell.result.now in
-    let n = ap length c.link_column.ensures.cells ∙ length_column c.link_row.new.cells.items c.args.in_column.from x.next_in_column ∙ ap length c.link_row.ensures.cells ∙ length_row o.cells.items c.args.in_row.from x.next_in_row in
+    let n = ap length c.link_column.ensures.cells ∙ length_column c.link_row.new.cells.items c.args.in_column.from x.next_in_column ∙ ap length c.link_row.ensures.cells
+    ∙ length_row o.cells.items c.args.in_row.from x.next_in_row in
     omega (arith, lt, l, n)
 
 pub returns-clause-free : goal.returns-clause-free
@@ -38,7 +39,8 @@ returns-clause-sound c =
     let o = c.args.store.now in
     let a = c.args.in_row in
     let b = c.args.in_column in
-    let w = removal o c.requires.sound c.args.row c.args.column c.requires.there a.from a.link c.requires.in_row c.requires.row c.requires.column c.requires.row_link b.from b.link c.requires.in_column c.requires.column_link c.index-cell.result.now c.index-cell.ensures in
+    let w = removal o c.requires.sound c.args.row c.args.column c.requires.there a.from a.link c.requires.in_row c.requires.row c.requires.column c.requires.row_link b.from b.link
+    c.requires.in_column c.requires.column_link c.index-cell.result.now c.index-cell.ensures in
     rw (c.link_column.ensures.cells, c.link_column.ensures.heads, c.link_row.ensures.cells, c.link_row.ensures.heads) w.sound
 
 pub returns-clause-there : goal.returns-clause-there
@@ -46,7 +48,8 @@ returns-clause-there c =
     let o = c.args.store.now in
     let a = c.args.in_row in
     let b = c.args.in_column in
-    let w = removal o c.requires.sound c.args.row c.args.column c.requires.there a.from a.link c.requires.in_row c.requires.row c.requires.column c.requires.row_link b.from b.link c.requires.in_column c.requires.column_link c.index-cell.result.now c.index-cell.ensures in
+    let w = removal o c.requires.sound c.args.row c.args.column c.requires.there a.from a.link c.requires.in_row c.requires.row c.requires.column c.requires.row_link b.from b.link
+    c.requires.in_column c.requires.column_link c.index-cell.result.now c.index-cell.ensures in
     rw (c.link_column.ensures.cells, c.link_row.ensures.cells) w.there
 
 pub returns-clause-same : goal.returns-clause-same
@@ -54,7 +57,8 @@ returns-clause-same c = λ r d n.
     let o = c.args.store.now in
     let a = c.args.in_row in
     let b = c.args.in_column in
-    let w = removal o c.requires.sound c.args.row c.args.column c.requires.there a.from a.link c.requires.in_row c.requires.row c.requires.column c.requires.row_link b.from b.link c.requires.in_column c.requires.column_link c.index-cell.result.now c.index-cell.ensures in
+    let w = removal o c.requires.sound c.args.row c.args.column c.requires.there a.from a.link c.requires.in_row c.requires.row c.requires.column c.requires.row_link b.from b.link
+    c.requires.in_column c.requires.column_link c.index-cell.result.now c.index-cell.ensures in
     rw (c.link_column.ensures.cells, c.link_row.ensures.cells) (w.same r d n)
 
 pub returns-clause-kept : goal.returns-clause-kept
@@ -62,5 +66,6 @@ returns-clause-kept c = λ i r d at n.
     let o = c.args.store.now in
     let a = c.args.in_row in
     let b = c.args.in_column in
-    let w = removal o c.requires.sound c.args.row c.args.column c.requires.there a.from a.link c.requires.in_row c.requires.row c.requires.column c.requires.row_link b.from b.link c.requires.in_column c.requires.column_link c.index-cell.result.now c.index-cell.ensures in
+    let w = removal o c.requires.sound c.args.row c.args.column c.requires.there a.from a.link c.requires.in_row c.requires.row c.requires.column c.requires.row_link b.from b.link
+    c.requires.in_column c.requires.column_link c.index-cell.result.now c.index-cell.ensures in
     rw (c.link_column.ensures.cells, c.link_row.ensures.cells) (w.kept i r d at n)

@@ -4,13 +4,14 @@ use Rattle.std.specs.Int.{w128}
 use Rattle.std.proofs.lemmas.Int.{to_z_pos}
 use Rattle.dcx_math.specs.Rational.{whole, ◌/ℚ◌}
 use Rattle.dcx_frac.specs.Fits.{IsRepresentable}
-use Rattle.dcx_overlay.proofs.Wholes.{over_one, one_is_some, small_is_fraction}
+use Rattle.dcx_frac.proofs.Integers.{over_unit}
+use Rattle.dcx_overlay.proofs.Wholes.{one_is_some, small_is_fraction}
 use Rattle.dcx_overlay.proofs.trial.whole.Goals as goal
 
 pub returns-in-Some : goal.returns-in-Some
 returns-in-Some c =
     let read : to_z w128 c.args.number ≡ pos c.args.number = to_z_pos w128 c.args.number (omega arith) in
-    c.in-Some.ensures.value ∙ ap (λ z. whole z /ℚ whole (pos 1)) read ∙ over_one c.args.number
+    c.in-Some.ensures.value ∙ ap (λ z. whole z /ℚ whole (pos 1)) read ∙ over_unit (pos c.args.number)
 
 pub returns-in-None : goal.returns-in-None
 returns-in-None c =

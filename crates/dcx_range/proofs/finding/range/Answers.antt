@@ -111,7 +111,8 @@ returns-in-Optimal-clause-optimal c =
     let is = subst (λ g. IsSolved limit g c.in-Ok.solved) same c.in-Ok.ensures.solved in
     let known = known_of r lent.kinds lent.rows lent.objective c.rows.ensures.kinds c.rows.ensures.rows c.rows.ensures.objective lent.rows_known lent.objective_known in
     ranges_are_right p m r s name limit c.span-told.result c.requires.map c.requires.fits c.requires.program c.requires.ranged
-    (told_result p s name m c.requires.map c.requires.fits r c.requires.program limit c.in-Ok.solved is known c.requires.ranged c.in-Optimal.is c.asked.result c.asked.ensures c.span-told.result c.span-told.ensures.formed c.span-told.ensures.rising c.span-told.ensures.stops)
+    (told_result p s name m c.requires.map c.requires.fits r c.requires.program limit c.in-Ok.solved is known c.requires.ranged c.in-Optimal.is c.asked.result c.asked.ensures
+    c.span-told.result c.span-told.ensures.formed c.span-told.ensures.rising c.span-told.ensures.stops)
 
 pub returns-in-Infeasible-clause-given : goal.returns-in-Infeasible-clause-given
 returns-in-Infeasible-clause-given c =

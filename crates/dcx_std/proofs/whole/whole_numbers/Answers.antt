@@ -35,7 +35,8 @@ signed-divisor-requires c =
     let by = c.whole_number-by.result in
     let ns = map (turned_frac c.args.is_turned) (coefficients c.args.count c.args.form.now) ++ c.args.behind.now in
     let products : numerators (map (product_of by) ns) ≡ Ok zs =
-    all_products by c.args.is_turned c.args.form.now c.args.count c.as_slice-terms.result.now c.as_slice-terms.ensures.items c.args.behind.now c.in_ok-products.products.items (c.in_ok-products.ensures {u = tt})
+    all_products by c.args.is_turned c.args.form.now c.args.count c.as_slice-terms.result.now c.as_slice-terms.ensures.items c.args.behind.now c.in_ok-products.products.items
+    (c.in_ok-products.ensures {u = tt})
     ∙ sym (c.in_ok-numbers.ensures {u = tt}) in
     let small : AllSmall zs = numerators_small (map (product_of by) ns) zs products in
     subst (λ n. n < 2 ^ 127) (sym (c.divisor.ensures.value ∙ ap divisor_of c.deref.ensures.value)) (divisor_below zs small)
@@ -59,7 +60,8 @@ returns-clause-made c =
     let is_multiple = sym (c.in_ok-multiple.ensures {u = tt}) in
     let facts = multiple_of_is c.args.form.now m is_multiple in
     let formed : numerators (map (product_of by) ns) ≡ Ok zs =
-    all_products by c.args.is_turned c.args.form.now c.args.count c.as_slice-terms.result.now c.as_slice-terms.ensures.items c.args.behind.now c.in_ok-products.products.items (c.in_ok-products.ensures {u = tt})
+    all_products by c.args.is_turned c.args.form.now c.args.count c.as_slice-terms.result.now c.as_slice-terms.ensures.items c.args.behind.now c.in_ok-products.products.items
+    (c.in_ok-products.ensures {u = tt})
     ∙ sym (c.in_ok-numbers.ensures {u = tt}) in
     let products = ap (λ x. numerators (map (product_of x) ns)) (sym c.whole_number-by.ensures) ∙ formed in
     let small : AllSmall zs = numerators_small (map (product_of by) ns) zs formed in
@@ -103,7 +105,8 @@ returns-in_err-numbers-clause-made c =
     let ps = c.in_ok-products.products.items in
     let all = all_products by t f n ts c.as_slice-terms.ensures.items behind ps (c.in_ok-products.ensures {u = tt}) in
     rw (p.1, p.2)
-    (OnPass-weaker c.in_err-numbers.field-0.0 (λ passes. Err passes ≡ and_then (numerators (map (product_of by) behind)) (λ more. Ok (ps ++ more))) (λ passes. Err passes ≡ whole_row_of c.args.kind f ns)
+    (OnPass-weaker c.in_err-numbers.field-0.0 (λ passes. Err passes ≡ and_then (numerators (map (product_of by) behind)) (λ more. Ok (ps ++ more))) (λ passes. Err passes
+    ≡ whole_row_of c.args.kind f ns)
     (λ passes h. sym (whole_row_passes c.args.kind f ns c.in_ok-multiple.multiple passes (sym (c.in_ok-multiple.ensures {u = tt}))
     (ap (λ x. numerators (map (product_of x) ns)) (sym c.whole_number-by.ensures) ∙ all ∙ sym h)))
     (c.in_err-numbers.ensures {u = tt}))

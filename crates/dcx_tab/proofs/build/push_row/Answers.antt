@@ -12,4 +12,5 @@ returns c =
     let fits_z : SFits w128 c.args.z = search rules in
     let fits_w : SFits w128 c.args.w = search rules in
     let fits_right : SFits w128 c.args.right = search rules in
-    joined c.args.cells.now.items c.args.entries.now _ _ _ _ c.args.z c.args.w c.args.right c.in_ok-extend_from_slice.ensures.items (simp to_z-of_z at c.in_ok-push.ensures.items) (simp to_z-of_z at c.in_ok-push-2.ensures.items) (simp to_z-of_z at c.in_ok-push-3.ensures.items)
+    joined c.args.cells.now.items c.args.entries.now _ _ _ _ c.args.z c.args.w c.args.right c.in_ok-extend_from_slice.ensures.items (simp to_z-of_z at c.in_ok-push.ensures.items)
+    (simp to_z-of_z at c.in_ok-push-2.ensures.items) (simp to_z-of_z at c.in_ok-push-3.ensures.items)

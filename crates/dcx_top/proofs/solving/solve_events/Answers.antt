@@ -7,4 +7,5 @@ use Rattle.dcx_top.proofs.solving.solve_events.Goals as goal
 
 pub returns : goal.returns
 returns g c =
-    subst (λ (s : List Pairs). SolvesUnder Solve false c.args.accepted.work.problem c.args.limit s c.args.steps.now c.solved_at.new.steps c.solved_at.result) c.as_slice-settings.ensures c.solved_at.ensures
+    subst (λ (s : List Pairs). SolvesUnder Solve false c.args.accepted.work.problem c.args.limit s c.args.steps.now c.solved_at.new.steps c.solved_at.result)
+    c.as_slice-settings.ensures c.solved_at.ensures

@@ -15,16 +15,19 @@ pub overflow_cast-count : goal.overflow_cast-count
 overflow_cast-count c = let p = c.args.program.now in let f = p.form.few_rows in let l = ap length c.as_slice-rows.ensures in record { fits = omega (arith, f, l) }
 
 pub overflow_cast-columns : goal.overflow_cast-columns
-overflow_cast-columns c = let p = c.args.program.now in let f = few_in_all p.rows p.columns p.objective p.phase p.form in let l = ap length c.as_slice-kinds.ensures in record { fits = omega (arith, f, l) }
+overflow_cast-columns c = let p = c.args.program.now in let f = few_in_all p.rows p.columns p.objective p.phase p.form in let l = ap length c.as_slice-kinds.ensures in record
+    { fits = omega (arith, f, l) }
 
 pub overflow_add-count : goal.overflow_add-count
 overflow_add-count c = let p = c.args.program.now in let f = p.form.few_rows in let l = ap length c.as_slice-rows.ensures in record { fits = omega (arith, f, l) }
 
 pub overflow_add-columns : goal.overflow_add-columns
-overflow_add-columns c = let p = c.args.program.now in let f = few_in_all p.rows p.columns p.objective p.phase p.form in let l = ap length c.as_slice-kinds.ensures in record { fits = omega (arith, f, l) }
+overflow_add-columns c = let p = c.args.program.now in let f = few_in_all p.rows p.columns p.objective p.phase p.form in let l = ap length c.as_slice-kinds.ensures in record
+    { fits = omega (arith, f, l) }
 
 pub overflow_add-kinds : goal.overflow_add-kinds
-overflow_add-kinds c = let p = c.args.program.now in let f = few_in_all p.rows p.columns p.objective p.phase p.form in let l = ap length c.as_slice-kinds.ensures in record { fits = omega (arith, f, l) }
+overflow_add-kinds c = let p = c.args.program.now in let f = few_in_all p.rows p.columns p.objective p.phase p.form in let l = ap length c.as_slice-kinds.ensures in record
+    { fits = omega (arith, f, l) }
 
 pub overflow_add-rows : goal.overflow_add-rows
 overflow_add-rows c = let p = c.args.program.now in let f = p.form.few_rows in let l = ap length c.as_slice-rows.ensures in record { fits = omega (arith, f, l) }
@@ -123,19 +126,23 @@ invariant_of-result c =
     let f4 : SFits w128 p.phase.right = search rules in
     let high : m.height ≡ length p.rows + 2 = c.put_line-2.ensures.height ∙ c.put_line.ensures.height ∙ c.put_rows.ensures.height ∙ c.in_ok-links.ensures.height ∙ ap (λ n. n + 2) er in
     let put : (k : ℕ) → k < length p.rows → row_of m k ≡ row_at (map tableau_row p.rows) k =
-    λ k lt. c.put_line-2.ensures.same k (λ e. omega (arith, e, er, lt)) ∙ c.put_line.ensures.same k (λ e. omega (arith, e, er, lt)) ∙ c.put_rows.ensures.there k (omega (arith, lt, er)) ∙ ap (λ xs. row_at (map tableau_row xs) k) c.as_slice-rows.ensures in
+    λ k lt. c.put_line-2.ensures.same k (λ e. omega (arith, e, er, lt)) ∙ c.put_line.ensures.same k (λ e. omega (arith, e, er, lt)) ∙ c.put_rows.ensures.there k
+    (omega (arith, lt, er)) ∙ ap (λ xs. row_at (map tableau_row xs) k) c.as_slice-rows.ensures in
     let at_objective : row_of m (length p.rows) ≡ objective_row p.objective =
-    ap (row_of m) (sym er) ∙ c.put_line-2.ensures.same (length rs) (λ e. omega (arith, e)) ∙ (simp to_z-of_z at c.put_line.ensures.row) ∙ ap (λ (xs : Row). xs ++ p.objective.lead ∷ pos 0 ∷ p.objective.right ∷ []) c.as_slice.ensures in
+    ap (row_of m) (sym er) ∙ c.put_line-2.ensures.same (length rs) (λ e. omega (arith, e)) ∙ (simp to_z-of_z at c.put_line.ensures.row) ∙ ap (λ (xs : Row). xs ++ p.objective.lead
+    ∷ pos 0 ∷ p.objective.right ∷ []) c.as_slice.ensures in
     let at_phase : row_of m (length p.rows + 1) ≡ phase_row p.phase =
     ap (λ n. row_of m (n + 1)) (sym er) ∙ (simp to_z-of_z at c.put_line-2.ensures.row) ∙ ap (λ (xs : Row). xs ++ pos 0 ∷ p.phase.lead ∷ p.phase.right ∷ []) c.as_slice-2.ensures in
     let few = few_in_all p.rows p.columns p.objective p.phase p.form in
     let sizes = c.note_sizes-narrow.new.sizes in
-    let sized : take c.in_ok-sizes.sizes.len (sizes ++ drop (length sizes) c.in_ok-sizes.sizes.items) ≡ sizes = take_at sizes _ c.in_ok-sizes.sizes.len (c.note_sizes-narrow.auto.sizes ∙ c.deref_mut.ensures.len) in
+    let sized : take c.in_ok-sizes.sizes.len (sizes ++ drop (length sizes) c.in_ok-sizes.sizes.items) ≡ sizes = take_at sizes _ c.in_ok-sizes.sizes.len
+    (c.note_sizes-narrow.auto.sizes ∙ c.deref_mut.ensures.len) in
     record {
       height = high ∙ ap (λ n. n + 2) (sym er);
       width = c.put_line-2.ensures.width ∙ c.put_line.ensures.width ∙ c.put_rows.ensures.width ∙ c.in_ok-links.ensures.width;
       room = (let s = c.in_ok-entries.entries.ok in let e = c.in_ok-entries.ensures.len in omega (arith, s, e));
-      sizes_size = (let q = ap length sized in let a = c.note_sizes-narrow.auto.sizes in let d = c.deref_mut.ensures.len in let s = c.in_ok-sizes.sizes.ok in let e = c.in_ok-sizes.ensures.len in omega (arith, q, a, d, s, e));
+      sizes_size = (let q = ap length sized in let a = c.note_sizes-narrow.auto.sizes in let d = c.deref_mut.ensures.len in let s = c.in_ok-sizes.sizes.ok in let e =
+          c.in_ok-sizes.ensures.len in omega (arith, q, a, d, s, e));
       basis_size = ap length c.in_ok-basis.ensures ∙ length_basis p.rows p.columns p.objective p.phase p.form ∙ ap (λ n. n + 2) (sym er);
       row_count = (let g = p.form.few_rows in omega (arith, er, g));
       column_count = omega (arith, kinds, few);
@@ -172,9 +179,11 @@ returns c =
     let f4 : SFits w128 p.phase.right = search rules in
     let high : m.height ≡ length p.rows + 2 = c.put_line-2.ensures.height ∙ c.put_line.ensures.height ∙ c.put_rows.ensures.height ∙ c.in_ok-links.ensures.height ∙ ap (λ n. n + 2) er in
     let put : (k : ℕ) → k < length p.rows → row_of m k ≡ row_at (map tableau_row p.rows) k =
-    λ k lt. c.put_line-2.ensures.same k (λ e. omega (arith, e, er, lt)) ∙ c.put_line.ensures.same k (λ e. omega (arith, e, er, lt)) ∙ c.put_rows.ensures.there k (omega (arith, lt, er)) ∙ ap (λ xs. row_at (map tableau_row xs) k) c.as_slice-rows.ensures in
+    λ k lt. c.put_line-2.ensures.same k (λ e. omega (arith, e, er, lt)) ∙ c.put_line.ensures.same k (λ e. omega (arith, e, er, lt)) ∙ c.put_rows.ensures.there k
+    (omega (arith, lt, er)) ∙ ap (λ xs. row_at (map tableau_row xs) k) c.as_slice-rows.ensures in
     let at_objective : row_of m (length p.rows) ≡ objective_row p.objective =
-    ap (row_of m) (sym er) ∙ c.put_line-2.ensures.same (length rs) (λ e. omega (arith, e)) ∙ (simp to_z-of_z at c.put_line.ensures.row) ∙ ap (λ (xs : Row). xs ++ p.objective.lead ∷ pos 0 ∷ p.objective.right ∷ []) c.as_slice.ensures in
+    ap (row_of m) (sym er) ∙ c.put_line-2.ensures.same (length rs) (λ e. omega (arith, e)) ∙ (simp to_z-of_z at c.put_line.ensures.row) ∙ ap (λ (xs : Row). xs ++ p.objective.lead
+    ∷ pos 0 ∷ p.objective.right ∷ []) c.as_slice.ensures in
     let at_phase : row_of m (length p.rows + 1) ≡ phase_row p.phase =
     ap (λ n. row_of m (n + 1)) (sym er) ∙ (simp to_z-of_z at c.put_line-2.ensures.row) ∙ ap (λ (xs : Row). xs ++ pos 0 ∷ p.phase.lead ∷ p.phase.right ∷ []) c.as_slice-2.ensures in
     same_table _ _ (first_rows p.rows p.columns p.objective p.phase p.form m high put at_objective at_phase) c.in_ok-basis.ensures kinds (c.plain_of.ensures ∙ ap plain_count c.as_slice-kinds.ensures)

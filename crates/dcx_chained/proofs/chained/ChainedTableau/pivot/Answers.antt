@@ -139,7 +139,8 @@ invariant_of-self c =
       column_count = s.column_count;
       plain_below = s.plain_below;
       small = λ i lt. let i_in : i < m.height = omega (arith, lt, h) in elim (cases_eq i row) [
-        | inl e ↦ subst AllSmall (sym (ap (row_of n) e ∙ c.turn_row.ensures.row ∙ ap (turned column) c.clear_rows-are_narrow.ensures.same)) (small-turned column (row_of m row) (s.small row (omega (arith, in_row, h))))
+        | inl e ↦ subst AllSmall (sym (ap (row_of n) e ∙ c.turn_row.ensures.row ∙ ap (turned column) c.clear_rows-are_narrow.ensures.same))
+            (small-turned column (row_of m row) (s.small row (omega (arith, in_row, h))))
         | inr d ↦ subst AllSmall (sym (c.turn_row.ensures.same i d ∙ c.clear_rows-are_narrow.ensures.rows i i_in d))
             (small-eliminated column (turned column (row_of m row)) (row_of m i) (length-row_of m i ∙ sym ((turns column (row_of m row) some).width ∙ length-row_of m row)) (s.small i lt)
             (rows_formed m row column (turned column (row_of m row)) c.in_default.ensures.none i i_in d))
@@ -150,7 +151,8 @@ invariant_of-self c =
           let e : take s.sizes.len (sizes ++ drop (length sizes) s.sizes.items) ≡ sizes = take_at sizes _ s.sizes.len (c.clear_rows-are_narrow.auto.sizes ∙ c.deref_mut-2.ensures.len) in
           let now = c.clear_rows-are_narrow.ensures.narrow t in
           let there : IsSized (size_at sizes i) (row_of n i) = elim (cases_eq i row) [
-            | inl q ↦ subst (λ k. IsSized (size_at sizes k) (row_of n k)) (sym q) (subst (λ (w : Row). IsSized (size_at sizes row) w) (sym c.turn_row.ensures.row) (sized-turned column (size_at sizes row) (row_of mid row) (now row in_row)))
+            | inl q ↦ subst (λ k. IsSized (size_at sizes k) (row_of n k)) (sym q) (subst (λ (w : Row). IsSized (size_at sizes row) w) (sym c.turn_row.ensures.row)
+                (sized-turned column (size_at sizes row) (row_of mid row) (now row in_row)))
             | inr d ↦ subst (λ (w : Row). IsSized (size_at sizes i) w) (sym (c.turn_row.ensures.same i d)) (now i (omega (arith, lt, h)))
           ] in
           subst (λ (ss : List ℕ). IsSized (size_at ss i) (row_of n i)) (sym e) there;

@@ -28,8 +28,11 @@ returns g c =
     let ds = c.add_terms.new.slots.items in
     let summed = subst (λ x. t.sum_gives x c.args.form.constant (Ok sum)) c.replace-before.ensures.value (c.in_ok-self-inside.ensures {u = tt}) in
     let start = listed_from t.number_of 0 inside.slots.items in
-    GivesBy-weaker c.add_terms.result (λ _. listed_from t.number_of 0 ds) (λ _. accumulated t.number_of sum ds) (SumsTerms unknown_of (has_zero_coefficient t.number_of) (sum_gives_unknown t.sum_gives) start c.into_vec-terms.result.items)
+    GivesBy-weaker c.add_terms.result (λ _. listed_from t.number_of 0 ds) (λ _. accumulated t.number_of sum ds) (SumsTerms unknown_of (has_zero_coefficient t.number_of)
+    (sum_gives_unknown t.sum_gives) start c.into_vec-terms.result.items)
     (sum_gives_linear t.number_of t.sum_gives c.args.self.now c.args.form)
-    (λ _ h. form_added t.number_of t.sum_gives c.args.self.now c.args.form inside.constant inside.slots.items c.self.view_is c.into_vec-terms.ensures.sparse sum summed c.into_vec-terms.result.items c.into_vec-terms.ensures.items ds h)
-    (λ passes h. term_of_form_passes t.number_of t.sum_gives c.args.self.now c.args.form inside.constant inside.slots.items c.self.view_is c.into_vec-terms.ensures.sparse sum summed c.into_vec-terms.result.items c.into_vec-terms.ensures.items passes h)
+    (λ _ h. form_added t.number_of t.sum_gives c.args.self.now c.args.form inside.constant inside.slots.items c.self.view_is c.into_vec-terms.ensures.sparse sum summed
+    c.into_vec-terms.result.items c.into_vec-terms.ensures.items ds h)
+    (λ passes h. term_of_form_passes t.number_of t.sum_gives c.args.self.now c.args.form inside.constant inside.slots.items c.self.view_is c.into_vec-terms.ensures.sparse sum
+    summed c.into_vec-terms.result.items c.into_vec-terms.ensures.items passes h)
     c.add_terms.ensures.sum

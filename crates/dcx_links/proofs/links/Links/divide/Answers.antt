@@ -13,14 +13,16 @@ divide_row-requires-clause-divides c = λ k lt.
     let s = c.self.inside.store in
     let f : SFits w128 c.args.by = search rules in
     let w = ap (λ (m : Matrix). m.width) c.self.view_is in
-    let e : number_in s c.args.row k ≡ number_at c.args.self.now c.args.row k = sym (number_at-matrix_of s c.self.invariant.sound c.args.row k) ∙ ap (λ (m : Matrix). number_at m c.args.row k) c.self.view_is in
+    let e : number_in s c.args.row k ≡ number_at c.args.self.now c.args.row k = sym (number_at-matrix_of s c.self.invariant.sound c.args.row k)
+    ∙ ap (λ (m : Matrix). number_at m c.args.row k) c.self.view_is in
     simp to_z-of_z (subst (λ z. unsigned_abs c.args.by ∣ unsigned_abs z) (sym e) (c.requires.divides k (omega (arith, lt, w))))
 
 pub returns-clause-there : goal.returns-clause-there
 returns-clause-there c = λ k.
     let s = c.self.inside.store in
     let f : SFits w128 c.args.by = search rules in
-    let e : number_in s c.args.row k ≡ number_at c.args.self.now c.args.row k = sym (number_at-matrix_of s c.self.invariant.sound c.args.row k) ∙ ap (λ (m : Matrix). number_at m c.args.row k) c.self.view_is in
+    let e : number_in s c.args.row k ≡ number_at c.args.self.now c.args.row k = sym (number_at-matrix_of s c.self.invariant.sound c.args.row k)
+    ∙ ap (λ (m : Matrix). number_at m c.args.row k) c.self.view_is in
     number_at-matrix_of c.divide_row.new.store c.divide_row.ensures.sound c.args.row k ∙ (simp to_z-of_z at (c.divide_row.ensures.there k)) ∙ ap (λ z. divided (unsigned_abs c.args.by) z) e
 
 pub returns-clause-same : goal.returns-clause-same

@@ -8,4 +8,5 @@ use Rattle.dcx_links.proofs.links.Links.get.Goals as goal
 pub returns : goal.returns
 returns c =
     let f : SFits w128 c.number_near.result = search rules in
-    to_z-of_z f ∙ c.number_near.ensures ∙ sym (number_at-matrix_of c.self.inside.store c.self.invariant.sound c.args.row c.args.column) ∙ ap (λ (m : Matrix). number_at m c.args.row c.args.column) c.self.view_is
+    to_z-of_z f ∙ c.number_near.ensures ∙ sym (number_at-matrix_of c.self.inside.store c.self.invariant.sound c.args.row c.args.column)
+    ∙ ap (λ (m : Matrix). number_at m c.args.row c.args.column) c.self.view_is

@@ -11,14 +11,16 @@ multiply_row-requires-clause-fits c = λ k lt.
     let s = c.self.inside.store in
     let f : SFits w128 c.args.by = search rules in
     let w = ap (λ (m : Matrix). m.width) c.self.view_is in
-    let e : number_in s c.args.row k ≡ number_at c.args.self.now c.args.row k = sym (number_at-matrix_of s c.self.invariant.sound c.args.row k) ∙ ap (λ (m : Matrix). number_at m c.args.row k) c.self.view_is in
+    let e : number_in s c.args.row k ≡ number_at c.args.self.now c.args.row k = sym (number_at-matrix_of s c.self.invariant.sound c.args.row k)
+    ∙ ap (λ (m : Matrix). number_at m c.args.row k) c.self.view_is in
     simp to_z-of_z (subst (λ z. unsigned_abs (c.args.by *ℤ z) < 2 ^ 127) (sym e) (c.requires.fits k (omega (arith, lt, w))))
 
 pub returns-clause-there : goal.returns-clause-there
 returns-clause-there c = λ k.
     let s = c.self.inside.store in
     let f : SFits w128 c.args.by = search rules in
-    let e : number_in s c.args.row k ≡ number_at c.args.self.now c.args.row k = sym (number_at-matrix_of s c.self.invariant.sound c.args.row k) ∙ ap (λ (m : Matrix). number_at m c.args.row k) c.self.view_is in
+    let e : number_in s c.args.row k ≡ number_at c.args.self.now c.args.row k = sym (number_at-matrix_of s c.self.invariant.sound c.args.row k)
+    ∙ ap (λ (m : Matrix). number_at m c.args.row k) c.self.view_is in
     number_at-matrix_of c.multiply_row.new.store c.multiply_row.ensures.sound c.args.row k ∙ (simp to_z-of_z at (c.multiply_row.ensures.there k)) ∙ ap (λ z. c.args.by *ℤ z) e
 
 pub returns-clause-same : goal.returns-clause-same

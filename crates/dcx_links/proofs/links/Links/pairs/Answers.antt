@@ -11,5 +11,6 @@ invariant_of-result c =
     let a = c.begin.ensures ∙ c.row.ensures in
     let b = c.begin-2.ensures ∙ c.row-2.ensures in (
       ap (λ (w : Walk). w.from) a ∙ sym (ap (λ (w : Walk). w.from) b),
-      ap (λ (w : Walk). length w.numbers) a ∙ length-listed m.width (λ k. number_at m c.args.first k) ∙ sym (ap (λ (w : Walk). length w.numbers) b ∙ length-listed m.width (λ k. number_at m c.args.second k)),
+      ap (λ (w : Walk). length w.numbers) a ∙ length-listed m.width (λ k. number_at m c.args.first k) ∙ sym (ap (λ (w : Walk). length w.numbers) b ∙ length-listed m.width
+          (λ k. number_at m c.args.second k)),
     )

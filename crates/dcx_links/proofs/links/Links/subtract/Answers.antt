@@ -12,7 +12,8 @@ lessen_by-requires-clause-fits c = λ k lt.
     let s = c.self.inside.store in
     let at = column_at c.args.entries.now k in
     let f : SFits w128 c.args.by = search rules in
-    let e : number_in s c.args.row at ≡ number_at c.args.self.now c.args.row at = sym (number_at-matrix_of s c.self.invariant.sound c.args.row at) ∙ ap (λ (m : Matrix). number_at m c.args.row at) c.self.view_is in
+    let e : number_in s c.args.row at ≡ number_at c.args.self.now c.args.row at = sym (number_at-matrix_of s c.self.invariant.sound c.args.row at)
+    ∙ ap (λ (m : Matrix). number_at m c.args.row at) c.self.view_is in
     simp to_z-of_z (subst (λ z. unsigned_abs (z -ℤ c.args.by *ℤ value_at c.args.entries.now k) < 2 ^ 127) (sym e) (c.requires.fits k lt))
 
 pub returns-clause-there : goal.returns-clause-there
@@ -20,8 +21,10 @@ returns-clause-there c = λ k lt.
     let s = c.self.inside.store in
     let at = column_at c.args.entries.now k in
     let f : SFits w128 c.args.by = search rules in
-    let e : number_in s c.args.row at ≡ number_at c.args.self.now c.args.row at = sym (number_at-matrix_of s c.self.invariant.sound c.args.row at) ∙ ap (λ (m : Matrix). number_at m c.args.row at) c.self.view_is in
-    number_at-matrix_of c.lessen_by.new.store c.lessen_by.ensures.sound c.args.row at ∙ (simp to_z-of_z at (c.lessen_by.ensures.there k lt)) ∙ ap (λ z. z -ℤ c.args.by *ℤ value_at c.args.entries.now k) e
+    let e : number_in s c.args.row at ≡ number_at c.args.self.now c.args.row at = sym (number_at-matrix_of s c.self.invariant.sound c.args.row at)
+    ∙ ap (λ (m : Matrix). number_at m c.args.row at) c.self.view_is in
+    number_at-matrix_of c.lessen_by.new.store c.lessen_by.ensures.sound c.args.row at ∙ (simp to_z-of_z at (c.lessen_by.ensures.there k lt))
+    ∙ ap (λ z. z -ℤ c.args.by *ℤ value_at c.args.entries.now k) e
 
 pub returns-clause-same : goal.returns-clause-same
 returns-clause-same c = λ r d h.

@@ -29,7 +29,8 @@ returns-clause-steps c =
     let x = c.index-cell.result.now in
     let e : x ≡ cell_at s.cells.items w.link = cell_read s.cells.items w.link x lt c.index-cell.ensures in
     let f : SFits w128 x.value = search rules in
-    let comes : ComesNext c.args.self.now (record { at = x.column; value = x.value }) = subst (λ (y : Walk). ComesNext y (record { at = x.column; value = x.value })) c.self.view_is (rw e (row_comes s c.self.invariant.0 w.row w.from w.link c.self.invariant.1 c.if-self.false)) in
+    let comes : ComesNext c.args.self.now (record { at = x.column; value = x.value }) = subst (λ (y : Walk). ComesNext y (record { at = x.column; value = x.value })) c.self.view_is
+    (rw e (row_comes s c.self.invariant.0 w.row w.from w.link c.self.invariant.1 c.if-self.false)) in
     (simp to_z-of_z comes, ap (λ (y : Walk). walk_at y.numbers (x.column + 1)) c.self.view_is)
 
 pub returns-clause-goes : goal.returns-clause-goes

@@ -19,7 +19,8 @@ invariant_of-result c =
     let cells = c.in_ok-cells.cells.items in
     let kinds = ap length c.as_slice-kinds.ensures in
     let rows = ap length c.as_slice.ensures in
-    let same : (length p.rows + 2) * (length p.columns + 3) ≡ (length c.as_slice.result.now + 2) * (length c.as_slice-kinds.result.now + 3) = ap (λ n. (n + 2) * (length p.columns + 3)) (sym rows) ∙ ap (λ n. (length c.as_slice.result.now + 2) * (n + 3)) (sym kinds) in
+    let same : (length p.rows + 2) * (length p.columns + 3) ≡ (length c.as_slice.result.now + 2) * (length c.as_slice-kinds.result.now + 3) = ap
+    (λ n. (n + 2) * (length p.columns + 3)) (sym rows) ∙ ap (λ n. (length c.as_slice.result.now + 2) * (n + 3)) (sym kinds) in
     record {
       size = cells_length p.rows p.columns p.objective p.phase p.form cells c.in_ok-cells.ensures ∙ same;
       scratch_size = (let s = c.in_ok-scratch.scratch.ok in let e = c.in_ok-scratch.ensures.len in omega (arith, s, e));
@@ -37,5 +38,6 @@ returns c =
     let kinds = ap length c.as_slice-kinds.ensures in
     let rows = ap length c.as_slice.ensures in
     same_table _ _
-    (ap (λ n. table_rows (n + 3) (length c.as_slice.result.now + 2) cells) kinds ∙ ap (λ n. table_rows (length p.columns + 3) (n + 2) cells) rows ∙ cells_rows p.rows p.columns p.objective p.phase p.form cells c.in_ok-cells.ensures)
+    (ap (λ n. table_rows (n + 3) (length c.as_slice.result.now + 2) cells) kinds ∙ ap (λ n. table_rows (length p.columns + 3) (n + 2) cells) rows
+    ∙ cells_rows p.rows p.columns p.objective p.phase p.form cells c.in_ok-cells.ensures)
     c.in_ok-basis.ensures kinds (c.plain_of.ensures ∙ ap plain_count c.as_slice-kinds.ensures)
