@@ -1,4 +1,4 @@
-//! A problem is solved: at the settings of its script's solves, at those of a file, or at the two of the trial; or its certificate is written at those of a file, or its constraints are filtered there.
+//! A problem is solved: at the settings of its script's solves, at those of a file, or at the two of the trial; or its certificate is written, or its constraints filtered, at those of a file.
 ghost use Rattle.std.specs.Prelude.{◌≡◌, ◌⊎◌, ◌≤◌, ⊤, ℕ, false, List, Some, IsTrue, MatchOption};
 ghost use Rattle.std.specs.declared.option.Option.{Option};
 ghost use Rattle.dcx_settings.specs.Grammar.{Every};
