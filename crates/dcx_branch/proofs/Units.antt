@@ -1,10 +1,9 @@
 -- The row of a bound as it is made.
-use Rattle.std.proofs.Common.{◌≡◌, ℕ, ◌≤◌, ◌<◌, arith, Bool, true, false, List, [], ◌∷◌, ◌++◌, Some, refl, sym, ap, ap₂, ◌∙◌, subst, pos}
+use Rattle.std.proofs.Common.{◌≡◌, ℕ, ◌≤◌, ◌<◌, arith, Bool, true, false, List, [], ◌∷◌, ◌++◌, Some, sym, ap, ap₂, ◌∙◌, subst, pos}
 use Rattle.std.specs.Prelude.{ℤ}
 use Rattle.std.specs.List.{All}
 use Rattle.std.proofs.lemmas.List.Elements.{All-nil, All-cons, All-head, All-tail}
 use Rattle.dcx_math.specs.Rational.{whole, neg_ℚ}
-use Rattle.dcx_math.proofs.Ratios.{IsTrue-rat_eq}
 use Rattle.dcx_math.proofs.Orders.{<ℚ-≢, neg_ℚ-neg_ℚ, neg_ℚ-zero}
 use Rattle.dcx_math.proofs.Products.{zero-<ℚ-one}
 use Rattle.dcx_frac.specs.declared.fraction.Frac.{Frac}
@@ -16,23 +15,17 @@ use Rattle.dcx_linear.specs.declared.row.RowKind.TheVariants.{AtMost}
 use Rattle.dcx_linear.specs.Changes.{zero_test}
 use Rattle.dcx_linear.specs.FormTerms.{HoldsUnknowns}
 use Rattle.dcx_linear.specs.Widths.{rows_width}
+use Rattle.dcx_linear.proofs.ParamForms.{some_is_kept}
 use Rattle.dcx_branch.specs.declared.bound.BoundAt.{BoundAt}
 use Rattle.dcx_branch.specs.Rows.{unit_row, bound_form, bound_row, bound_rows}
 
 -- ---- one term
-not_zero : (x : Frac) → (value x ≡ whole (pos 0) → ⊥) → zero_test x ≡ false
-not_zero x h = by (zero_test x) refl
-  where
-    by : (b : Bool) → zero_test x ≡ b → b ≡ false
-    by true is = absurd (h ((IsTrue-rat_eq (value x) (whole (pos 0))).0 is))
-    by false is = refl
-
 pub one_sparse : (t : FormTerm Frac) (xs : List (FormTerm Frac)) → (value t.coefficient ≡ whole (pos 0) → ⊥) → xs ≡ t ∷ [] → HoldsUnknowns (λ (f : Frac). Some f) xs
 one_sparse t xs h e =
     subst (HoldsUnknowns (λ (f : Frac). Some f)) (sym e)
     (record {
       rising = (All-nil (λ (u : FormTerm Frac). t.unknown < u.unknown), tt);
-      nonzero = All-cons (λ (u : FormTerm Frac). zero_test u.coefficient ≡ false) t [] (not_zero t.coefficient h) (All-nil (λ (u : FormTerm Frac). zero_test u.coefficient ≡ false));
+      nonzero = All-cons (λ (u : FormTerm Frac). zero_test u.coefficient ≡ false) t [] (some_is_kept t.coefficient h) (All-nil (λ (u : FormTerm Frac). zero_test u.coefficient ≡ false));
     })
 
 pub unit_is : (coefficient : Frac) (unknown : ℕ) (constant : Frac) (terms : List (FormTerm Frac)) → terms ≡ record { unknown = unknown; coefficient = coefficient } ∷ [] →

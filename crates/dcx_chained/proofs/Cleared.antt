@@ -4,18 +4,14 @@ use Rattle.std.proofs.lemmas.Bool.{cases_lt}
 use Rattle.std.proofs.lemmas.Bool.Decides.{nat_tests}
 use Rattle.std.proofs.lemmas.Int.{ints}
 use Rattle.std.proofs.lemmas.List.{get_or_past}
-use native.Mathlib.Nat.{div-le_self}
 use Rattle.dcx_math.specs.Divisors.{gcd_of, divided}
-use Rattle.dcx_math.proofs.Divisors.{divided_is, gcd-dvd_left, gcd-dvd_right}
+use Rattle.dcx_math.proofs.Divisors.{divided_is, divided-zero, gcd-dvd_left, gcd-dvd_right}
 use Rattle.dcx_math.proofs.Primitive.{primitive_part}
 use Rattle.dcx_tab.specs.Rows.{Row, entry, AllSmall}
 use Rattle.dcx_tab.specs.Pivot.{shared, cleared, eliminated, IsRowFormed}
 use Rattle.dcx_tab.proofs.Elimination.{crossed}
 use Rattle.dcx_tab.proofs.LineSteps.{eliminated_some, entry-divided, shared-pos, small-less, small-primitive}
 use Rattle.dcx_tab.proofs.RowLaws.{entry-less, length-mixed}
-
-pub divided-zero : (g : ℕ) → divided g (pos 0) ≡ pos 0
-divided-zero g = let h = div-le_self 0 g in omega (arith, ints, h)
 
 cond_true : (b : Bool) (x y : Row) → b ≡ true → cond b x y ≡ x
 cond_true b x y e = rw e refl

@@ -1,5 +1,5 @@
 -- The forms of a line, lines one after the other, the turns of a `for`, and a list that is made longer.
-use Rattle.std.proofs.Common.{◌≡◌, ℕ, ◌+◌, ◌≤◌, List, ◌∷◌, map, drop, length, slice_get, Some, Result, Ok, Err, sym, ap, ◌∙◌, Vec, Box, Global}
+use Rattle.std.proofs.Common.{◌≡◌, ℕ, ◌+◌, ◌≤◌, List, ◌∷◌, map, drop, length, slice_get, Some, Ok, sym, ap, ◌∙◌, Vec, Box, Global}
 use Rattle.std.proofs.lemmas.List.{at_drop_all, drop_more}
 use Rattle.std.proofs.lemmas.Option.{slice_get_within, get_or_from_slice_get}
 use Rattle.indexmap.specs.IndexMap.{insert_entry}
@@ -16,7 +16,7 @@ use Rattle.dcx_syntax.specs.Statements.{Line, assign, add_to, set_value, repeats
 use Rattle.dcx_script_values.specs.declared.fault.ElabFault.{ElabFault}
 use Rattle.dcx_script_values.specs.Values.{Value, Values, nothing, list as list_value, State, Act, and_then, ◌>>=◌, ◌>>◌, bind, joined, step}
 use Rattle.dcx_script_values.specs.View.{Fails}
-use Rattle.dcx_script_values.proofs.Acts.{Fails-then, Fails-same, then_is}
+use Rattle.dcx_script_values.proofs.Acts.{Fails-then, Fails-same, state_after, then_is}
 use Rattle.dcx_signature.specs.Turns.{items_through}
 use Rattle.dcx_elab.specs.Expressions.{expr_means}
 use Rattle.dcx_elab.specs.Turns.{each_turn}
@@ -100,14 +100,10 @@ turns-end name first rest vs k s h = at_drop_all (λ ys. each_turn name (lines_m
 
 -- ---- faults
 -- ---- a list that is made longer, of which its name lets go meanwhile
-abbrev state_after : State → Result (Unit {0} × State) ElabFault → State
-state_after t (Ok p) = p.1
-state_after t (Err e) = t
-
 pub lengthened : (name : List ℕ) (place : Place) (xs ys zs : Values) (s t : State) → bind name nothing s ≡ Ok (tt, t) → joined place xs ys s ≡ Ok (zs, s)
     → and_then (joined place xs ys s) (λ vs. bind name (list_value vs)) ≡ bind name (list_value zs) t
 lengthened name place xs ys zs s t binds joins =
-    let is : record s { names = insert_entry same_name s.names name nothing } ≡ t = ap (state_after t) binds in
+    let is : record s { names = insert_entry same_name s.names name nothing } ≡ t = ap (state_after {A = Unit {0}} t) binds in
     then_is (joined place xs ys s) (λ vs. bind name (list_value vs)) zs s joins
     ∙ ap (λ (ns : List (List ℕ × Value)). Ok (tt, record s { names = ns })) (sym (bound-twice s.names name nothing (list_value zs)))
     ∙ ap (bind name (list_value zs)) is

@@ -71,7 +71,7 @@ one_refused p r t h k =
 
 -- ---- what is found
 -- tests that say the same are the same
-one_test : (b c : Bool) → (IsTrue b → IsTrue c) → (IsTrue c → IsTrue b) → b ≡ c
+pub one_test : (b c : Bool) → (IsTrue b → IsTrue c) → (IsTrue c → IsTrue b) → b ≡ c
 one_test true c f g = sym (f refl)
 one_test false true f g = g refl
 one_test false false f g = refl

@@ -28,9 +28,10 @@ use Rattle.dcx_linear.specs.ParamForms.{form_value, IsNamedForm, IsListedBy, Sta
 use Rattle.dcx_linear.specs.NamedForms.{IsNamedLinear}
 use Rattle.dcx_linear.specs.FormTerms.{Unknowns}
 use Rattle.dcx_linear.specs.Forms.{linear_value}
-use Rattle.dcx_linear.specs.FormsAt.{frac_value, with_form, at_row, form_on_row, then_row, rows_at, form_at, IsListedForm}
+use Rattle.dcx_linear.specs.FormsAt.{frac_value, with_form, form_on_row, then_row, rows_at, form_at, IsListedForm}
 use Rattle.dcx_linear.specs.Rows.{RowAt, LinearProgram}
 use Rattle.dcx_linear.proofs.SettingForms.{form_at-value}
+use Rattle.dcx_linear.proofs.SettingRows.{on_row}
 use Rattle.dcx_formed.specs.Within.{IsKnown, IsKnownNumber, IsKnownTerm}
 use Rattle.dcx_std.proofs.Solutions.{at_place}
 use Rattle.dcx_graph.specs.Program.{Program}
@@ -39,11 +40,6 @@ use Rattle.dcx_graph.specs.Fixing.{FixGives}
 use Rattle.dcx_graph.specs.Fixed.{IsKnownProgram, HaveArrays, KnownAreListed, FixedAreReductions}
 
 -- ---- arrays
--- a form that is told by its row is the form
-pub on_row : (n : ℕ) (r : Result (Form Frac) Passes) (g : Form Frac) → at_row n r ≡ Ok g → r ≡ Ok g
-on_row n (Ok f) g e = let d : f ≡ g = cc in ap Ok d
-on_row n (Err passes) g e = absurd cc
-
 module _ (p : Problem) (setting : Pairs) where
   abbrev names : List (List ℕ)
   names = (names_in p).parameters

@@ -1,5 +1,5 @@
 -- A problem whose nodes are formed has one program, or one first operation that passes.
-use Rattle.std.proofs.Common.{◌≡◌, ℕ, ◌+◌, List, [], ◌∷◌, ◌++◌, length, map, Option, Result, Ok, Err, inl, inr, refl, sym, ap, ap₂, ◌∙◌, subst}
+use Rattle.std.proofs.Common.{◌≡◌, ℕ, ◌+◌, List, ◌++◌, length, map, Option, Result, Ok, Err, inl, inr, sym, ap, ap₂, ◌∙◌, subst}
 use Rattle.dcx_frac.specs.declared.fraction.Frac.{Frac}
 use Rattle.dcx_frac.specs.declared.fraction.Passes.{Passes}
 use Rattle.dcx_tree.specs.declared.problem.Problem.{Problem}
@@ -12,8 +12,8 @@ use Rattle.dcx_linear.specs.declared.row.Row.{Row}
 use Rattle.dcx_linear.specs.declared.row.RowKind.{RowKind}
 use Rattle.dcx_linear.specs.declared.row.UnknownKind.{UnknownKind}
 use Rattle.dcx_linear.specs.FormLaws.{one_linear_change}
-use Rattle.dcx_linear.specs.Parts.{adds_part, adds_parts}
-use Rattle.dcx_linear.proofs.PartSums.{one_parts}
+use Rattle.dcx_linear.specs.Parts.{adds_part}
+use Rattle.dcx_linear.proofs.PartSums.{one_part}
 use Rattle.dcx_entries.specs.declared.formed.FormedRow.{FormedRow}
 use Rattle.dcx_entries.proofs.OneAnswer.{one_each}
 use Rattle.dcx_graph.specs.declared.constraint.ConstraintEntry.{ConstraintEntry}
@@ -53,14 +53,6 @@ one_of_kind F one kind (Err p) (Err q) h k = ap Err (one_stop F one p q h k)
 module _ {C : Type 0} (of_number : Frac → C) (number_of : C → Option Frac) (Sums : C → C → Result C Passes → Type 0) (Changes : Change → C → Result C Passes → Type 0)
     (one_sum : (a b : C) (r s : Result C Passes) → Sums a b r → Sums a b s → r ≡ s)
     (one_change : (change : Change) (a : C) (r s : Result C Passes) → Changes change a r → Changes change a s → r ≡ s) where
-  -- a part that is added is a list of one
-  alone : (f g : Form C) (change : Change) (r : Result (Form C) Passes) → adds_part number_of Sums Changes f change g r → adds_parts number_of Sums Changes ((change, g) ∷ []) f r
-  alone f g change (Ok x) h = (x, h, refl)
-  alone f g change (Err passes) h = inl h
-
-  one_part : (f g : Form C) (change : Change) (r s : Result (Form C) Passes) → adds_part number_of Sums Changes f change g r → adds_part number_of Sums Changes f change g s → r ≡ s
-  one_part f g change r s h k = one_parts number_of Sums Changes one_sum one_change ((change, g) ∷ []) f r s (alone f g change r h) (alone f g change s k)
-
   one_least : (sense : Sense) (f : Form C) (r s : Result (Form C) Passes) → Least number_of Changes sense f r → Least number_of Changes sense f s → r ≡ s
   one_least Minimize f r s h k = h ∙ sym k
   one_least Maximize f r s h k = one_linear_change number_of Changes one_change (Scale minus_one) f r s h k
@@ -73,7 +65,7 @@ module _ {C : Type 0} (of_number : Frac → C) (number_of : C → Option Frac) (
     one_entry_row x r s h k =
         let left = form_at of_number forms x.left.0 x.entry in
         let right = form_at of_number forms x.right.0 x.entry in
-        one_of_kind (adds_part number_of Sums Changes left (Scale minus_one) right) (one_part left right (Scale minus_one)) x.kind r s h k
+        one_of_kind (adds_part number_of Sums Changes left (Scale minus_one) right) (one_part number_of Sums Changes one_sum one_change left right (Scale minus_one)) x.kind r s h k
 
     one_row_of : (xs : List ConstraintEntry) (n : ℕ) (r s : Result (Row C) (ℕ × Passes)) → RowOf of_number number_of Sums Changes forms xs n r → RowOf of_number number_of Sums Changes forms xs n s
         → r ≡ s

@@ -27,10 +27,14 @@ plus_next setting x ts i t e lt is has =
     ap (plus_terms setting x) (drop_at ts i t lt is)
     ∙ ap (λ o. and_then (product_of t.coefficient (unwrap_or o zero_frac)) (with_product setting x (drop (i + 1) ts))) has
 
--- a coefficient of 1 is kept
-pub one_is_kept : (x : Frac) → value x ≡ whole (pos 1) → zero_test x ≡ false
-one_is_kept x e = by (zero_test x) refl
+-- a coefficient other than 0 is kept
+pub some_is_kept : (x : Frac) → (value x ≡ whole (pos 0) → ⊥) → zero_test x ≡ false
+some_is_kept x h = by (zero_test x) refl
   where
     by : (b : Bool) → zero_test x ≡ b → b ≡ false
-    by true is = absurd (<ℚ-≢ zero-<ℚ-one (sym ((IsTrue-rat_eq (value x) (whole (pos 0))).0 is) ∙ e))
+    by true is = absurd (h ((IsTrue-rat_eq (value x) (whole (pos 0))).0 is))
     by false is = refl
+
+-- so is a coefficient of 1
+pub one_is_kept : (x : Frac) → value x ≡ whole (pos 1) → zero_test x ≡ false
+one_is_kept x e = some_is_kept x (λ z. <ℚ-≢ zero-<ℚ-one (sym z ∙ e))

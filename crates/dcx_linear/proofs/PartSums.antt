@@ -47,7 +47,8 @@ one_follows First Second one two (Err p) (Err q) (inr h) (inr k) =
 module _ {C : Type 0} (number_of : C → Option Frac) (Sums : C → C → Result C Passes → Type 0) (Changes : Change → C → Result C Passes → Type 0) where
   module _ (one_sum : (a b : C) (r s : Result C Passes) → Sums a b r → Sums a b s → r ≡ s)
       (one_change : (change : Change) (a : C) (r s : Result C Passes) → Changes change a r → Changes change a s → r ≡ s) where
-    one_part : (f g : Form C) (change : Change) (r s : Result (Form C) Passes) → adds_part number_of Sums Changes f change g r → adds_part number_of Sums Changes f change g s → r ≡ s
+    -- a part has one sum
+    pub one_part : (f g : Form C) (change : Change) (r s : Result (Form C) Passes) → adds_part number_of Sums Changes f change g r → adds_part number_of Sums Changes f change g s → r ≡ s
     one_part f g change r s h k =
         one_follows (change_gives_linear number_of Changes change g) (sum_gives_linear number_of Sums f) (one_linear_change number_of Changes one_change change g)
         (λ x. one_linear_sum number_of Sums one_sum f x) r s h k

@@ -65,13 +65,14 @@ ok_is_one x y r e d = cc
 ok_or_stop : {A E P : Type 0} (x : A) (stop : E) (r : Result A E) → r ≡ Ok x → r ≡ Err stop → P
 ok_or_stop x stop r e d = cc
 
-on_row_is : (n : ℕ) (r : Result (Form Frac) Passes) (f : Form Frac) → at_row n r ≡ Ok f → r ≡ Ok f
-on_row_is n (Ok g) f e = ap Ok (ok_is_one f g (at_row n (Ok g)) e refl)
-on_row_is n (Err passes) f e = ok_or_stop f (n, passes) (at_row n (Err passes)) e refl
+-- a form that is told by its row is the form
+pub on_row : (n : ℕ) (r : Result (Form Frac) Passes) (f : Form Frac) → at_row n r ≡ Ok f → r ≡ Ok f
+on_row n (Ok g) f e = ap Ok (ok_is_one f g (at_row n (Ok g)) e refl)
+on_row n (Err passes) f e = ok_or_stop f (n, passes) (at_row n (Err passes)) e refl
 
 -- a form of a row at a setting is no wider
 pub form_on_row-width : (setting : Pairs) (row n : ℕ) (f : Form ParamForm) (g : Form Frac) → form_on_row setting row f ≡ Ok g → form_width f ≤ n → form_width g ≤ n
-form_on_row-width setting row n f g e h = form_at-width setting n f g (on_row_is row (form_at setting f) g e) h
+form_on_row-width setting row n f g e h = form_at-width setting n f g (on_row row (form_at setting f) g e) h
 
 abbrev Splits : Pairs → ℕ → Row ParamForm → List (Row ParamForm) → List (Row Frac) → Type 0
 Splits setting m r rs us = (f : Form Frac) × (form_on_row setting m r.form ≡ Ok f) × ((vs : List (Row Frac)) × (rows_at setting (suc m) rs ≡ Ok vs) × (us ≡ with_form r f ∷ vs))

@@ -5,7 +5,7 @@ use Rattle.std.proofs.Math.ListN.{length-set}
 use Rattle.dcx_links.specs.declared.store.Cell.{Cell}
 use Rattle.dcx_links.specs.Lines.{IsNext, IsFrom, AreLines, link_of}
 use Rattle.dcx_links.specs.Cells.{cell_at, head_at, IsAt, InRow, InColumn, IsStore, cell_number, next_in_row_at, next_in_column_at}
-use Rattle.dcx_links.proofs.Numbers.{at_within, number_is, number_none, cell_or}
+use Rattle.dcx_links.proofs.Numbers.{at_within, other_cell, number_is, number_none, cell_or}
 use Rattle.dcx_links.proofs.Inserts.{set_same, set_other, free_kept}
 
 module _ (At Now : ℕ → ℕ → ℕ → Type 0) (old : (i l q : ℕ) → Now i l q → At i l q) (keep : (i l q : ℕ) → At i l q → Now i l q) where
@@ -79,9 +79,6 @@ module _ (cells : List Cell) (rh ch : List ℕ) (free : ℕ) (store : IsStore ce
   other_length : length other ≡ length cells
   other_length = length-set cells j (record (cell_at cells j) { value = v })
 
-  not_j : (k : ℕ) → (cell_at cells k).value ≡ pos 0 → k ≢ j
-  not_j k y e = here.number (subst (λ n. (cell_at cells n).value ≡ pos 0) e y)
-
   one_now : (i k m q : ℕ) → IsAt other i m q → IsAt other k m q → i ≡ k
   one_now i k m q f g = store.one_cell i k m q (before_at i m q f) (before_at k m q g)
 
@@ -96,7 +93,7 @@ module _ (cells : List Cell) (rh ch : List ℕ) (free : ℕ) (store : IsStore ce
     one_cell = one_now;
     few = rw other_length store.few;
     order = store.order;
-    freed = free_kept cells other other_length store.order free (λ k has y. (value_other k (not_j k y), read_same (λ (y : Cell). y.next_in_row) (λ y. refl) k)) store.freed;
+    freed = free_kept cells other other_length store.order free (λ k has y. (value_other k (other_cell cells j k here.number y), read_same (λ (y : Cell). y.next_in_row) (λ y. refl) k)) store.freed;
     rest = λ i lt z. elim (cases_eq i j) [
       | inl e ↦ absurd (number (sym value_here ∙ ap (λ n. (cell_at other n).value) (sym e) ∙ z))
       | inr n ↦ store.rest i (omega (arith, lt, other_length)) (sym (value_other i n) ∙ z)

@@ -10,7 +10,7 @@ use Rattle.dcx_links.specs.Cells.{head_at, cell_at, IsAt, InRow, InColumn, IsSto
 use Rattle.dcx_links.specs.Cells.{bound_in_row, bound_in_column, with_next_in_row, with_next_in_column, with_head, AreFree, blank}
 use Rattle.dcx_links.proofs.Free.{some_free}
 use Rattle.dcx_links.proofs.Lines.{lines_with}
-use Rattle.dcx_links.proofs.Numbers.{at_within, number_is, number_none, cell_or}
+use Rattle.dcx_links.proofs.Numbers.{at_within, other_cell, number_is, number_none, cell_or}
 use Rattle.dcx_links.proofs.Stores.{cell_read, row_apart, column_apart}
 
 pub set_same : (cells : List Cell) (i : ℕ) (x : Cell) → i < length cells → cell_at (set cells i x) i ≡ x
@@ -97,6 +97,10 @@ free_kept cells now len (k ∷ ks) head h f =
     let e = h k (inl refl) f.2 in
     (f.0, omega (arith, f.1, len), e.0 ∙ f.2, f.3, subst (λ n. AreFree now n ks) (sym e.1) (free_kept cells now len ks (next_in_row_at cells k) (λ m at z. h m (inr at) z) f.4))
 
+-- no link of a row comes from a cell without a number
+pub not_numbered : (cells : List Cell) (k : ℕ) → (cell_at cells k).value ≡ pos 0 → (u : Option ℕ) (l a : ℕ) → IsFrom (InRow cells) l u a → u ≢ Some k
+not_numbered cells k z u l a f e = let g : IsFrom (InRow cells) l (Some k) a = subst (λ (y : Option ℕ). IsFrom (InRow cells) l y a) e f in g.1.number z
+
 module _ (cells : List Cell) (rh ch : List ℕ) (j : ℕ) (store : IsStore cells rh ch j) (x : Cell) (row_in : x.row < length rh) (column_in : x.column < length ch)
     (number : x.value ≢ pos 0) (empty : (i : ℕ) → ¬ IsAt cells i x.row x.column)
     (s : Option ℕ) (b : ℕ) (in_row : IsSpot (InRow cells) x.row x.column s b x.next_in_row) (row_is : x.next_in_row ≡ link_of (head_at rh) (next_in_row_at cells) x.row s)
@@ -175,9 +179,6 @@ module _ (cells : List Cell) (rh ch : List ℕ) (j : ℕ) (store : IsStore cells
   ]
 
   -- the links to the right
-  not_from_j : (u : Option ℕ) (l a : ℕ) → IsFrom (InRow cells) l u a → u ≢ Some j
-  not_from_j u l a f e = let g : IsFrom (InRow cells) l (Some j) a = subst (λ (y : Option ℕ). IsFrom (InRow cells) l y a) e f in fresh l g.0 g.1
-
   not_from_j_column : (u : Option ℕ) (l a : ℕ) → IsFrom (InColumn cells) l u a → u ≢ Some j
   not_from_j_column u l a f e = let g : IsFrom (InColumn cells) l (Some j) a = subst (λ (y : Option ℕ). IsFrom (InColumn cells) l y a) e f in fresh g.0 l g.1
 
@@ -197,7 +198,7 @@ module _ (cells : List Cell) (rh ch : List ℕ) (j : ℕ) (store : IsStore cells
   new_rows = lines_with (InRow cells) (InRow three) j x.row x.column (row_apart cells rh ch j store) old_at keep_at new_at
       (head_at rh) (next_in_row_at cells) (head_at (with_head rh x.row s j)) (next_in_row_at three) store.rows_linked s b (rw row_is at in_row) empty
       (new_link (InRow cells) (row_apart cells rh ch j store) rh x.row row_in s b j in_row.from (next_in_row_at cells) (next_in_row_at three) (λ k e. row_read k ∙ row_to one s j s_in k e))
-      (row_read j ∙ row_other one s j j (not_from_j s x.row b in_row.from) ∙ ap (λ (y : Cell). y.next_in_row) (set_same cells j x j_in) ∙ row_is)
+      (row_read j ∙ row_other one s j j (not_numbered cells j freed.2 s x.row b in_row.from) ∙ ap (λ (y : Cell). y.next_in_row) (set_same cells j x j_in) ∙ row_is)
       (other_links (InRow cells) (row_apart cells rh ch j store) rh x.row row_in s b j in_row.from (next_in_row_at cells) (next_in_row_at three) row_kept)
 
   pub new_columns : AreLines (InColumn three) (head_at (with_head ch x.column t j)) (next_in_column_at three)
@@ -220,18 +221,15 @@ module _ (cells : List Cell) (rh ch : List ℕ) (j : ℕ) (store : IsStore cells
     ]
   ]
 
-  not_numbered : (k : ℕ) → (cell_at cells k).value ≡ pos 0 → (u : Option ℕ) (l a : ℕ) → IsFrom (InRow cells) l u a → u ≢ Some k
-  not_numbered k z u l a f e = let g : IsFrom (InRow cells) l (Some k) a = subst (λ (y : Option ℕ). IsFrom (InRow cells) l y a) e f in g.1.number z
-
   new_free : AreFree three (next_in_row_at cells j) free
   new_free = free_kept cells three new_length free (next_in_row_at cells j) (λ k has z.
       let n : k ≢ j = λ e. freed.3 (subst (λ m. Has free m) e has) in
       let e = set_other cells j k x n in
-      (value_is k ∙ ap (λ (y : Cell). y.value) e, row_read k ∙ row_other one s j k (not_numbered k z s x.row b in_row.from) ∙ ap (λ (y : Cell). y.next_in_row) e)) freed.4
+      (value_is k ∙ ap (λ (y : Cell). y.value) e, row_read k ∙ row_other one s j k (not_numbered cells k z s x.row b in_row.from) ∙ ap (λ (y : Cell). y.next_in_row) e)) freed.4
 
   new_rest : (i : ℕ) → i < length three → (cell_at three i).value ≡ pos 0 → Has free i
   new_rest i lt z =
-      let n : i ≢ j = λ e. new_at.number (subst (λ m. (cell_at three m).value ≡ pos 0) e z) in
+      let n : i ≢ j = other_cell three j i new_at.number z in
       let e = set_other cells j i x n in
       elim (rest i (omega (arith, lt, new_length)) (sym (value_is i ∙ ap (λ (y : Cell). y.value) e) ∙ z)) [
         | inl e ↦ absurd (n e)

@@ -1,5 +1,5 @@
 -- The number at a place is that of the cell there.
-use Rattle.std.proofs.Common.{◌≡◌, ◌≢◌, ℕ, zero, suc, ◌<◌, ◌≤◌, ◌⊎◌, inl, inr, ◌&&◌, cond, true, false, List, [], ◌∷◌, length, nat_eq, refl, sym, ap, ◌∙◌, arith, pos, negsuc, ℤ}
+use Rattle.std.proofs.Common.{◌≡◌, ◌≢◌, ℕ, zero, suc, ◌<◌, ◌≤◌, ◌⊎◌, inl, inr, ◌&&◌, cond, true, false, List, [], ◌∷◌, length, nat_eq, refl, sym, subst, ap, ◌∙◌, arith, pos, negsuc, ℤ}
 use Rattle.std.proofs.lemmas.Bool.{cases_eq, eq-eqb, ne_eqb}
 use Rattle.std.proofs.lemmas.List.{get_or_past}
 use Rattle.dcx_links.specs.declared.store.Cell.{Cell}
@@ -13,6 +13,10 @@ at_within cells i d = elim (le_or (length cells) i) [
   | inl le ↦ absurd (d (ap (λ (x : Cell). x.value) (get_or_past cells i blank le)))
   | inr lt ↦ lt
 ]
+
+-- a cell without a number isn't one that has a number
+pub other_cell : (cells : List Cell) (j k : ℕ) → (cell_at cells j).value ≢ pos 0 → (cell_at cells k).value ≡ pos 0 → k ≢ j
+other_cell cells j k number none e = number (subst (λ n. (cell_at cells n).value ≡ pos 0) e none)
 
 pub zero_or : (v : ℤ) → ((v ≡ pos 0) × (is_zero v ≡ true)) ⊎ ((v ≢ pos 0) × (is_zero v ≡ false))
 zero_or (pos zero) = inl (refl, refl)

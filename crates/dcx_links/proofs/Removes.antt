@@ -8,9 +8,10 @@ use Rattle.dcx_links.specs.Lines.{none, Has, IsFrom, IsSpot, AreApart, AreLines,
 use Rattle.dcx_links.specs.Cells.{head_at, cell_at, IsAt, InRow, InColumn, IsStore, IsSound, cell_number, number_in, next_in_row_at, next_in_column_at}
 use Rattle.dcx_links.specs.Cells.{bound_in_row, bound_in_column, with_next_in_row, with_next_in_column, with_head, AreFree}
 use Rattle.dcx_links.proofs.Lines.{lines_without, spot_lands, not_own}
-use Rattle.dcx_links.proofs.Numbers.{at_within, number_is, number_none, cell_or, cell_there}
+use Rattle.dcx_links.proofs.Numbers.{at_within, other_cell, number_is, number_none, cell_or, cell_there}
 use Rattle.dcx_links.proofs.Stores.{cell_read, row_apart, column_apart}
-use Rattle.dcx_links.proofs.Inserts.{set_same, set_other, read_row, read_column, row_to, row_other, column_to, column_other, length_row, length_column, length_head, new_link, head_same, free_kept}
+use Rattle.dcx_links.proofs.Inserts.{set_same, set_other, read_row, read_column, row_to, row_other, column_to, column_other, length_row, length_column, length_head}
+use Rattle.dcx_links.proofs.Inserts.{new_link, head_same, free_kept, not_numbered}
 
 -- the other links
 links_but : (At : ℕ → ℕ → ℕ → Type 0) (apart : AreApart At) (heads : List ℕ) (r : ℕ) (within : r < length heads) (s : Option ℕ) (b to : ℕ) (from : IsFrom At r s b) (next next' : ℕ → ℕ) (j : ℕ)
@@ -122,19 +123,13 @@ module _ (cells : List Cell) (rh ch : List ℕ) (free : ℕ) (store : IsStore ce
       (links_but (InColumn cells) (column_apart cells rh ch free store) ch c column_in t d (next_in_column_at cells j) in_column.from (next_in_column_at cells) (next_in_column_at less) j
       (λ k l q at n m. ap (λ (y : Cell). y.next_in_column) (set_other two j k z n) ∙ column_other one t (next_in_column_at cells j) k m ∙ column_read k))
 
-  not_numbered : (k : ℕ) → (cell_at cells k).value ≡ pos 0 → (u : Option ℕ) (l a : ℕ) → IsFrom (InRow cells) l u a → u ≢ Some k
-  not_numbered k y u l a f e = let g : IsFrom (InRow cells) l (Some k) a = subst (λ (x : Option ℕ). IsFrom (InRow cells) l x a) e f in g.1.number y
-
-  not_j : (k : ℕ) → (cell_at cells k).value ≡ pos 0 → k ≢ j
-  not_j k y e = here.number (subst (λ n. (cell_at cells n).value ≡ pos 0) e y)
-
   less_free : AreFree less j (j ∷ store.order)
   less_free =
       let e = set_same two j z j_two in
       let same = free_kept cells less less_length store.order free (λ k has y. (
-        value_is k (not_j k y),
-        row_read k (not_j k y) ∙ row_other cells s (next_in_row_at cells j) k
-            (not_numbered k y s r b in_row.from),
+        value_is k (other_cell cells j k here.number y),
+        row_read k (other_cell cells j k here.number y) ∙ row_other cells s (next_in_row_at cells j) k
+            (not_numbered cells k y s r b in_row.from),
       )) store.freed in (
         refl,
         omega (arith, less_length, j_in),

@@ -1,8 +1,6 @@
 -- The numbers of a row, each changed by the same function from the first to the last.
 use Rattle.std.proofs.Common.{◌≡◌, ◌≢◌, ℕ, ◌+◌, ◌<◌, ◌≤◌, inl, inr, sym, ap, ◌∙◌, subst, arith, pos, ℤ, ◌*ℤ◌, unsigned_abs}
 use Rattle.std.proofs.lemmas.Bool.{cases_eq, cases_lt}
-use Rattle.std.proofs.lemmas.Int.{ints}
-use native.Mathlib.Nat.{div-le_self}
 use Prim.Native.Nat.{◌∣◌}
 use Rattle.dcx_math.specs.Integers.{*ℤ-zero}
 use Rattle.dcx_math.specs.Divisors.{divided}
@@ -11,9 +9,6 @@ use Rattle.dcx_links.specs.declared.store.Store.{Store}
 use Rattle.dcx_links.specs.Lines.{none, IsNext}
 use Rattle.dcx_links.specs.Cells.{cell_at, InRow, IsSound, number_in}
 use Rattle.dcx_links.proofs.Stores.{walk_ends, walk_number, walk_zeros, walk_beyond}
-
-pub divided-zero : (g : ℕ) → divided g (pos 0) ≡ pos 0
-divided-zero g = let h = div-le_self 0 g in omega (arith, ints, h)
 
 -- a quotient by a divisor isn't 0
 pub divided_some : (g : ℕ) (z : ℤ) → z ≢ pos 0 → g ∣ unsigned_abs z → divided g z ≢ pos 0

@@ -4,8 +4,7 @@ use Rattle.std.specs.Prelude.{Result, not, ◌&&◌, IfOk, slice_get}
 use Rattle.std.proofs.lemmas.Option.{none-some, same_Some}
 use Rattle.dcx_math.specs.Rational.{ℚ, whole, ◌-ℚ◌, ◌*ℚ◌}
 use Rattle.dcx_math.specs.Sums.{rat_at}
-use Rattle.dcx_math.proofs.Ring.{ring, reads}
-use Rattle.dcx_math.proofs.Orders.{*ℚ_comm}
+use Rattle.dcx_math.proofs.Orders.{*ℚ_comm, -ℚ_idr}
 use Rattle.dcx_frac.specs.declared.fraction.Frac.{Frac}
 use Rattle.dcx_frac.specs.declared.fraction.Passes.{Passes}
 use Rattle.dcx_frac.specs.Frac.{value}
@@ -32,14 +31,11 @@ difference_formed x y z e = subst (λ r. IfOk r (λ f. value f ≡ value x -ℚ 
 one : value (frac_at (whole (pos 1))) ≡ whole (pos 1)
 one = value-whole (pos 1) (lit< tt)
 
-minus_none : (x : ℚ) → x ≡ x -ℚ whole (pos 0)
-minus_none x = ring (x ∷ []) (search reads depth 30) tt
-
 -- ---- the steps
 shifted_is : (status : LpStatus) (kind : RowKind) (x y : Frac) → shifted status kind x ≡ Ok y → value y ≡ value x -ℚ offset status (is_at_most kind)
-shifted_is Optimal kind x y e = let same : x ≡ y = cc in ap value (sym same) ∙ minus_none (value x)
-shifted_is Unbounded kind x y e = let same : x ≡ y = cc in ap value (sym same) ∙ minus_none (value x)
-shifted_is Infeasible AtMost x y e = let same : x ≡ y = cc in ap value (sym same) ∙ minus_none (value x)
+shifted_is Optimal kind x y e = let same : x ≡ y = cc in ap value (sym same) ∙ sym (-ℚ_idr (value x))
+shifted_is Unbounded kind x y e = let same : x ≡ y = cc in ap value (sym same) ∙ sym (-ℚ_idr (value x))
+shifted_is Infeasible AtMost x y e = let same : x ≡ y = cc in ap value (sym same) ∙ sym (-ℚ_idr (value x))
 shifted_is Infeasible Equal x y e = difference_formed x (frac_at (whole (pos 1))) y e ∙ ap (λ z. value x -ℚ z) one
 
 turned_is : (kind : RowKind) (negated : Bool) (x : Frac) → value (turned kind negated x) ≡ turned_if (not (is_at_most kind) && negated) (value x)

@@ -4,21 +4,21 @@ use Rattle.std.specs.Prelude.{sum_by}
 use Rattle.std.proofs.lemmas.List.{map-append, drop_more}
 use Rattle.std.proofs.lemmas.List.Sums.{sum_by-cons}
 use Rattle.dcx_math.specs.Rational.{ℚ, whole, ◌-ℚ◌, neg_ℚ}
+use Rattle.dcx_math.proofs.Orders.{neg_ℚ-from_zero, -ℚ_idr}
 use Rattle.dcx_frac.specs.declared.fraction.Frac.{Frac}
 use Rattle.dcx_frac.specs.Frac.{value}
 use Rattle.dcx_linear.specs.declared.row.UnknownKind.{UnknownKind}
 use Rattle.dcx_linear.specs.Size.{columns_for}
 use Rattle.dcx_postsolve.specs.Numbers.{unknown_number, numbers_from, AreOneSidedFrom}
-use Rattle.dcx_postsolve.proofs.Fractions.{less_none, none_less}
 
 -- where the plus column is 0, the unknown is the minus column negated
 pub minus_alone : (x y : ℚ) → x ≡ whole (pos 0) → neg_ℚ y ≡ x -ℚ y
-minus_alone x y e = none_less y ∙ ap (λ z. z -ℚ y) (sym e)
+minus_alone x y e = sym (neg_ℚ-from_zero y) ∙ ap (λ z. z -ℚ y) (sym e)
 
 -- where it isn't, the minus column is 0
 pub plus_alone : (x y : ℚ) → (x ≡ whole (pos 0)) ⊎ (y ≡ whole (pos 0)) → (x ≡ whole (pos 0) → ⊥) → x ≡ x -ℚ y
 plus_alone x y (inl e) not = absurd (not e)
-plus_alone x y (inr e) not = less_none x ∙ ap (λ z. x -ℚ z) (sym e)
+plus_alone x y (inr e) not = sym (-ℚ_idr x) ∙ ap (λ z. x -ℚ z) (sym e)
 
 module _ (kinds : List UnknownKind) (i : ℕ) (d : UnknownKind) (lt : i < length kinds) where
   rest_is : drop i kinds ≡ get_or kinds i d ∷ drop (i + 1) kinds

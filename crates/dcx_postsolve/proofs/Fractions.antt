@@ -2,9 +2,8 @@
 use Rattle.std.proofs.Common.{◌≡◌, ℕ, zero, suc, ◌<◌, ◌≤◌, List, [], ◌∷◌, length, map, get_or, Some, refl, sym, ap, arith, pos}
 use Rattle.std.specs.Prelude.{slice_get}
 use Rattle.std.proofs.lemmas.Option.{none-some, same_Some}
-use Rattle.dcx_math.specs.Rational.{ℚ, whole, ◌-ℚ◌, neg_ℚ}
+use Rattle.dcx_math.specs.Rational.{whole}
 use Rattle.dcx_math.specs.Sums.{rat_at}
-use Rattle.dcx_math.proofs.Ring.{ring, reads}
 use Rattle.dcx_frac.specs.declared.fraction.Frac.{Frac}
 use Rattle.dcx_frac.specs.Frac.{value}
 
@@ -25,10 +24,3 @@ pub read : (xs : List Frac) (j : ℕ) (x : Frac) → j < length xs → x ≡ get
 read [] j x l is = absurd (omega arith)
 read (y ∷ xs) zero x l is = ap value is
 read (y ∷ xs) (suc j) x l is = read xs j x (omega arith) is
-
--- ---- differences where one of two numbers is 0
-pub less_none : (x : ℚ) → x ≡ x -ℚ whole (pos 0)
-less_none x = ring (x ∷ []) (search reads depth 30) tt
-
-pub none_less : (y : ℚ) → neg_ℚ y ≡ whole (pos 0) -ℚ y
-none_less y = ring (y ∷ []) (search reads depth 30) tt

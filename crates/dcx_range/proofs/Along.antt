@@ -26,8 +26,9 @@ use Rattle.dcx_simplex.specs.Basis.{IsBasic}
 use Rattle.dcx_simplex.specs.Reading.{IsReading}
 use Rattle.dcx_simplex.proofs.EndFacts.{IsEnded}
 use Rattle.dcx_simplex.proofs.Bounds.{lead_some_of, zero_right}
+use Rattle.dcx_simplex.proofs.Rights.{rows_are}
 use Rattle.dcx_range.proofs.Placing.{no_sum, base, put}
-use Rattle.dcx_range.proofs.Directions.{rows_are, is_readable, basic, step, direction, direction_length, rate, row_moves, cost_moves}
+use Rattle.dcx_range.proofs.Directions.{is_readable, basic, step, direction, direction_length, rate, row_moves, cost_moves}
 
 -- ---- numbers put at columns, column by column
 unit_own : (t : ℕ) → rat_at (wholes (unit t)) t ≡ whole (pos 1)

@@ -12,7 +12,6 @@ use Rattle.dcx_tab.specs.First.{first_tableau}
 use Rattle.dcx_tab.specs.Rows.{entry, row_at, basic_at}
 use Rattle.dcx_tab.specs.Table.{Table, entry_at}
 use Rattle.dcx_tab.specs.Program.{entries_at, right_side_at}
-use Rattle.dcx_tab.proofs.Programs.{length_first}
 use Rattle.dcx_tab.proofs.RationalRows.{SolvesRational, solves_rational, full}
 use Rattle.dcx_lp_answer.specs.Right.{row_at_columns}
 use Rattle.dcx_simplex.specs.Whole.{objective_row, phase_row}
@@ -23,6 +22,7 @@ use Rattle.dcx_simplex.proofs.Starts.{starts}
 use Rattle.dcx_simplex.proofs.EndFacts.{IsEnded, readable}
 use Rattle.dcx_simplex.proofs.Bounds.{lead_some_of, first_solved, first_cost, zero_right}
 use Rattle.dcx_simplex.proofs.Last.{solves_last}
+use Rattle.dcx_simplex.proofs.Rights.{columns_are, rows_are}
 use Rattle.dcx_range.proofs.Placing.{no_sum, put, put_length, dot_put, less, less_length, dot_less, first, first_low, at_first}
 use Rattle.dcx_range.proofs.Placing as placing
 
@@ -49,47 +49,41 @@ module _ (q : Program) (u : Table) (end : IsEnded (first_tableau q).rows (first_
   pub is_readable : IsReadable u
   is_readable = readable (first_tableau q).rows (first_tableau q) start u end
 
-  pub rows_are : length u.rows ≡ length q.rows + 2
-  rows_are = end.kin.rows ∙ length_first q.rows q.columns q.objective q.phase q.form
-
-  pub columns_are : u.columns ≡ length q.columns
-  columns_are = end.kin.columns
-
   unfoldable pub basic : ℕ → ℕ
   basic i = basic_at u.basis i
 
   pub basic_low : (i : ℕ) → i < length q.rows → basic i < length q.columns
   unfolding basic
-  basic_low i h = let r = rows_are in let c = columns_are in let l = end.basics i (omega (arith, r, h)) in omega (arith, l, c)
+  basic_low i h = let r = rows_are q u end in let c = columns_are q u end in let l = end.basics i (omega (arith, r, h)) in omega (arith, l, c)
 
   pub basic_zero : (i k : ℕ) → i < length u.rows → k < length q.rows → k ≢ i → entry_at u i (basic k) ≡ pos 0
   unfolding basic
-  basic_zero i k h l n = let r = rows_are in let s = end.tableau.form.size in (end.tableau.form.basic i h).zeros k (omega (arith, l, r, s)) n
+  basic_zero i k h l n = let r = rows_are q u end in let s = end.tableau.form.size in (end.tableau.form.basic i h).zeros k (omega (arith, l, r, s)) n
 
   pub basic_positive : (i : ℕ) → i < length q.rows → pos 0 <ℤ entry_at u i (basic i)
   unfolding basic
-  basic_positive i h = let r = rows_are in is_readable.positive i (omega (arith, r, h))
+  basic_positive i h = let r = rows_are q u end in is_readable.positive i (omega (arith, r, h))
 
   -- a row's sum over what is put at the basic columns
   pub at_basic : (i : ℕ) (f : ℕ → ℚ) → i < length q.rows → rat_sum_below (length q.rows) (λ k. f k *ℚ whole (entry_at u i (basic k))) ≡ f i *ℚ whole (entry_at u i (basic i))
   at_basic i f h =
-      let r = rows_are in
+      let r = rows_are q u end in
       rat_sum_below-one (length q.rows) i (λ k. f k *ℚ whole (entry_at u i (basic k))) h (λ k l n. zero_right (f k) _ (ap whole (basic_zero i k (omega (arith, r, h)) l n)))
 
   pub at_costs : (i : ℕ) (f : ℕ → ℚ) → length q.rows ≤ i → i < length u.rows → rat_sum_below (length q.rows) (λ k. f k *ℚ whole (entry_at u i (basic k))) ≡ whole (pos 0)
   at_costs i f h l = no_sum (length q.rows) (λ k. f k *ℚ whole (entry_at u i (basic k))) (λ k b. zero_right (f k) _ (ap whole (basic_zero i k l b (λ e. absurd (omega (arith, e, b, h))))))
 
   pub objective_low : objective_row u < length u.rows
-  objective_low = let r = rows_are in omega (arith, r)
+  objective_low = let r = rows_are q u end in omega (arith, r)
 
   phase_low : phase_row u < length u.rows
-  phase_low = let r = rows_are in omega (arith, r)
+  phase_low = let r = rows_are q u end in omega (arith, r)
 
   pub objective_is : objective_row u ≡ length q.rows
-  objective_is = let r = rows_are in omega (arith, r)
+  objective_is = let r = rows_are q u end in omega (arith, r)
 
   phase_high : length q.rows ≤ phase_row u
-  phase_high = let r = rows_are in omega (arith, r)
+  phase_high = let r = rows_are q u end in omega (arith, r)
 
   -- ---- where the right side of row k changes by h k
   module _ (h : ℕ → ℚ) where
@@ -143,8 +137,8 @@ module _ (q : Program) (u : Table) (end : IsEnded (first_tableau q).rows (first_
     delta_last : SolvesRational u.rows (full delta rate phase_rate (whole (pos 0)))
     unfolding rate phase_rate
     delta_last =
-        let r = rows_are in
-        let c = columns_are in
+        let r = rows_are q u end in
+        let c = columns_are q u end in
         let l = delta_length in
         solves_last (first_tableau q).rows (first_tableau q) start u end delta rate phase_rate (whole (pos 0)) (l ∙ sym c)
         (λ i b. ap (λ d. d +ℚ whole (entry_at u i (u.columns + 2)) *ℚ whole (pos 0)) (delta_row i (omega (arith, r, b))) ∙ none_left (change i) (whole (entry_at u i (u.columns + 2))))

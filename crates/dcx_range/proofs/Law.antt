@@ -31,6 +31,7 @@ use Rattle.dcx_linear.specs.Forms.{linear_value}
 use Rattle.dcx_linear.specs.FormsAt.{form_at}
 use Rattle.dcx_linear.specs.Rows as rows
 use Rattle.dcx_linear.specs.Rows.{RowAt}
+use Rattle.dcx_linear.proofs.SettingRows.{on_row}
 use Rattle.dcx_formed.specs.Within.{IsKnownNumber, IsKnownTerm}
 use Rattle.dcx_std.specs.Solutions as solutions
 use Rattle.dcx_std.specs.Solutions.{linear_program}
@@ -43,7 +44,7 @@ use Rattle.dcx_graph.specs.AsLinear.{row_at, linear_at}
 use Rattle.dcx_graph.specs.Fixed.{IsKnownProgram, HaveArrays}
 use Rattle.dcx_graph.specs.Fixing.{FixGives}
 use Rattle.dcx_graph.specs.Correct.{ReducesAffine}
-use Rattle.dcx_graph.proofs.AtSetting.{on_row, form_same, rows_same}
+use Rattle.dcx_graph.proofs.AtSetting.{form_same, rows_same}
 use Rattle.dcx_graph.proofs.Correct.{affine_are_reductions}
 use Rattle.dcx_graph.proofs.Backward.{answers_carry_over}
 use Rattle.dcx_range.specs.Standing.{scales_unknown, scales_row}

@@ -27,10 +27,10 @@ use Rattle.dcx_simplex.proofs.OwnColumns.{own_column, own_column_is, own_column_
 use Rattle.dcx_simplex.proofs.Slacks.{Own, sign_slack, sign_artificial}
 use Rattle.dcx_simplex.proofs.Bounds.{zero_right, twice, solves_first}
 use Rattle.dcx_simplex.proofs.Last.{at_cost_of}
-use Rattle.dcx_simplex.proofs.Rights.{optimal_offset}
+use Rattle.dcx_simplex.proofs.Rights.{optimal_offset, columns_are}
 use Rattle.dcx_range.proofs.Placing.{no_sum, less, less_length, dot_less, first, first_low, at_first}
 use Rattle.dcx_range.proofs.Placing as placing
-use Rattle.dcx_range.proofs.Directions.{start, columns_are, objective_low, change, rate, none_left}
+use Rattle.dcx_range.proofs.Directions.{start, objective_low, change, rate, none_left}
 
 costs_nothing : (l r : ℚ) → ((whole (pos 0) +ℚ whole (negsuc 0) *ℚ whole (pos 0)) +ℚ l *ℚ whole (pos 0)) +ℚ r *ℚ whole (pos 0) ≡ whole (pos 0)
 costs_nothing l r = ring (l ∷ r ∷ []) (search reads depth 30) tt

@@ -45,6 +45,7 @@ use Rattle.dcx_simplex.specs.declared.run.LpEnd.TheVariants as lp
 use Rattle.dcx_simplex.specs.Reading.{IsReading}
 use Rattle.dcx_simplex.proofs.EndFacts.{IsEnded}
 use Rattle.dcx_simplex.proofs.Bounds.{lead_some_of}
+use Rattle.dcx_simplex.proofs.Rights.{rows_are}
 use Rattle.dcx_std.specs.IntegerRows.{IsMade}
 use Rattle.dcx_std.specs.ScaledProgram.{IsScaledProgram}
 use Rattle.dcx_std.specs.Solutions.{unknowns_at, HasKinds}
@@ -70,7 +71,7 @@ use Rattle.dcx_range.proofs.Exact.{rate_value, rates_length, rate_at, sum_below,
 use Rattle.dcx_range.proofs.Between.{Within, sign_in, sign_out, IsSettled, allowed_here, all_in, all_out}
 use Rattle.dcx_range.proofs.Named.{name_is}
 use Rattle.dcx_range.proofs.Placing.{first}
-use Rattle.dcx_range.proofs.Directions.{rows_are, is_readable, basic_low, objective_is, change, rate}
+use Rattle.dcx_range.proofs.Directions.{is_readable, basic_low, objective_is, change, rate}
 use Rattle.dcx_range.proofs.OwnSums.{right_change}
 use Rattle.dcx_range.proofs.Along.{moved_length, moved_other, moved_row}
 use Rattle.dcx_range.proofs.Along as along

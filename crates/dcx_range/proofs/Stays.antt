@@ -24,8 +24,9 @@ use Rattle.dcx_simplex.proofs.Cycle.{is_basic}
 use Rattle.dcx_simplex.proofs.EndFacts.{IsEnded}
 use Rattle.dcx_simplex.proofs.Bounds.{lead_some_of, cost_holds, phase_holds, solves_first}
 use Rattle.dcx_simplex.proofs.Last.{rat_at-past, dot_one, at_row_of}
+use Rattle.dcx_simplex.proofs.Rights.{columns_are, rows_are}
 use Rattle.dcx_range.proofs.Placing.{put, put_length, dot_put, first, first_low, at_first}
-use Rattle.dcx_range.proofs.Directions.{start, rows_are, columns_are, basic, basic_low, basic_zero, basic_positive, change, step}
+use Rattle.dcx_range.proofs.Directions.{start, basic, basic_low, basic_zero, basic_positive, change, step}
 use Rattle.dcx_range.proofs.Along.{moved, moved_other, moved_basic}
 
 row_left : (r t h : ℚ) → ((r +ℚ t *ℚ h) +ℚ neg_ℚ t *ℚ h) +ℚ r *ℚ whole (negsuc 0) ≡ whole (pos 0)

@@ -6,6 +6,7 @@ use Rattle.dcx_array.specs.declared.fault.ArrayFault.{ArrayFault}
 use Rattle.dcx_script_values.specs.declared.fault.ElabFault.{ElabFault}
 use Rattle.dcx_script_values.specs.Values.{Value, State, Act, and_then, unless, or_fault, or_array_fault}
 use Rattle.dcx_script_values.specs.Nodes.{push}
+use Rattle.dcx_script_values.proofs.Acts.{state_after}
 use Rattle.dcx_elab.specs.Turns.{turn}
 
 -- where something came of what began in s, the state after it is related to s
@@ -24,12 +25,7 @@ pub record IsCarried (R : State → State → Type 0) : Type 0 where
   pub pushes : (place : Place) (call : Call) (args : List ℕ) → Moves R (push place call args)
   pub turns : (first : Place) (name : List ℕ) (element : Act Value) (v : Value) → Moves R element → Moves R (turn first name element v)
 
-state_after : {A : Type 0} → State → Result (A × State) ElabFault → State
-state_after s (Ok z) = z.1
-state_after s (Err e) = s
-
 pub ok-moved : {A : Type 0} (R : State → State → Type 0) (s t : State) (x : A) → R s t → Moved R s (Ok (x, t))
-unfolding state_after
 ok-moved R s t x h = record { at = λ y u e. subst (R s) (ap (state_after s) e) h }
 
 pub err-moved : {A : Type 0} (R : State → State → Type 0) (s : State) (e : ElabFault) → Moved {A = A} R s (Err e)

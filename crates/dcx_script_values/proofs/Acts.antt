@@ -24,6 +24,16 @@ pub Gives-err : {X Y : Type 0} (view : X → Y) (r : Result X ElabFault) (after 
     → Fails e given → Gives view r after given
 Gives-err view r after given y e is same h = subst (λ q. Gives view q after given) (sym is) (subst (λ z. Fails z given) (sym same) h)
 
+-- the value that came, or x where none came
+abbrev pub value_after : {A : Type 0} → A → Result (A × State) ElabFault → A
+value_after x (Ok z) = z.0
+value_after x (Err e) = x
+
+-- the state that came with it, or s where none came
+abbrev pub state_after : {A : Type 0} → State → Result (A × State) ElabFault → State
+state_after s (Ok z) = z.1
+state_after s (Err e) = s
+
 -- a value is gone on with
 pub then_is : {A B : Type 0} (m : Result (A × State) ElabFault) (f : A → Act B) (x : A) (s : State) → m ≡ Ok (x, s) → and_then m f ≡ f x s
 then_is m f x s e = ap (λ r. and_then r f) e

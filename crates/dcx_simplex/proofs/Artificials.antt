@@ -8,8 +8,7 @@ use Rattle.dcx_tab.specs.Rows.{entry}
 use Rattle.dcx_tab.proofs.RowLaws.{int_dot-unit, unit}
 use Rattle.dcx_tab.specs.Rows.{Row, Assignment, row_at, basic_at, Solves}
 use Rattle.dcx_tab.specs.Table.{Table, IsOf}
-use Rattle.dcx_tab.proofs.Elimination.{pos_factor}
-use Rattle.dcx_tab.proofs.Lagrange.{weighted, identity, d, o, d_pos, o_is}
+use Rattle.dcx_tab.proofs.Lagrange.{weighted, identity, d, o, o_pos}
 use Rattle.dcx_simplex.specs.Run.{right_at}
 use Rattle.dcx_simplex.specs.Basis.{IsFeasible}
 use Rattle.dcx_simplex.specs.Start.{IsSumRow}
@@ -49,8 +48,7 @@ module _ (equations : List Row) (t : Table) (tableau : IsOf equations t) (feasib
 
   o'_pos : (k : ℕ) → k < length t.rows → pos 0 <ℤ o' k
   unfolding o'
-  o'_pos k h = pos_factor (entry (row_at t.rows k) (basic_at t.basis k)) _ _ (tableau.form.basic k h).positive (o_is (t.columns + 3) t.basis t.rows tableau.form row held k h)
-      (d_pos (t.columns + 3) t.basis t.rows tableau.form row held)
+  o'_pos k h = o_pos (t.columns + 3) t.basis t.rows tableau.form row held k h
 
   total : d' *ℤ int_dot row (int_scaled (pos 1) (unit (t.columns + 2))) +ℤ weighted (λ k. neg_ℤ (w k *ℤ o' k)) t.basis row ≡ pos 0
   unfolding d' o' w

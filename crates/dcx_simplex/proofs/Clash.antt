@@ -8,8 +8,7 @@ use Rattle.dcx_tab.specs.Rows.{entry}
 use Rattle.dcx_tab.proofs.RowLaws.{int_dot-unit, unit}
 use Rattle.dcx_tab.specs.Rows.{Row, Assignment, row_at, basic_at, Solves}
 use Rattle.dcx_tab.specs.Table.{Table, entry_at}
-use Rattle.dcx_tab.proofs.Elimination.{pos_factor}
-use Rattle.dcx_tab.proofs.Lagrange.{weighted, identity, d, o, d_pos, o_is}
+use Rattle.dcx_tab.proofs.Lagrange.{weighted, identity, d, o, d_pos, o_pos}
 use Rattle.dcx_simplex.specs.Run.{IsNext, IsEntering, ComesFirst, right_at}
 use Rattle.dcx_simplex.specs.Basis.{IsReady, IsBasic}
 use Rattle.dcx_simplex.proofs.Moves.{may_all}
@@ -92,8 +91,7 @@ module _ (equations : List Row) (cost bound : ℕ) (t t' : Table) (ready : IsRea
 
   o'_pos : (k : ℕ) → k < length t.rows → pos 0 <ℤ o' k
   unfolding o'
-  o'_pos k h = pos_factor (entry (row_at t.rows k) (basic_at t.basis k)) _ _ (ready.tableau.form.basic k h).positive
-      (o_is (t.columns + 3) t.basis t.rows ready.tableau.form (row_at t'.rows cost) held k h) (d_pos (t.columns + 3) t.basis t.rows ready.tableau.form (row_at t'.rows cost) held)
+  o'_pos k h = o_pos (t.columns + 3) t.basis t.rows ready.tableau.form (row_at t'.rows cost) held k h
 
   total : d' *ℤ int_dot (row_at t'.rows cost) (int_scaled (pos 1) (unit s)) +ℤ weighted (λ k. neg_ℤ (w k *ℤ o' k)) t.basis (row_at t'.rows cost) ≡ pos 0
   unfolding d' o' w

@@ -33,9 +33,6 @@ module _ (equations : List Row) (t : Table) (start : IsStart equations t) where
       record { tableau = q.tableau; feasible = q.feasible; kin = q.kin; basics = q.ready.basics }
 
   module _ (u : Table) (end : IsEnded equations t u) where
-    pub rows_kept : length u.rows ≡ length t.rows
-    rows_kept = end.kin.rows
-
     apart_by : (i k : ℕ) → i + 2 < length u.rows → k + 2 < length u.rows → basic_at u.basis i ≡ basic_at u.basis k → (i ≡ k) ⊎ (i ≢ k) → i ≡ k
     apart_by i k h l e (inl s) = s
     apart_by i k h l e (inr n) =

@@ -3,7 +3,6 @@ use Rattle.std.proofs.Common.{◌≡◌, ℕ, ◌+◌, ◌-◌, ◌<◌, length,
 use Rattle.dcx_tab.specs.declared.program.Program.{Program}
 use Rattle.dcx_tab.specs.First.{first_tableau}
 use Rattle.dcx_tab.specs.Table.{Table}
-use Rattle.dcx_tab.proofs.Programs.{length_first}
 use Rattle.dcx_simplex.specs.Run.{IsEntering, NoneEnters, NoneLeaves, right_at}
 use Rattle.dcx_simplex.specs.Whole.{objective_row, InSecond, RunEnds}
 use Rattle.dcx_simplex.specs.declared.phase.PhaseEnd.TheVariants as phase
@@ -19,7 +18,7 @@ use Rattle.dcx_simplex.proofs.Limits.{begun}
 use Rattle.dcx_simplex.proofs.Starts.{starts}
 use Rattle.dcx_simplex.proofs.EndFacts.{IsEnded, ended_first, ended_second, readable, not_basic_of}
 use Rattle.dcx_simplex.proofs.EndLaws.{second, first_is_bounded}
-use Rattle.dcx_simplex.proofs.Rights.{optimal_right, infeasible_right, unbounded_right}
+use Rattle.dcx_simplex.proofs.Rights.{columns_are, rows_are, optimal_right, infeasible_right, unbounded_right}
 
 module _ (p : Program) (u : Table) where
   start : IsStart (first_tableau p).rows (first_tableau p)
@@ -33,8 +32,8 @@ module _ (p : Program) (u : Table) where
   shown : IsEnded (first_tableau p).rows (first_tableau p) u → Shown
   shown e = record {
     readable = readable (first_tableau p).rows (first_tableau p) start u e;
-    rows = e.kin.rows ∙ length_first p.rows p.columns p.objective p.phase p.form;
-    columns = e.kin.columns;
+    rows = rows_are p u e;
+    columns = columns_are p u e;
   }
 
   -- ---- no end in phase 1 is unbounded

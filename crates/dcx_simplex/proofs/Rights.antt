@@ -11,7 +11,7 @@ use Rattle.dcx_math.specs.Sums.{rat_dot, rat_at, rat_sum_below, rat_scaled, alon
 use Rattle.dcx_math.specs.IntegerSums.{int_dot}
 use Rattle.dcx_math.proofs.Points.{wholes}
 use Rattle.dcx_math.proofs.Ring.{ring, reads, /ℚ-is}
-use Rattle.dcx_math.proofs.Orders.{+ℚ_comm, +ℚ_idr, +ℚ_idl, *ℚ-zero, *ℚ_comm, ≤ℚ-from_≡, +ℚ-nonnegative, linear_eq, whole-≤ℤ}
+use Rattle.dcx_math.proofs.Orders.{+ℚ_comm, +ℚ_idr, +ℚ_idl, -ℚ_idr, *ℚ-zero, *ℚ_comm, ≤ℚ-from_≡, +ℚ-nonnegative, linear_eq, whole-≤ℤ}
 use Rattle.dcx_math.proofs.Products.{/ℚ-unique, whole-<ℤ, *ℚ-nonnegative, *ℚ-nonpositive, *ℚ-positive, inverse-positive}
 use Rattle.dcx_math.proofs.Orders.{<ℚ-≤ℚ}
 use Rattle.dcx_math.proofs.Sums.{rat_sum_below-same, rat_sum_below-zero}
@@ -88,12 +88,9 @@ product_low a x h q = subst (λ y. y ≤ℚ whole (pos 0)) (*ℚ_comm x (whole a
 product_none : (a x : ℚ) → x ≡ whole (pos 0) → (a *ℚ x) ≤ℚ whole (pos 0)
 product_none a x e = ≤ℚ-from_≡ (ap (λ y. a *ℚ y) e ∙ *ℚ-zero a)
 
-minus_zero : (r : ℚ) → r -ℚ whole (pos 0) ≡ r
-minus_zero r = ring (r ∷ []) (search reads depth 30) tt
-
 sign_of : (inequality negated : Bool) (s : LpStatus) (r f : ℚ) → inequality ≡ true → offset s true ≡ whole (pos 0) → whole (pos 0) ≤ℚ r → whole (pos 0) ≤ℚ f
     → whole (pos 0) ≤ℚ turned_if (not inequality && negated) ((r -ℚ offset s inequality) *ℚ f)
-sign_of true negated s r f h e p q = *ℚ-nonnegative (subst (λ x. whole (pos 0) ≤ℚ (r -ℚ x)) (sym e) (subst (λ x. whole (pos 0) ≤ℚ x) (sym (minus_zero r)) p)) q
+sign_of true negated s r f h e p q = *ℚ-nonnegative (subst (λ x. whole (pos 0) ≤ℚ (r -ℚ x)) (sym e) (subst (λ x. whole (pos 0) ≤ℚ x) (sym (-ℚ_idr r)) p)) q
 sign_of false negated s r f h e p q = cc
 
 no_offset : (s : LpStatus) → offset s true ≡ whole (pos 0)
@@ -107,10 +104,10 @@ optimal_offset status.Infeasible e b = cc
 optimal_offset status.Unbounded e b = cc
 
 module _ (p : Program) (u : Table) (end : IsEnded (first_tableau p).rows (first_tableau p) u) where
-  columns_are : u.columns ≡ length p.columns
+  pub columns_are : u.columns ≡ length p.columns
   columns_are = end.kin.columns
 
-  rows_are : length u.rows ≡ length p.rows + 2
+  pub rows_are : length u.rows ≡ length p.rows + 2
   rows_are = end.kin.rows ∙ length_first p.rows p.columns p.objective p.phase p.form
 
   plain_is : u.plain ≡ plain_count p.columns

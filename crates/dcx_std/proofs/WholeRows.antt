@@ -1,12 +1,11 @@
 -- What a whole row is made of.
-use Rattle.std.proofs.Common.{◌≡◌, ◌≢◌, ℕ, zero, suc, ◌+◌, ◌<◌, ◌≤◌, ◌^◌, List, [], ◌∷◌, map, length, get_or, drop, Result, Ok, Err, refl, sym, ap, ◌∙◌, ℤ, pos, unsigned_abs, lit<, arith}
+use Rattle.std.proofs.Common.{◌≡◌, ◌≢◌, ℕ, zero, suc, ◌+◌, ◌<◌, ◌≤◌, ◌^◌, List, map, length, get_or, drop, Result, Ok, Err, refl, sym, ap, ◌∙◌, ℤ, pos, unsigned_abs, lit<, arith}
 use Rattle.std.proofs.lemmas.List.{length-map, drop_more, drop_all}
-use native.Mathlib.Nat.{div-le_self}
 use Rattle.std.specs.Prelude.{◌<ℤ◌}
 use Rattle.std.proofs.lemmas.Int.{ints}
 use Rattle.dcx_math.specs.Rational.{whole, ◌/ℚ◌, ◌<ℚ◌}
 use Rattle.dcx_math.specs.Divisors.{gcd, gcd_of, divided}
-use Rattle.dcx_math.proofs.Divisors.{unsigned_abs-divided, gcd_assoc, gcd_comm, gcd-zero}
+use Rattle.dcx_math.proofs.Divisors.{gcd_assoc, gcd_comm, gcd-zero}
 use Rattle.dcx_frac.specs.declared.fraction.Frac.{Frac}
 use Rattle.dcx_frac.specs.declared.fraction.Passes.{Passes}
 use Rattle.dcx_frac.specs.Frac.{value}
@@ -15,7 +14,7 @@ use Rattle.dcx_atom.specs.Formed.{frac_at, and_then}
 use Rattle.dcx_linear.specs.declared.form.Form.{Form}
 use Rattle.dcx_linear.specs.declared.row.RowKind.{RowKind}
 use Rattle.dcx_tab.specs.Rows.{AllSmall}
-use Rattle.dcx_tab.proofs.LineSteps.{gcd_of-below}
+use Rattle.dcx_tab.proofs.LineSteps.{gcd_of-below, small-divided}
 use Rattle.dcx_std.specs.declared.whole.WholeRow.{WholeRow}
 use Rattle.dcx_std.specs.Multiples.{denominators, multiple_of}
 use Rattle.dcx_std.specs.WholeRows.{numerators, or_one, divisor_of, lowest_row, whole_row_of}
@@ -43,14 +42,6 @@ signed_positive n h = omega (arith, ints)
 -- the divisor of small numbers is small
 pub divisor_below : (zs : List ℤ) → AllSmall zs → divisor_of zs < 2 ^ 127
 divisor_below zs h = or_one_below (gcd_of zs) (2 ^ 127) (lit< tt) (gcd_of-below zs (2 ^ 127) (lit< tt) h)
-
-stays_below : (a b limit : ℕ) → a ≤ b → b < limit → a < limit
-stays_below a b limit h l = omega arith
-
-quotients_small : (d : ℕ) (zs : List ℤ) → AllSmall zs → AllSmall (map (divided d) zs)
-quotients_small d [] h j = lit< tt
-quotients_small d (z ∷ zs) h zero = stays_below (unsigned_abs (divided d z)) (unsigned_abs z) (2 ^ 127) (rw (unsigned_abs-divided d z) (div-le_self (unsigned_abs z) d)) (h 0)
-quotients_small d (z ∷ zs) h (suc j) = quotients_small d zs (λ k. h (suc k)) j
 
 -- ---- the steps by which a whole row is formed
 pub record IsFormedBy (kind : RowKind) (f : Form Frac) (numbers : List Frac) (w : WholeRow) : Type 0 where
@@ -112,7 +103,7 @@ module _ (kind : RowKind) (f : Form Frac) (numbers : List Frac) (w : WholeRow) (
 
   -- its numbers are small
   pub whole_small : AllSmall w.numbers
-  whole_small = rw h.is (quotients_small (divisor_of h.products) h.products (numerators_small (map (product_of (frac_at (whole (pos h.multiple)))) numbers) h.products h.products_are))
+  whole_small = rw h.is (small-divided (divisor_of h.products) h.products (numerators_small (map (product_of (frac_at (whole (pos h.multiple)))) numbers) h.products h.products_are))
 
   -- there are as many as before
   pub whole_count : length w.numbers ≡ length numbers

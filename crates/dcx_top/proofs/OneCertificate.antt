@@ -1,10 +1,11 @@
 -- Two runs that tell of a certificate are one.
-use Rattle.std.proofs.Common.{◌≡◌, ◌↔◌, ℕ, IsTrue, Bool, true, false, List, length, count_by, Some, refl, sym, ap, subst, ◌∙◌}
+use Rattle.std.proofs.Common.{◌≡◌, ◌↔◌, ℕ, IsTrue, Bool, List, length, count_by, Some, sym, ap, subst, ◌∙◌}
 use Rattle.std.proofs.lemmas.Option.{same_Some}
 use Rattle.dcx_point.specs.Pairs.{Pairs}
 use Rattle.dcx_host.specs.Files.{Files}
 use Rattle.dcx_elab.specs.declared.work.Work.{Work}
 use Rattle.dcx_declared.specs.Whole.{HasNoWhole}
+use Rattle.dcx_front.proofs.OneCheck.{one_test}
 use Rattle.dcx_answer.specs.declared.cert_fault.CertFault.{CertFault}
 use Rattle.dcx_answer.specs.declared.cert_fault.CertFault.TheVariants as faults
 use Rattle.dcx_cert_sections.specs.declared.section.Sections.{Sections}
@@ -27,12 +28,6 @@ use Rattle.dcx_top.specs.OneRun.{AreOneRun, told_same}
 use Rattle.dcx_top.proofs.OneAsked.{asked_of_one, asked_once}
 use Rattle.dcx_top.proofs.OneText.{one_certificate}
 
-same_flag : (s t : Bool) → (IsTrue s → IsTrue t) → (IsTrue t → IsTrue s) → s ≡ t
-same_flag true true f g = refl
-same_flag true false f g = sym (f refl)
-same_flag false true f g = g refl
-same_flag false false f g = refl
-
 -- ---- the certificate of a command
 module _ (words : List (List ℕ)) (files : Files) where
   pub written_once : (old new was now : ℕ) (bytes others : List ℕ) (s t : Bool) → IsCertificateRun words (Some files) old new bytes s → IsCertificateRun words (Some files) was now others t
@@ -52,7 +47,7 @@ module _ (words : List (List ℕ)) (files : Files) where
       stops = asked_once words files HasNoWhole HasNoWhole (λ c w ss. IsTrue t ↔ StopsSomewhere w.problem (limit_of c) ss) here there h.asked k.asked k.flag
 
       flag : s ≡ t
-      flag = same_flag s t (λ q. stops.1 (h.flag.0 q)) (λ q. h.flag.1 (stops.0 q))
+      flag = one_test s t (λ q. stops.1 (h.flag.0 q)) (λ q. h.flag.1 (stops.0 q))
 
       text : bytes ≡ others
       text = h.text ∙ ap cert_text (one_certificate h.asked.work.problem h.limit h.asked.settings h.sections k.sections h.asked.problem.accepted h.are are) ∙ sym k.text

@@ -6,22 +6,14 @@ use Rattle.dcx_point.specs.Pairs.{same_name}
 use Rattle.dcx_script_values.specs.declared.fault.ElabFault.{ElabFault}
 use Rattle.dcx_script_values.specs.declared.fault.ElabFault.TheVariants.{UnknownName}
 use Rattle.dcx_script_values.specs.Values.{Value, State, Act, and_then, unless, or_fault, look}
+use Rattle.dcx_script_values.proofs.Acts.{value_after, state_after}
 
 -- where a value and a state come, they are so
 pub record Gives {A : Type 0} (P : A → State → Type 0) (r : Result (A × State) ElabFault) : Type 0 where
   pub at : (x : A) (t : State) → r ≡ Ok (x, t) → P x t
 
-value_in : {A : Type 0} → A → Result (A × State) ElabFault → A
-value_in x (Ok z) = z.0
-value_in x (Err e) = x
-
-state_in : {A : Type 0} → State → Result (A × State) ElabFault → State
-state_in t (Ok z) = z.1
-state_in t (Err e) = t
-
 pub ok-gives : {A : Type 0} (P : A → State → Type 0) (x : A) (t : State) → P x t → Gives P (Ok (x, t))
-unfolding value_in state_in
-ok-gives P x t h = record { at = λ y u e. subst (λ r. P (value_in x r) (state_in t r)) e h }
+ok-gives P x t h = record { at = λ y u e. subst (λ r. P (value_after x r) (state_after t r)) e h }
 
 pub err-gives : {A : Type 0} (P : A → State → Type 0) (e : ElabFault) → Gives P (Err e)
 err-gives P e = record { at = λ y u h. absurd cc }

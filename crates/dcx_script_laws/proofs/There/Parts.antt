@@ -16,6 +16,7 @@ use Rattle.dcx_script_values.specs.declared.fault.ElabFault.TheVariants.{Unknown
 use Rattle.dcx_script_values.specs.Values.{Value, State, Act, and_then, unless, or_fault, or_array_fault, look, restore}
 use Rattle.dcx_script_values.specs.Nodes.{Operand, standing, constant, push}
 use Rattle.dcx_script_values.specs.Kinds.{Reading, operand, nested, empty, unfit}
+use Rattle.dcx_script_values.proofs.Acts.{value_after, state_after}
 use Rattle.dcx_signature.specs.Arguments.{Given, Bound}
 use Rattle.dcx_script_laws.specs.Trees.{HasNodesBelow, HaveNodesBelow}
 use Rattle.dcx_script_laws.proofs.Carried.{Moved}
@@ -73,17 +74,8 @@ module _ (N : ℕ) where
   abbrev pub Gives : {A : Type 0} → (A → Type 0) → Act A → Type 0
   Gives P m = (s : State) → Fine s → Yields P (m s)
 
-  value_in : {A : Type 0} → A → Result (A × State) ElabFault → A
-  value_in x (Ok z) = z.0
-  value_in x (Err e) = x
-
-  state_in : {A : Type 0} → State → Result (A × State) ElabFault → State
-  state_in s (Ok z) = z.1
-  state_in s (Err e) = s
-
   pub ok-yields : {A : Type 0} (P : A → Type 0) (x : A) (s : State) → Fine s → P x → Yields P (Ok (x, s))
-  unfolding value_in state_in
-  ok-yields P x s fine h = record { at = λ y t e few. (subst Fine (ap (state_in s) e) fine, subst P (ap (value_in x) e) h) }
+  ok-yields P x s fine h = record { at = λ y t e few. (subst Fine (ap (state_after s) e) fine, subst P (ap (value_after x) e) h) }
 
   pub err-yields : {A : Type 0} (P : A → Type 0) (e : ElabFault) → Yields P (Err e)
   err-yields P e = record { at = λ y t h. absurd cc }

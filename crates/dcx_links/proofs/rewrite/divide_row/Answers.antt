@@ -4,11 +4,12 @@ use Rattle.std.specs.Int.{w128}
 use Rattle.std.proofs.lemmas.List.{get_or_read}
 use Prim.Native.Nat.{◌∣◌}
 use Rattle.dcx_math.specs.Divisors.{divided}
+use Rattle.dcx_math.proofs.Divisors.{divided-zero}
 use Rattle.dcx_links.specs.declared.store.Cell.{Cell}
 use Rattle.dcx_links.specs.Lines.{IsNext}
 use Rattle.dcx_links.specs.Cells.{InRow, head_at, cell_at, IsAt, number_in}
 use Rattle.dcx_links.proofs.Numbers.{at_within}
-use Rattle.dcx_links.proofs.Rewrites.{rewritten, at_beyond, number_first, done_on, left_on, divided-zero, divided_some}
+use Rattle.dcx_links.proofs.Rewrites.{rewritten, at_beyond, number_first, done_on, left_on, divided_some}
 use Rattle.dcx_links.proofs.Stores.{cell_read, walk_within, walk_here}
 use Rattle.dcx_links.proofs.rewrite.divide_row.Goals as goal
 
