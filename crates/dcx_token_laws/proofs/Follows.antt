@@ -16,6 +16,7 @@ use Rattle.dcx_tokens.specs.Laws.{brackets_left, blocks_left}
 use Rattle.dcx_tokens.specs.Layout.{is_deeper, is_standing, opens}
 use Rattle.dcx_tokens.specs.Reading.{IsLexed}
 use Rattle.dcx_tokens.specs.State.{State, is_full}
+use Rattle.dcx_tokens.proofs.Nesting.{shallow_end}
 use Rattle.dcx_token_laws.specs.Cut.{place_behind}
 use Rattle.dcx_token_laws.specs.Faults.{IndentsDoNotFollow, TooDeepAreAbove64, BeginsNothing, DoesNotFollow, OpensBracket, BeginsBlock, open_blocks}
 use Rattle.dcx_token_laws.specs.Fine.{IsFineUpTo, IsLedBy}
@@ -27,7 +28,7 @@ use Rattle.dcx_token_laws.proofs.Firsts.{long_len}
 use Rattle.dcx_token_laws.proofs.Forms.{HasBegun, IsLed}
 use Rattle.dcx_token_laws.proofs.Halts.{IsBegun, LineHalts, tab, full, apart, Halts, char, line, bad_number, open_text, bracket}
 use Rattle.dcx_token_laws.proofs.Rising.{all_below}
-use Rattle.dcx_token_laws.proofs.Shallow.{shallow_end, shallow}
+use Rattle.dcx_token_laws.proofs.Shallow.{shallow}
 use Rattle.dcx_token_laws.proofs.Spelled.{is_word}
 use Rattle.dcx_token_laws.proofs.Spots.{Spot, within, leads, closing, spot_formed, stacks_begun}
 use Rattle.dcx_token_laws.proofs.Stacks.{Stacks, open_count}
