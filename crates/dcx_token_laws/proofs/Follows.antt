@@ -2,6 +2,7 @@
 use Rattle.std.proofs.Common.{◌≡◌, ◌⊎◌, inl, inr, ℕ, zero, suc, ◌+◌, ◌<◌, ◌≤◌, Bool, true, false, eqb, ◌||◌, List, [], ◌∷◌, ◌++◌, length, take, Option, Some, refl, sym, ap, ◌∙◌, subst, arith}
 use Rattle.std.specs.Prelude.{nat_lt}
 use Rattle.std.specs.List.{All, list_all, list_any}
+use Rattle.std.proofs.lemmas.Bool.{lt-ltb}
 use Rattle.std.proofs.lemmas.Bool.Decides.{nat_tests}
 use Rattle.std.proofs.lemmas.List.Elements.{All-head, All-tail}
 use Rattle.dcx_tokens.specs.declared.fault.ReadFault.{ReadFault}
@@ -35,13 +36,10 @@ use Rattle.dcx_token_laws.proofs.Stacks.{Stacks, open_count}
 use Rattle.dcx_token_laws.proofs.Unread.{begun_place}
 
 -- ---- no line of this depth follows
-less_true : (a b : ℕ) → a < b → nat_lt a b ≡ true
-less_true a b h = grind (arith, nat_tests)
-
 all_true : (depth : ℕ) (blocks : List ℕ) → All (λ d. d < depth) blocks → list_all (λ i. nat_lt i depth) blocks ≡ true
 all_true depth [] h = refl
 all_true depth (b ∷ bs) h =
-    let first = less_true b depth (All-head (λ d. d < depth) b bs h) in
+    let first = lt-ltb b depth (All-head (λ d. d < depth) b bs h) in
     let more = all_true depth bs (All-tail (λ d. d < depth) b bs h) in
     rw (first, more) refl
 
@@ -69,7 +67,7 @@ stands_true stay gone depth (inr (outer, e)) = by (eqb depth 0)
 
 pub no_turn : {blocks after : List ℕ} {depth : ℕ} {marks : List TokenKind} → is_deeper blocks depth ≡ false → is_standing blocks depth ≡ false → Turns blocks depth marks after → ⊥
 no_turn {depth = depth} d st (deeper {blocks = blocks} some all) =
-    let one = less_true 0 depth some in
+    let one = lt-ltb 0 depth some in
     let more = all_true depth blocks all in
     let yes : is_deeper blocks depth ≡ true = rw (one, more) refl in
     never_both (is_deeper blocks depth) yes d
