@@ -1,6 +1,6 @@
 -- Families are determined by the point and the unknowns, those of the first nodes by the first unknowns; and where their numbers stand.
 use Rattle.std.proofs.Common.{◌≡◌, ◌≢◌, ℕ, zero, suc, ◌+◌, ◌<◌, ◌≤◌, arith, List, map, length, get_or, refl, sym, ap, ap₂, ◌∙◌, subst, Option, Some, None, slice_get, pos}
-use Rattle.std.specs.Prelude.{option_map, unwrap_or}
+use Rattle.std.specs.Prelude.{option_map}
 use native.Mathlib.Decide.{ℕ_discrete}
 use Rattle.std.proofs.Math.Path.{fun_ext}
 use Rattle.std.proofs.lemmas.Option.{slice_get-map, slice_get-get_or}
@@ -8,7 +8,6 @@ use Rattle.dcx_math.specs.Rational.{whole, ◌*ℚ◌}
 use Rattle.dcx_math.specs.Sums.{rat_sum_below}
 use Rattle.dcx_math.proofs.Sums.{rat_sum_below-same}
 use Rattle.dcx_frac.specs.declared.fraction.Frac.{Frac}
-use Rattle.dcx_shape.specs.declared.shape.Sides.TheVariants.{Scalar}
 use Rattle.dcx_shape.specs.Sides.{entries_of}
 use Rattle.dcx_atom.specs.declared.array.Array.{Array}
 use Rattle.dcx_atom.specs.Arrays.{number_at}
@@ -20,6 +19,7 @@ use Rattle.dcx_call.specs.Calls.{shape_of}
 use Rattle.dcx_tree.specs.Nodes.{Names, Node, head_of, arg_sides, convex_node, convex_nodes}
 use Rattle.dcx_tree.specs.Values.{array_at}
 use Rattle.dcx_tree.proofs.Lawful.{tree_lawful}
+use Rattle.dcx_tree.proofs.NodeValues.{sides_are}
 use Rattle.dcx_unknowns.specs.Equations.{call_entry}
 use Rattle.dcx_cert_collect.specs.Starts.{start_of}
 use Rattle.dcx_cert_collect.proofs.Flat.{dot, dot-sum, flat, flat-place, by_nodes}
@@ -54,9 +54,6 @@ changed_other t k u i n = by (ℕ_discrete i k)
 pub node_there : (nodes : List Node) (i : ℕ) → i < length nodes → (n : Node) × IsNode nodes i n
 node_there nodes i b = (get_or nodes i (some_item nodes i b), slice_get-get_or nodes i (some_item nodes i b) b)
 
-pub node_sides : (nodes : List Node) (i : ℕ) (n : Node) → IsNode nodes i n → sides_at nodes i ≡ n.sides
-node_sides nodes i n at = ap (λ (o : Option Node). unwrap_or (option_map (λ (k : Node). k.sides) o) Scalar) at
-
 -- ---- where numbers stand
 -- coefficients of the first nodes alone
 pub first_dots : (nodes : List Node) (i : ℕ) → i ≤ length nodes → (t : List Frac) → length t ≡ start_of nodes i → (f g : ℕ → Numbers) → ((k : ℕ) → k < i → f k ≡ g k)
@@ -89,7 +86,7 @@ module _ (names : Names) (nodes : List Node) (are : AreNodes shape_of nodes) (s 
       by None h = family.others i n at h e ∙ first_past (entries_of n.sides) (call_entry names s x n.call (arg_sides nodes n) (arguments (map g n.args)) (t i)) e beyond
 
   pub ends : (x : Point) (t : ℕ → Filling) (g : ℕ → Numbers) → IsFamily names nodes s values x t g → End nodes g
-  ends x t g family i e b past = let (n, at) = node_there nodes i b in node_ends x t g family i e b n at (subst (λ r. entries_of r ≤ e) (node_sides nodes i n at) past)
+  ends x t g family i e b past = let (n, at) = node_there nodes i b in node_ends x t g family i e b n at (subst (λ r. entries_of r ≤ e) (sides_are nodes i n at) past)
 
   module _ (x : Point) (t u : ℕ → Filling) (g h : ℕ → Numbers) (G : IsFamily names nodes s values x t g) (H : IsFamily names nodes s values x u h) where
     node_same : (i : ℕ) → i < length nodes → t i ≡ u i → ((a : ℕ) → a < i → g a ≡ h a) → g i ≡ h i

@@ -29,6 +29,7 @@ use Rattle.dcx_call.specs.Atoms.{atom_meaning}
 use Rattle.dcx_call.specs.Calls.{shape_of}
 use Rattle.dcx_tree.specs.Nodes.{Names, Node, arg_sides}
 use Rattle.dcx_tree.specs.Values.{array_at}
+use Rattle.dcx_tree.proofs.NodeValues.{sides_are}
 use Rattle.dcx_cert_collect.specs.declared.collected.Reached.{Reached}
 use Rattle.dcx_cert_collect.specs.declared.stop.CollectStop.{CollectStop}
 use Rattle.dcx_cert_collect.specs.Shares.{frac_in, Share, with_shares}
@@ -41,7 +42,7 @@ use Rattle.dcx_cert_collect.proofs.Bounded.{sum_listed, shares_told, reached_tol
 use Rattle.dcx_cert_collect.proofs.Flat.{frac_value, dot, dot-nil, dot-append, dot-sum, dot-table, flat, flat-place}
 use Rattle.dcx_atom.specs.Fractions.{HasFractionSlopes}
 use Rattle.dcx_cert_complete.specs.Families.{IsFamily, AreFilled, AreWeighed, rows_if, rows_below, variable_numbers}
-use Rattle.dcx_cert_complete.proofs.Families.{node_there, node_sides}
+use Rattle.dcx_cert_complete.proofs.Families.{node_there}
 use Rattle.dcx_cert_complete.proofs.Handed.{IsPassing, Everywhere, Before, AreFair, hands_all, linear_exact, times_exact, mat_times_exact, over_exact, variable_exact, atom_fair}
 
 -- ---- arithmetic of a bound
@@ -198,7 +199,7 @@ module _ (names : Names) (nodes : List Node) (are : AreNodes shape_of nodes) (s 
         by None e =
             let (n, at) = node_there nodes i b in
             unknown_fair n at e (drop (start_of nodes i) kept.below) (record { below = take (start_of nodes i) kept.below; reached = kept.reached; total = kept.total })
-            (own_count nodes kept.below (drop (start_of nodes i) kept.below) i (start_of nodes i) b refl count refl ∙ ap entries_of (node_sides nodes i n at))
+            (own_count nodes kept.below (drop (start_of nodes i) kept.below) i (start_of nodes i) b refl count refl ∙ ap entries_of (sides_are nodes i n at))
             (length-take-le (start_of nodes i) kept.below (start_inside nodes kept.below i (start_of nodes i) b refl count))
             (λ x d t filled g family.
             subst (λ q. v ≤ℚ value kept.total +ℚ reached_times kept.reached (variable_numbers names nodes x) +ℚ q

@@ -6,7 +6,7 @@ use Rattle.std.specs.List.{list_all}
 use Rattle.std.proofs.lemmas.Bool.{and_parts, or_cases, false≢true, ltb-true, ltb-false}
 use Rattle.dcx_math.specs.Rational.{ℚ, whole, ◌+ℚ◌, ◌-ℚ◌, ◌*ℚ◌, neg_ℚ, inverse, ◌≤ℚ◌, ◌<ℚ◌}
 use Rattle.dcx_math.proofs.Ring.{ring, reads}
-use Rattle.dcx_math.proofs.Orders.{≤ℚ_trans, ≤ℚ-from_≡, <ℚ-≤ℚ, *ℚ-≤ℚ, *ℚ-zero, *ℚ_assoc, *ℚ_idl, *ℚ_comm, -ℚ_self, +ℚ-≤ℚ_right, +ℚ_idl}
+use Rattle.dcx_math.proofs.Orders.{≤ℚ_trans, ≤ℚ-from_≡, <ℚ-≤ℚ, *ℚ-≤ℚ, *ℚ-zero, *ℚ_assoc, *ℚ_idl, *ℚ_comm, -ℚ_self, +ℚ-≤ℚ_right, +ℚ_idl, zero_shifted}
 use Rattle.dcx_math.proofs.Products.{*ℚ-nonnegative, *ℚ-nonpositive, *ℚ-inverse_positive, inverse-positive}
 use Rattle.dcx_shape.specs.Sides.{entries_of}
 use Rattle.dcx_atom.specs.declared.flags.Sign.{Sign}
@@ -26,7 +26,6 @@ use Rattle.dcx_convex.proofs.Beyond.{beyond_same, IsBeyondAs, args_follow}
 use Rattle.dcx_convex.proofs.Convexity.{bent_is}
 use Rattle.dcx_right.specs.Steepness.{taken_at, steep_by, steep_at}
 use Rattle.dcx_right.specs.Rays.{HeadRecedes, Recedes, AreReceding}
-use Rattle.dcx_right.proofs.Calls.{zero_shifted}
 use Rattle.dcx_right.proofs.Told.{none_fixed, level, steep_tells}
 use Rattle.dcx_cert_complete.proofs.Level.{nothing, HeadStarts, AreStarting}
 use Rattle.dcx_cert_complete.proofs.Taken.{taken_signed, taken_follow, kind_bends, taken_between, start_along, fixed_stands, along_taken, start_low}

@@ -3,7 +3,7 @@ use Rattle.std.proofs.Common.{◌≡◌, inl, inr, ℕ, ◌<◌, Bool, true, fal
 use Rattle.std.proofs.lemmas.Bool.{or_cases, false≢true}
 use Rattle.dcx_math.specs.Rational.{ℚ, whole, ◌+ℚ◌, ◌*ℚ◌}
 use Rattle.dcx_math.proofs.Ring.{reads}
-use Rattle.dcx_math.proofs.Orders.{linear}
+use Rattle.dcx_math.proofs.Orders.{linear, zero_shifted}
 use Rattle.dcx_atom.specs.declared.flags.Sign.{Sign}
 use Rattle.dcx_atom.specs.declared.flags.Trend.{Trend}
 use Rattle.dcx_atom.specs.declared.flags.Bend.{Bend}
@@ -15,7 +15,6 @@ use Rattle.dcx_convex.specs.Rules.{Plain, Judgement, argument, bends, opposite}
 use Rattle.dcx_convex.proofs.Convexity.{same_bend_is}
 use Rattle.dcx_right.specs.Steepness.{taken_at}
 use Rattle.dcx_right.specs.Rays.{BendsAlong, Recedes}
-use Rattle.dcx_right.proofs.Calls.{zero_shifted}
 use Rattle.dcx_cert_complete.proofs.Level.{nothing, HeadStarts}
 use Rattle.dcx_convex.specs.Nodes.{Apply}
 use Rattle.dcx_atom.proofs.Units.{one_nonnegative}

@@ -14,19 +14,14 @@ use Rattle.dcx_call.specs.declared.call.Call.{Call}
 use Rattle.dcx_call.specs.declared.call.Call.TheVariants as calls
 use Rattle.dcx_convex.specs.Certificates.{is_fixed}
 use Rattle.dcx_convex.specs.Rules.{Plain, Judgement, fixed_by, judgement_at}
-use Rattle.dcx_convex.specs.Nodes as convex_nodes
 use Rattle.dcx_convex.proofs.Told.{judgement_tells}
 use Rattle.dcx_shape.specs.declared.shape.Sides.{Sides}
 use Rattle.dcx_tree.specs.declared.problem.Problem.{Problem}
 use Rattle.dcx_tree.specs.Nodes.{Names, Node, arg_sides, head_of, convex_node}
 use Rattle.dcx_tree.specs.Meaning.{names_in, convex_problem}
-use Rattle.dcx_tree.proofs.Lawful.{tree_lawful}
+use Rattle.dcx_tree.proofs.Lawful.{problem_lawful}
 use Rattle.dcx_tree.proofs.Names.{found_in}
 use Rattle.dcx_cert_outline.specs.Drawn.{fixed_call, AreFixed}
-
--- arguments stand before their node
-ordered : (p : Problem) → convex_nodes.IsOrdered (convex_problem p).nodes
-ordered p = (tree_lawful (names_in p) p.tree p.nodes).ordered
 
 -- what the rules say of a call is what is told of its arguments
 by_call : (names : Names) (call : Call) (args : List Sides) (sides : Sides) (gs : List Judgement) → fixed_by (head_of names call args sides) gs ≡ fixed_call call (list_all (λ g. g.fixed) gs)
@@ -53,7 +48,7 @@ next_fixed p marks i h call at ids args =
     let here : slice_get (convex_problem p).nodes i ≡ Some node = slice_get-map (convex_node (names_in p) p.tree) p.tree i ∙ ap (option_map (convex_node (names_in p) p.tree)) there in
     let its : args_at p.tree i ≡ n.args = ap (λ o. unwrap_or (option_map (λ (x : Node). x.args) o) []) there in
     let below : AllByRecursion (λ a. a < i) (positions ids) = subst (AllByRecursion (λ a. a < i)) (sym (args ∙ its)) (recursion_from_All (λ a. a < i) n.args (p.nodes.earlier i n there)) in
-    let told = ap (λ g. g.fixed) (judgement_tells Plain (convex_problem p).nodes (ordered p) i node here) in
+    let told = ap (λ g. g.fixed) (judgement_tells Plain (convex_problem p).nodes (problem_lawful p).ordered i node here) in
     ap (fixed_call call) (args_fixed p marks i h ids below ∙ ap (λ xs. list_all (λ g. g.fixed) (map f xs)) (args ∙ its))
     ∙ ap (λ c. fixed_call c (list_all (λ g. g.fixed) (map f n.args))) (sym same)
     ∙ sym (by_call (names_in p) n.call (arg_sides p.tree n) n.sides (map f n.args)) ∙ sym told

@@ -13,7 +13,6 @@ use Rattle.dcx_atom.specs.declared.array.Array.{Array}
 use Rattle.dcx_point.specs.Pairs.{Pairs, array_of}
 use Rattle.dcx_arena.specs.Nodes.{IsNode, args_at, sides_at}
 use Rattle.dcx_arena.specs.Gather.{has}
-use Rattle.dcx_convex.specs.Nodes as convex
 use Rattle.dcx_convex.specs.Nodes.{zeros}
 use Rattle.dcx_convex.specs.Rules.{Plain, Judgement, judgement_at, fixed_by}
 use Rattle.dcx_convex.proofs.Told.{judgement_tells}
@@ -30,7 +29,7 @@ use Rattle.dcx_tree.specs.Problems.{IsListed}
 use Rattle.dcx_tree.specs.Values.{IsNamed, array_at}
 use Rattle.dcx_tree.specs.Meaning.{names_in, convex_problem, setting_of, point_of}
 use Rattle.dcx_tree.proofs.Arguments.{no_args, all_fixed}
-use Rattle.dcx_tree.proofs.Lawful.{tree_lawful}
+use Rattle.dcx_tree.proofs.Lawful.{problem_lawful}
 use Rattle.dcx_tree.proofs.Sublists.{contains_at}
 use Rattle.dcx_tree.proofs.Values.{taken}
 use Rattle.dcx_tree.proofs.AllReached.{convex_at}
@@ -66,11 +65,8 @@ one_array given name sides (Some a) e d f = record {
 }
 
 module _ (p : Problem) where
-  pub ordered : convex.IsOrdered (convex_problem p).nodes
-  ordered = (tree_lawful (names_in p) p.tree p.nodes).ordered
-
   fixed_call : (i : ℕ) (n : Node) → IsNode p.tree i n → is_fixed p i ≡ fixed_by (head_of (names_in p) n.call (arg_sides p.tree n) n.sides) (map (judgement_at Plain (convex_problem p).nodes) n.args)
-  fixed_call i n at = ap (λ g. g.fixed) (judgement_tells Plain (convex_problem p).nodes ordered i (convex_node (names_in p) p.tree n) (convex_at p i n at))
+  fixed_call i n at = ap (λ g. g.fixed) (judgement_tells Plain (convex_problem p).nodes (problem_lawful p).ordered i (convex_node (names_in p) p.tree n) (convex_at p i n at))
 
   moves_by : (call : Call) (args : List Sides) (sides : Sides) (gs : List Judgement) → fixed_by (head_of (names_in p) call args sides) gs ≡ false → MayMove call
   moves_by (calls.Variable v) args sides gs e = tt

@@ -32,6 +32,7 @@ use Rattle.dcx_call.proofs.CallLaws.{own_is}
 use Rattle.dcx_tree.specs.declared.problem.Problem.{Problem}
 use Rattle.dcx_tree.specs.Nodes.{Node, number_in, head_of, arg_sides, convex_node}
 use Rattle.dcx_tree.specs.Meaning.{names_in, convex_problem, setting_of, point_of}
+use Rattle.dcx_tree.proofs.Lawful.{problem_lawful}
 use Rattle.dcx_tree.proofs.NodeValues.{number_past, first_alike, products_same, quotients_same, sides_are}
 use Rattle.dcx_tree.proofs.AllReached.{convex_at}
 use Rattle.dcx_right.specs.Fixed.{is_fixed}
@@ -41,7 +42,7 @@ use Rattle.dcx_right.proofs.RayLawsHold.{steepness_is_told}
 use Rattle.dcx_answer.specs.declared.cert_fault.CertFault.TheVariants.{Wide}
 use Rattle.dcx_cert_rays.specs.Steepness.{fixed_value, steepness_at, value_side, is_side, taken_numbers, is_first_fixed}
 use Rattle.dcx_cert_rays.specs.Steepness.{node_numbers, steepness_formed, IsUnformed, IsSteepness, IsArgument, AreArguments}
-use Rattle.dcx_cert_rays.proofs.Known.{MayMove, IsTaken, ordered, may_move, node_taken}
+use Rattle.dcx_cert_rays.proofs.Known.{MayMove, IsTaken, may_move, node_taken}
 
 -- ---- arrays as arguments
 sides_alike : (f : ℕ → Sides) (ids : List ℕ) (args : List Array) → length args ≡ length ids → ((k a : ℕ) (v : Array) → slice_get ids k ≡ Some a → slice_get args k ≡ Some v → sides_of v.shape ≡ f a) →
@@ -104,7 +105,7 @@ module _ (p : Problem) (setting ray : Pairs) where
         ≡ first_of (entries_of n.sides) (call_value n.call (given_by setting) (given_by ray) (arg_sides p.tree n) (node_numbers p setting ray n)) j
     node_steep j =
         let nodes = (convex_problem p).nodes in
-        let told = (steepness_is_told nodes (ordered p) (setting_of p setting) (point_of p ray)).told i (convex_node (names_in p) p.tree n) (convex_at p i n at) in
+        let told = (steepness_is_told nodes (problem_lawful p).ordered (setting_of p setting) (point_of p ray)).told i (convex_node (names_in p) p.tree n) (convex_at p i n at) in
         ap (λ f. f j) (told ∙ ap (λ b. if b then zeros else steep_by nodes (setting_of p setting) (point_of p ray) (head_of (names_in p) n.call (arg_sides p.tree n) n.sides) n.args
         (steepness_at p setting ray)) moves)
         ∙ head_steep n.call (arg_sides p.tree n) n.sides n.args (p.nodes.shaped i n at) (may_move p i n at moves) (node_taken p ray i n at) j

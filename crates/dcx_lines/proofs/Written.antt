@@ -1,12 +1,12 @@
 -- Numbers are read from their own texts.
-use Rattle.std.proofs.Common.{◌≡◌, ◌≢◌, ℕ, suc, ◌-◌, ◌^◌, ◌<◌, ◌↔◌, ℤ, pos, negsuc, neg_ℤ, ◌<ℤ◌, unsigned_abs, List, [], ◌∷◌, ◌++◌, min}
+use Rattle.std.proofs.Common.{◌≡◌, ◌≢◌, ℕ, suc, ◌-◌, ◌^◌, ◌<◌, ◌↔◌, ℤ, pos, negsuc, neg_ℤ, unsigned_abs, List, [], ◌∷◌, ◌++◌, min}
 use Rattle.std.proofs.Common.{Option, Some, None, IsSome, IfSome, ◌⊎◌, inl, inr, refl, sym, ap, ap₂, ◌∙◌, subst, arith}
-use Rattle.std.proofs.lemmas.Int.{ints}
 use Rattle.std.proofs.lemmas.Bool.{false≢true}
 use Rattle.std.proofs.lemmas.List.{append-nil}
 use Rattle.std.specs.Fmt.{decimal, signed_decimal}
 use Rattle.std.specs.List.{AllByRecursion}
 use Rattle.dcx_math.specs.Rational.{whole, ◌/ℚ◌}
+use Rattle.dcx_math.proofs.IntegerLaws.{positive_some}
 use Rattle.dcx_math.proofs.FieldLaws.{whole_injective, ratio-*ℚ-whole}
 use Rattle.dcx_math.proofs.Products.{/ℚ-unique}
 use Rattle.dcx_frac.specs.declared.fraction.Frac.{Frac}
@@ -48,13 +48,10 @@ read_above (pos n) bytes w r small e b h read =
 read_above (negsuc n) bytes w r small e b h read = absurd (b (decimal (suc n)) e)
 
 -- ---- fractions
-not_zero : (d : ℤ) → pos 0 <ℤ d → d ≢ pos 0
-not_zero d p e = omega (arith, ints)
-
 -- a fraction is the quotient of its parts
 quotient_is : (f : Frac) → whole (num_of f) /ℚ whole (den_of f) ≡ value f
 quotient_is f =
-    /ℚ-unique (whole (num_of f)) (whole (den_of f)) (value f) (λ z. not_zero (den_of f) f.positive (whole_injective (den_of f) (pos 0) z)) (ratio-*ℚ-whole (num_of f) (den_of f) f.positive)
+    /ℚ-unique (whole (num_of f)) (whole (den_of f)) (value f) (λ z. positive_some (den_of f) f.positive (whole_injective (den_of f) (pos 0) z)) (ratio-*ℚ-whole (num_of f) (den_of f) f.positive)
 
 found : (f : Frac) (r : Option Frac) → IsSome r → IfSome r (λ g. value g ≡ value f) → r ≡ Some f
 found f None some h = absurd (false≢true some)
@@ -65,7 +62,7 @@ pub made : (f : Frac) (n d : ℤ) (r : Option Frac) → n ≡ num_of f → d ≡
     → r ≡ Some f
 made f n d r en ed exists is =
     let same : whole n /ℚ whole d ≡ value f = ap₂ (λ a b. whole a /ℚ whole b) en ed ∙ quotient_is f in
-    let some : d ≢ pos 0 = λ z. not_zero (den_of f) f.positive (sym ed ∙ z) in
+    let some : d ≢ pos 0 = λ z. positive_some (den_of f) f.positive (sym ed ∙ z) in
     found f r (exists.1 (some, subst IsRepresentable (sym same) (value_representable f))) (subst (λ x. IfSome r (λ g. value g ≡ x)) same is)
 
 -- the bytes before the first `/`, and those from it on

@@ -2,8 +2,7 @@
 use Rattle.std.proofs.Common.{◌≡◌, ◌≢◌, ℕ, zero, suc, ◌+◌, ◌<◌, ◌≤◌, ◌^◌, Bool, true, false, T, List, [], ◌∷◌, Option, Some}
 use Rattle.std.proofs.Common.{None, Ok, refl, sym, ap, ◌∙◌, subst, arith, pos, unsigned_abs, ◌⊎◌, inl, inr}
 use Rattle.std.specs.Prelude.{nat_le, if◌then◌else◌}
-use Rattle.std.proofs.lemmas.Bool.{cases_eq}
-use Rattle.std.proofs.lemmas.Bool.Decides.{nat_tests}
+use Rattle.std.proofs.lemmas.Bool.{cases_eq, leb-false}
 use Rattle.dcx_math.specs.Rational.{ℚ, whole, ◌+ℚ◌, ◌-ℚ◌, ◌*ℚ◌, ◌/ℚ◌, neg_ℚ, rat_le, rat_eq, ◌≤ℚ◌, ◌<ℚ◌}
 use Rattle.dcx_math.proofs.Orders.{≤ℚ_trans, ≤ℚ_antisym, ≤ℚ_total, ≤ℚ-from_≡, ≤ℚ-≢, <ℚ-≤ℚ, <ℚ-from_not, neg_ℚ-<ℚ, neg_ℚ-zero, *ℚ-≤ℚ, linear, linear_eq}
 use Rattle.dcx_math.proofs.Products.{*ℚ-≤ℚ_turned, *ℚ-≤ℚ_cancel, *ℚ-zero_factor, /ℚ-*ℚ}
@@ -46,9 +45,6 @@ is_zero a e = (IsTrue-rat_eq a (whole (pos 0))).0 e
 
 pub not_zero : (a : ℚ) → rat_eq a (whole (pos 0)) ≡ false → a ≢ whole (pos 0)
 not_zero a e h = let t = (IsTrue-rat_eq a (whole (pos 0))).1 h in cc
-
-not_below : (a b : ℕ) → nat_le a b ≡ false → b < a
-not_below a b h = grind (arith, nat_tests)
 
 -- ---- one end more
 greater_in : (end : Option Frac) (x : Frac) (v : ℚ) → IsFrom (Some (greater end x)) v → IsFrom end v × (value x ≤ℚ v)
@@ -228,7 +224,7 @@ module _ (t : Table) (i : ℕ) (s : IsSettled t i) (at d : Frac) (e f : Ends) (v
       let x = both_formed (zero_of at right d) (λ y. Ok (with_end d y e)) f g in
       let last = x.2 in
       let same : with_end d x.0 e ≡ f = cc in
-      end_in x.0 (not_below t.plain (basic_at t.basis i) q) (not_zero (value d) p) x.1 (rat_le (value d) (value zero_frac)) refl (subst (λ (y : Ends). Within y v) (sym same) b)
+      end_in x.0 (leb-false t.plain (basic_at t.basis i) q) (not_zero (value d) p) x.1 (rat_le (value d) (value zero_frac)) refl (subst (λ (y : Ends). Within y v) (sym same) b)
 
   pub row_in : row_ends t i at d e ≡ Ok f → Within f v → Within e v × IsAllowed t i (value at) (value d) v
   unfolding Holds

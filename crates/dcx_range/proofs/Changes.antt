@@ -1,7 +1,7 @@
 -- The change of a row's right side, product by product, and the ends, row by row.
 use Rattle.std.proofs.Common.{◌≡◌, ◌≢◌, ℕ, ℤ, suc, ◌+◌, ◌<◌, ◌≤◌, true, false, List, length, map, drop, get_or, Result, Ok, sym, ap, ap₂, ◌∙◌, add-one, pos}
 use Rattle.std.specs.Prelude.{nat_le}
-use Rattle.std.proofs.lemmas.Bool.Decides.{nat_tests}
+use Rattle.std.proofs.lemmas.Bool.{le-leb, lt-leb}
 use Rattle.std.proofs.Common.{arith}
 use Rattle.std.proofs.lemmas.List.{drop_all}
 use Rattle.dcx_math.specs.Rational.{whole, rat_eq}
@@ -18,7 +18,6 @@ use Rattle.dcx_simplex.specs.Whole.{objective_row}
 use Rattle.dcx_simplex.specs.Basis.{lead_at}
 use Rattle.dcx_simplex.specs.Readable.{IsReadable}
 use Rattle.dcx_simplex.proofs.Bounds.{lead_some_of}
-use Rattle.dcx_simplex.proofs.Starts.{at_least_test}
 use Rattle.dcx_range.specs.declared.rates.Rate.{Rate}
 use Rattle.dcx_range.specs.declared.ends.Ends.{Ends}
 use Rattle.dcx_range.specs.Operations.{factors_at, change_at, from_on, up_to, with_end, zero_of, ends_by, row_ends, next_ends, ends_from, slope_of}
@@ -35,21 +34,18 @@ pub change_done : (t : Table) (i : ℕ) (sum : Frac) (hs : List Rate) (n : ℕ) 
 change_done t i sum hs n h = ap (λ ys. products_from sum (map (factors_at t i) ys)) (drop_all n hs h)
 
 -- ---- the ends of a row
-above : (a b : ℕ) → b < a → nat_le a b ≡ false
-above a b h = grind (arith, nat_tests)
-
 module _ (t : Table) (i : ℕ) (at change : Frac) (e : Ends) where
   pub ends_zero : rat_eq (value change) (whole (pos 0)) ≡ true → row_ends t i at change e ≡ Ok e
   ends_zero z = ap (λ b. ends_by t i at change e b (nat_le t.plain (basic_at t.basis i))) z
 
   pub ends_artificial : rat_eq (value change) (whole (pos 0)) ≡ false → t.plain ≤ basic_at t.basis i → row_ends t i at change e ≡ Ok (up_to at (from_on at e))
-  ends_artificial z h = ap₂ (ends_by t i at change e) z (at_least_test t.plain (basic_at t.basis i) h)
+  ends_artificial z h = ap₂ (ends_by t i at change e) z (le-leb t.plain (basic_at t.basis i) h)
 
   pub ends_plain : (right : Frac) (r : Result Frac Passes) → rat_eq (value change) (whole (pos 0)) ≡ false → basic_at t.basis i < t.plain → right ≡ frac_at (whole (entry_at t i (t.columns + 2)))
       → r ≡ zero_of at right change
       → row_ends t i at change e ≡ and_then r (λ x. Ok (with_end change x e))
   ends_plain right r z h f p =
-      ap₂ (ends_by t i at change e) z (above t.plain (basic_at t.basis i) h)
+      ap₂ (ends_by t i at change e) z (lt-leb t.plain (basic_at t.basis i) h)
       ∙ ap (λ q. and_then q (λ x. Ok (with_end change x e))) (ap (λ y. zero_of at y change) (sym f) ∙ sym p)
 
 -- ---- the ends of all rows

@@ -7,7 +7,7 @@ use Rattle.std.proofs.lemmas.Bool.{and_parts, or_cases, false≢true}
 use Rattle.dcx_math.specs.Rational.{ℚ, whole, ◌+ℚ◌, ◌*ℚ◌}
 use Rattle.dcx_math.specs.Sums.{IsNonnegative}
 use Rattle.dcx_math.proofs.Ring.{ring, reads}
-use Rattle.dcx_math.proofs.Orders.{whole-≤ℤ}
+use Rattle.dcx_math.proofs.Orders.{whole-≤ℤ, zero_shifted}
 use Rattle.dcx_shape.specs.Sides.{entries_of}
 use Rattle.dcx_atom.specs.declared.flags.Bend.{Bend}
 use Rattle.dcx_atom.specs.Arrays.{Entries}
@@ -25,7 +25,6 @@ use Rattle.dcx_convex.proofs.Convexity.{same_bend_is, bent_is, mixed_domain, ben
 use Rattle.dcx_right.specs.Steepness.{taken_at, steep_by, steep_at}
 use Rattle.dcx_right.specs.Rays.{BendsAlong, HeadRecedes, Recedes, AreReceding}
 use Rattle.dcx_atom.proofs.Sublinear.{one_combination}
-use Rattle.dcx_right.proofs.Calls.{zero_shifted}
 use Rattle.dcx_right.proofs.Told.{none_fixed, level, steep_tells}
 use Rattle.dcx_atom.specs.Farthest.{beyond_refl, beyond_trans}
 

@@ -4,7 +4,7 @@ use Rattle.std.specs.Prelude.{◌⊎◌}
 use Rattle.dcx_math.specs.Rational.{ℚ, whole, ◌+ℚ◌, ◌*ℚ◌, inverse}
 use Rattle.dcx_math.specs.Sums.{rat_sum_by}
 use Rattle.dcx_math.proofs.Ring.{ring, reads, /ℚ-is}
-use Rattle.dcx_math.proofs.Orders.{*ℚ_idl}
+use Rattle.dcx_math.proofs.Orders.{*ℚ_idl, zero_shifted}
 use Rattle.dcx_shape.specs.declared.shape.Sides.{Sides}
 use Rattle.dcx_shape.specs.Sides.{entries_of}
 use Rattle.dcx_atom.specs.Arrays.{Entries}
@@ -39,9 +39,6 @@ linear_recedes m law args sides is bend k a b c low along j below = beyond_same 
 -- the sum of the products of the pairs
 abbrev paired : List Pair → Numbers → Numbers → ℚ
 paired pairs l r = rat_sum_by (λ x. l x.left *ℚ r x.right) pairs
-
-pub zero_shifted : (k : ℚ) → whole (pos 0) ≡ whole (pos 0) +ℚ k *ℚ whole (pos 0)
-zero_shifted k = ring (k ∷ []) (search reads depth 30) tt
 
 right_term : (k c x y r s : ℚ) → c *ℚ (x +ℚ k *ℚ y) +ℚ (r +ℚ k *ℚ s) ≡ c *ℚ x +ℚ r +ℚ k *ℚ (c *ℚ y +ℚ s)
 right_term k c x y r s = ring (k ∷ c ∷ x ∷ y ∷ r ∷ s ∷ []) (search reads depth 30) tt

@@ -11,20 +11,15 @@ use Rattle.dcx_arena.proofs.Nodes.{push_each}
 use Rattle.dcx_call.specs.declared.call.Call.{Call}
 use Rattle.dcx_convex.specs.Rules as convex
 use Rattle.dcx_convex.specs.Rules.{Rules, judgement_at}
-use Rattle.dcx_convex.specs.Nodes as convex_nodes
 use Rattle.dcx_convex.proofs.Told.{judgement_tells}
 use Rattle.dcx_tree.specs.declared.problem.Problem.{Problem}
 use Rattle.dcx_tree.specs.Nodes.{Node, arg_sides, convex_node}
 use Rattle.dcx_tree.specs.Meaning.{names_in, convex_problem}
-use Rattle.dcx_tree.proofs.Lawful.{tree_lawful}
+use Rattle.dcx_tree.proofs.Lawful.{problem_lawful}
 use Rattle.dcx_tree.proofs.Names.{found_in}
 use Rattle.dcx_rules.specs.declared.judgement.Judgement.{Judgement}
 use Rattle.dcx_rules.specs.Judgements.{judgement_of, judged}
 use Rattle.dcx_rules.proofs.Heads.{judged_head}
-
--- arguments stand before their node
-pub ordered : (p : Problem) → convex_nodes.IsOrdered (convex_problem p).nodes
-ordered p = (tree_lawful (names_in p) p.tree p.nodes).ordered
 
 pub args_below : (p : Problem) (i count : ℕ) → count ≡ i → All (λ a. a < count) (args_at p.tree i)
 args_below p i count e = subst (λ k. All (λ a. a < k) (args_at p.tree i)) (sym e) (by (slice_get p.tree i) refl)
@@ -73,7 +68,7 @@ judged_next rules p gs read i call g each args at is =
     let read_is : map judgement_of read ≡ map f n.args = told_args f gs read n.args each (args ∙ ap (map (slice_get gs)) its) in
     is ∙ ap (judged rules call) read_is ∙ ap (λ c. judged rules c (map f n.args)) (sym same)
     ∙ sym (judged_head rules (names_in p) n.call (arg_sides p.tree n) n.sides (map f n.args))
-    ∙ sym (judgement_tells rules (convex_problem p).nodes (ordered p) i node here)
+    ∙ sym (judgement_tells rules (convex_problem p).nodes (problem_lawful p).ordered i node here)
 
 -- the judgements with one more, that of the next node
 pub judged_more : (rules : Rules) (p : Problem) (gs read after : List Judgement) (i : ℕ) (call : Call) (g : Judgement) → length gs ≡ i →

@@ -29,7 +29,7 @@ use Rattle.dcx_tree.specs.declared.problem.Problem.{Problem}
 use Rattle.dcx_tree.specs.Nodes.{Names, Node, pairing_call, head_of, arg_sides, convex_node}
 use Rattle.dcx_tree.specs.Problems.{sides_in, roots_of}
 use Rattle.dcx_tree.specs.Meaning.{names_in, convex_constraint, convex_problem, IsAccepted}
-use Rattle.dcx_rules.proofs.Nodes.{ordered}
+use Rattle.dcx_tree.proofs.Lawful.{problem_lawful}
 
 no_args : (its sides : Sides) (args : List Sides) → own_sides its args ≡ Some sides → args ≡ []
 no_args its sides [] e = refl
@@ -107,4 +107,4 @@ module _ (p : Problem) where
 
   -- in an accepted problem each node is convex or concave
   pub each_bent : IsAccepted p → (i : ℕ) → i < length p.tree → IsBent (judgement_at Plain (convex_problem p).nodes i)
-  each_bent ok i lt = reached_bent Plain (convex_problem p) (ordered p) ok i (each_reached i lt)
+  each_bent ok i lt = reached_bent Plain (convex_problem p) (problem_lawful p).ordered ok i (each_reached i lt)

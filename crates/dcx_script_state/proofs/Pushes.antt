@@ -1,10 +1,10 @@
 -- A push of the tree is that of the definition, with the same fault.
-use Rattle.std.proofs.Common.{◌≡◌, ℕ, ◌+◌, ◌≤◌, ◌<◌, Bool, true, false, nat_le, nat_eq, List, [], ◌∷◌, ◌++◌, length, map, Option, Some, None, Result, Ok, Err}
+use Rattle.std.proofs.Common.{◌≡◌, ℕ, ◌+◌, Bool, true, false, nat_le, nat_eq, List, [], ◌∷◌, ◌++◌, length, map, Option, Some, None, Result, Ok, Err}
 use Rattle.std.proofs.Common.{refl, sym, ap, ap₂, ◌∙◌, subst, arith, inl, inr}
 use Rattle.std.specs.Bool.{Decides}
 use Rattle.std.specs.List.{position_from}
 use Rattle.std.specs.Cmp.Lexicographic.{pointwise, bytes_decides}
-use Rattle.std.proofs.lemmas.Bool.Decides.{leb_tells}
+use Rattle.std.proofs.lemmas.Bool.{le-leb, lt-leb}
 use Rattle.dcx_shape.specs.declared.place.Place.{Place}
 use Rattle.dcx_shape.specs.declared.shape.Sides.{Sides}
 use Rattle.dcx_shape.specs.Sides.{entries_of}
@@ -30,12 +30,6 @@ use Rattle.dcx_script_state.proofs.Found.{position_none, position_some}
 not_true : (b : Bool) → ¬ (b ≡ true) → b ≡ false
 not_true true h = absurd (h refl)
 not_true false h = refl
-
-le_true : (a b : ℕ) → a ≤ b → nat_le a b ≡ true
-le_true a b h = elim (leb_tells a b) [ inl p ↦ p.0 | inr q ↦ absurd (let k = q.1 in omega (arith, k)) ]
-
-le_false : (a b : ℕ) → b < a → nat_le a b ≡ false
-le_false a b h = elim (leb_tells a b) [ inl p ↦ absurd (let k = p.1 in omega (arith, k)) | inr q ↦ q.0 ]
 
 module _ (s : State) (place : Place) (call : Call) (args : List ℕ) (are : AreNodes shape_of s.nodes) (there : are_there s.nodes args ≡ true) where
   -- ---- the node that is there
@@ -90,18 +84,18 @@ module _ (s : State) (place : Place) (call : Call) (args : List ℕ) (are : AreN
           ∙ ap (λ ns. Ok (id.0, record s { nodes = ns })) (sym found.same)
       by (Some sides) e (inr added) =
           with_new sides e added.new
-          ∙ ap₂ (limited (node sides)) (le_true (length s.nodes + 1) most added.room.few_nodes) (le_true (entries_in s.nodes + entries_of sides) most added.room.few_entries)
+          ∙ ap₂ (limited (node sides)) (le-leb (length s.nodes + 1) most added.room.few_nodes) (le-leb (entries_in s.nodes + entries_of sides) most added.room.few_entries)
           ∙ ap₂ (λ i ns. Ok (i, record s { nodes = ns })) (sym added.last) (sym added.added)
 
   refused : (sides : Sides) → shape_of call (map (sides_at s.nodes) args) ≡ Some sides → IsNew s.nodes call args → (what : Count) (count : ℕ) →
       IsOver (length s.nodes + 1) (entries_in s.nodes + entries_of sides) what count → push place call args s ≡ Err (faults.TooMany place what (told count))
   refused sides e new Nodes count over =
       with_new sides e new
-      ∙ ap (λ b. limited (node sides) b (nat_le (entries_in s.nodes + entries_of sides) most)) (le_false (length s.nodes + 1) most over.0)
+      ∙ ap (λ b. limited (node sides) b (nat_le (entries_in s.nodes + entries_of sides) most)) (lt-leb (length s.nodes + 1) most over.0)
       ∙ ap (λ n. Err (faults.TooMany place Nodes (told n))) (sym over.1)
   refused sides e new Entries count over =
       with_new sides e new
-      ∙ ap₂ (limited (node sides)) (le_true (length s.nodes + 1) most over.0) (le_false (entries_in s.nodes + entries_of sides) most over.1)
+      ∙ ap₂ (limited (node sides)) (le-leb (length s.nodes + 1) most over.0) (lt-leb (entries_in s.nodes + entries_of sides) most over.1)
       ∙ ap (λ n. Err (faults.TooMany place Entries (told n))) (sym over.2)
   refused sides e new Items count over = absurd over
   refused sides e new Steps count over = absurd over

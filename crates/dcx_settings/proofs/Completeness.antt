@@ -1,6 +1,7 @@
 -- Good settings are read from their spelling.
 use Rattle.std.proofs.Common.{◌≡◌, ◌≢◌, ℕ, suc, ◌+◌, ◌*◌, ◌<◌, ◌≤◌, Bool, true, false, List, [], ◌∷◌, ◌++◌, map, length, Ok, refl, sym, ap, ◌∙◌, subst, arith, append_assoc, ℤ, pos}
 use Rattle.std.specs.Prelude.{nat_le, nat_eq, not, ◌&&◌}
+use Rattle.std.proofs.lemmas.Bool.{le-leb}
 use Rattle.std.proofs.lemmas.Bool.Decides.{nat_tests}
 use Rattle.std.proofs.lemmas.List.{append-nil, map-append, length-append}
 use Rattle.dcx_settings.specs.Terminal.{Terminal, name, digits, decimal, minus, slash, equal, comma, semicolon, open_square, close_square, newline}
@@ -71,9 +72,6 @@ close_apart : close_square ≢ slash
 close_apart e = cc
 
 -- ---- rows
-le_test : (a b : ℕ) → a ≤ b → nat_le a b ≡ true
-le_test a b h = grind (arith, nat_tests)
-
 module _ (lines : List Line) (is : List Item) (n : List ℕ) (o : Outer) where
   starts : (xs : List Number) → Awaits lines is n (in_row o xs) (number is n (in_row o xs) start)
   starts xs t h = refl
@@ -85,7 +83,7 @@ module _ (lines : List Line) (is : List Item) (n : List ℕ) (o : Outer) where
   run_row xs x part h [] g l e ts = rw (h close_square close_apart, e) refl
   run_row xs x part h (y ∷ ys) g l e ts =
       let more = length-append xs (x ∷ []) in
-      let room : nat_le (length (xs ++ x ∷ []) + 1) (limit o) ≡ true = le_test _ _ (omega (arith, more, l)) in
+      let room : nat_le (length (xs ++ x ∷ []) + 1) (limit o) ≡ true = le-leb _ _ (omega (arith, more, l)) in
       let joined : (xs ++ x ∷ []) ++ y ∷ ys ≡ xs ++ x ∷ y ∷ ys = append_assoc xs (x ∷ []) (y ∷ ys) in
       rw (h comma comma_apart, room)
       (ap (λ us. run us (at lines (number is n (in_row o (xs ++ x ∷ [])) start))) (append_assoc (number_text y) (preceded comma (map number_text ys)) (close_square ∷ ts))
@@ -154,7 +152,7 @@ module _ (lines : List Line) (is : List Item) (n : List ℕ) where
   run_rows w rows [] some h g ts = ap (λ rs. run ts (at lines (ended is n (matrix rs)))) (sym (append-nil rows))
   run_rows w rows (r ∷ rs) some h g ts =
       let f = h.fits in
-      let room : nat_le ((length rows + 1) * width rows) 20000 ≡ true = rw (width_is w rows some h.widths) (le_test _ _ (less_room (length rows) (length rs) w f)) in
+      let room : nat_le ((length rows + 1) * width rows) 20000 ≡ true = rw (width_is w rows some h.widths) (le-leb _ _ (less_room (length rows) (length rs) w f)) in
       let l = length-append rows (r ∷ []) in
       rw room
       (ap (λ us. run us (at lines (number is n (in_row (rows_before rows) []) start))) (inner (separated comma (map number_text r)) (preceded comma (map row_text rs)) (close_square ∷ ts))

@@ -1,6 +1,7 @@
 -- Reading the rows of a matrix, step by step.
 use Rattle.std.proofs.Common.{◌≡◌, ℕ, ◌+◌, ◌*◌, ◌<◌, ◌≤◌, true, List, [], ◌∷◌, ◌++◌, map, length, Some, None, Err, refl, sym, ap, ap₂, ◌∙◌, subst, arith}
 use Rattle.std.specs.Prelude.{◌==◌}
+use Rattle.std.proofs.lemmas.Bool.{le-leb, lt-leb}
 use Rattle.std.proofs.lemmas.Bool.Decides.{nat_tests}
 use Rattle.std.proofs.lemmas.List.{length-append, map-append, append-nil, append_assoc}
 use Rattle.dcx_frac.specs.declared.fraction.Frac.{Frac}
@@ -17,7 +18,7 @@ use Rattle.dcx_settings.specs.declared.stop.Stop.TheVariants.{Memory, At}
 use Rattle.dcx_settings.specs.Steps.{further, read, read_by, Lacks, number_from, HasWidth, IsRowRead, RowStopsAt, IsStopAt, AreRowsRead, RowsStopAt}
 use Rattle.dcx_settings.proofs.Numbers.{read_part}
 use Rattle.dcx_settings.proofs.Facts.{every_more}
-use Rattle.dcx_settings.proofs.Rows.{le_is, le_not, same_length}
+use Rattle.dcx_settings.proofs.Rows.{same_length}
 
 -- the first row
 pub rows_first : (us rest : List Terminal) (fs : List Frac) → IsRowRead None us fs rest → AreRowsRead (length fs) 1 us fs rest
@@ -76,7 +77,7 @@ module _ (w k : ℕ) (us : List Terminal) (fs : List Frac) (from : List Terminal
         → read_by (number_from lines is n (in_row (rows_before []) [])) us ≡ read_by (before_row lines is n h.rows) rest
     row_goes r lines is n =
         h.reads lines is n ∙ ap (λ ts. read ts (at lines (row_closed is n h.rows))) e
-        ∙ ap (λ b. further (read rest) (when b (at lines (next_row is n h.rows))) (comma ∷ rest)) (le_is _ _ (room r))
+        ∙ ap (λ b. further (read rest) (when b (at lines (next_row is n h.rows))) (comma ∷ rest)) (le-leb _ _ (room r))
         ∙ begins rest
       where
         begins : (ts : List Terminal) → read ts (at lines (next_row is n h.rows)) ≡ read_by (before_row lines is n h.rows) ts
@@ -87,7 +88,7 @@ module _ (w k : ℕ) (us : List Terminal) (fs : List Frac) (from : List Terminal
     pub rows_full : 20000 < length fs + w → (lines : List Line) (is : List Item) (n : List ℕ) → read_by (number_from lines is n (in_row (rows_before []) [])) us ≡ Err from
     rows_full r lines is n =
         h.reads lines is n ∙ ap (λ ts. read ts (at lines (row_closed is n h.rows))) e
-        ∙ ap (λ b. further (read rest) (when b (at lines (next_row is n h.rows))) (comma ∷ rest)) (le_not _ _ (full r)) ∙ ap Err (sym e)
+        ∙ ap (λ b. further (read rest) (when b (at lines (next_row is n h.rows))) (comma ∷ rest)) (lt-leb _ _ (full r)) ∙ ap Err (sym e)
 
     -- no bracket behind the comma
     rows_unopened : length fs + w ≤ 20000 → Lacks open_square rest → (lines : List Line) (is : List Item) (n : List ℕ) → read_by (number_from lines is n (in_row (rows_before []) [])) us ≡ Err rest

@@ -1,8 +1,8 @@
 -- Reading a row of numbers, step by step.
-use Rattle.std.proofs.Common.{◌≡◌, ℕ, ◌+◌, ◌<◌, ◌≤◌, true, false, List, [], ◌∷◌, ◌++◌, length, Option, Some, None, Result, Ok, Err, refl, sym, ap, ap₂, ◌∙◌, subst, arith}
-use Rattle.std.specs.Prelude.{nat_le, IfErr}
+use Rattle.std.proofs.Common.{◌≡◌, ℕ, ◌+◌, ◌<◌, ◌≤◌, List, [], ◌∷◌, ◌++◌, length, Option, Some, None, Result, Ok, Err, refl, sym, ap, ap₂, ◌∙◌, subst, arith}
+use Rattle.std.specs.Prelude.{IfErr}
 use Rattle.std.specs.Result.{IsErrAnd}
-use Rattle.std.proofs.lemmas.Bool.Decides.{nat_tests}
+use Rattle.std.proofs.lemmas.Bool.{le-leb, lt-leb}
 use Rattle.std.proofs.lemmas.List.{length-append, map-append, length-map}
 use Rattle.dcx_frac.specs.declared.fraction.Frac.{Frac}
 use Rattle.dcx_frac.specs.Frac.{value}
@@ -23,12 +23,6 @@ limit_is (rows_before []) None h = refl
 limit_is (rows_before []) (Some w) h = absurd h
 limit_is (rows_before (r ∷ rs)) None h = absurd h
 limit_is (rows_before (r ∷ rs)) (Some w) h = h
-
-pub le_is : (a b : ℕ) → a ≤ b → nat_le a b ≡ true
-le_is a b h = grind (arith, nat_tests)
-
-pub le_not : (a b : ℕ) → b < a → nat_le a b ≡ false
-le_not a b h = grind (arith, nat_tests)
 
 -- what `?` hands on
 pub err_from : {X : Type 0} (P : Stop → Type 0) (r : Result X Stop) (e : Stop) → IsErrAnd r (λ x. x ≡ e) → P e → IfErr r P
@@ -64,7 +58,7 @@ module _ (width : Option ℕ) (us : List Terminal) (fs : List Frac) where
     comma_goes room lines is n o w =
         let k : length (h.before ++ h.last ∷ []) + 1 ≤ limit o = let l = limit_is o width w in let c = count from h in let d = length-append h.before (h.last ∷ []) in omega (arith, room, l, c, d) in
         h.reads lines is n o w ∙ ap (read_by (number_read lines is n (in_row o h.before) h.last)) e
-        ∙ ap (λ b. further (read rest) (when b (at lines (number is n (in_row o (h.before ++ h.last ∷ [])) start))) (comma ∷ rest)) (le_is _ _ k)
+        ∙ ap (λ b. further (read rest) (when b (at lines (number is n (in_row o (h.before ++ h.last ∷ [])) start))) (comma ∷ rest)) (le-leb _ _ k)
         ∙ read_part lines is n (in_row o (h.before ++ h.last ∷ [])) start rest
 
     -- and stops where there is none
@@ -73,7 +67,7 @@ module _ (width : Option ℕ) (us : List Terminal) (fs : List Frac) where
     comma_stops full lines is n o w =
         let k : limit o < length (h.before ++ h.last ∷ []) + 1 = let l = limit_is o width w in let c = count from h in let d = length-append h.before (h.last ∷ []) in omega (arith, full, l, c, d) in
         h.reads lines is n o w ∙ ap (read_by (number_read lines is n (in_row o h.before) h.last)) e
-        ∙ ap (λ b. further (read rest) (when b (at lines (number is n (in_row o (h.before ++ h.last ∷ [])) start))) (comma ∷ rest)) (le_not _ _ k) ∙ ap Err (sym e)
+        ∙ ap (λ b. further (read rest) (when b (at lines (number is n (in_row o (h.before ++ h.last ∷ [])) start))) (comma ∷ rest)) (lt-leb _ _ k) ∙ ap Err (sym e)
 
     -- one more number
     pub row_more : length fs < most_numbers width → (f : Frac) (behind : List Terminal) → IsNumberRead number_from rest f behind → IsRowBegun width us (fs ++ f ∷ []) behind

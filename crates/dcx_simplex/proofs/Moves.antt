@@ -4,12 +4,13 @@ use Rattle.std.proofs.lemmas.Int.{ints}
 use Rattle.std.proofs.lemmas.Bool.{cases_eq, cases_lt}
 use Rattle.std.proofs.lemmas.List.{get_or-set_same, get_or-set_other}
 use Rattle.dcx_math.specs.Integers.{*ℤ_comm, *ℤ-positive}
+use Rattle.dcx_math.proofs.IntegerLaws.{positive_some}
 use Rattle.dcx_tab.specs.Rows.{entry, Row, row_at, basic_at}
 use Rattle.dcx_tab.specs.Pivot.{turned, eliminated}
 use Rattle.dcx_tab.specs.Table.{Table, entry_at, after_pivot, IsOf}
 use Rattle.dcx_tab.proofs.Elimination.{pos_factor, zero_factor}
 use Rattle.dcx_tab.proofs.Pivots.{at_r, at_other, step, IsTableauOf-pivoted, times_zero}
-use Rattle.dcx_tab.proofs.Feasible.{positive_some, cross_of}
+use Rattle.dcx_tab.proofs.Feasible.{cross_of}
 use Rattle.dcx_simplex.specs.Run.{IsNext, right_at}
 use Rattle.dcx_simplex.proofs.Keeps.{feasible_next}
 use Rattle.dcx_simplex.proofs.Lengths.{length-after}

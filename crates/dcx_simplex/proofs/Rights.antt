@@ -1,10 +1,9 @@
 -- The answer that is read at an end is right for the program.
 use Rattle.std.proofs.Common.{◌≡◌, ◌≢◌, ℕ, zero, suc, ◌+◌, ◌<◌, ◌≤◌, Bool, true, false, List, [], ◌∷◌, length, map, ℤ, pos}
 use Rattle.std.proofs.Common.{negsuc, ◌+ℤ◌, ◌<ℤ◌, ◌≤ℤ◌, arith, refl, sym, ap, ap₂, ◌∙◌, subst, ◌⊎◌, inl, inr}
-use Rattle.std.specs.Prelude.{nat_lt, not, ◌&&◌}
+use Rattle.std.specs.Prelude.{not, ◌&&◌}
 use Rattle.std.proofs.lemmas.Int.{ints, by_lt_z}
-use Rattle.std.proofs.lemmas.Bool.{cases_lt, cases_eq}
-use Rattle.std.proofs.lemmas.Bool.Decides.{nat_tests}
+use Rattle.std.proofs.lemmas.Bool.{cases_lt, cases_eq, ltb-true, ltb-false}
 use Rattle.std.proofs.lemmas.List.{length-map}
 use Rattle.dcx_math.specs.Rational.{ℚ, whole, ◌+ℚ◌, ◌-ℚ◌, ◌*ℚ◌, ◌/ℚ◌, neg_ℚ, ◌≤ℚ◌, ◌<ℚ◌}
 use Rattle.dcx_math.specs.Sums.{rat_dot, rat_at, rat_sum_below, rat_scaled, along}
@@ -44,7 +43,7 @@ use Rattle.dcx_simplex.proofs.Slacks.{Own, find_slack, HasSlack, HasNone}
 use Rattle.dcx_simplex.proofs.OwnColumns.{own_column, own_column_is}
 use Rattle.dcx_simplex.proofs.Bounds.{short, put_out, length_put_out, dot_put_out, rest, put_out_solves, rates, cost_bound, first_solved, first_cost, lead_some_of}
 use Rattle.dcx_simplex.proofs.Multipliers.{HasNotes, combined_is, factor_positive}
-use Rattle.dcx_simplex.proofs.Sides.{below_plain, columns_opposite, not_both}
+use Rattle.dcx_simplex.proofs.Sides.{columns_opposite, not_both}
 use Rattle.dcx_simplex.proofs.Last.{rat_at-past, dot_none, dot_low, quotient_low, negative_high, at_cost_of, at_phase_of}
 use Rattle.dcx_simplex.proofs.Last.{numbers_solve, numbers_high, numbers_none, changes_solve, changes_high, changes_none}
 
@@ -78,9 +77,6 @@ both_none k {x} {y} e f = ap₂ (λ a b. a +ℚ k *ℚ b) e f ∙ ring (k ∷ []
 
 none_added : (k x : ℚ) → x +ℚ k *ℚ whole (pos 0) ≡ x
 none_added k x = ring (k ∷ x ∷ []) (search reads depth 30) tt
-
-high_plain : (a b : ℕ) → nat_lt a b ≡ false → b ≤ a
-high_plain a b h = grind (arith, nat_tests)
 
 product_low : (a : ℤ) (x : ℚ) → a ≤ℤ pos 0 → whole (pos 0) ≤ℚ x → (whole a *ℚ x) ≤ℚ whole (pos 0)
 product_low a x h q = subst (λ y. y ≤ℚ whole (pos 0)) (*ℚ_comm x (whole a)) (*ℚ-nonpositive q (whole-≤ℤ a (pos 0) h))
@@ -173,7 +169,7 @@ module _ (p : Program) (u : Table) (end : IsEnded (first_tableau p).rows (first_
       reduced i j h own = reading.reduced_costs i j h own ∙ ap (λ q. reduced_cost_at u q j) read
 
       slack_plain : (i j : ℕ) → kind_at p.columns j ≡ Slack i → j < length p.columns → j < u.plain
-      slack_plain i j e h = let f = plain_is in let t = below_plain j (plain_count p.columns) (sym (p.form.ordered j h) ∙ ap is_plain e) in omega (arith, f, t)
+      slack_plain i j e h = let f = plain_is in let t = ltb-true j (plain_count p.columns) (sym (p.form.ordered j h) ∙ ap is_plain e) in omega (arith, f, t)
 
       notes : (ys : List ℚ) (assigned : IsAssignment p ys) → HasNotes p a (row_at u.rows k) (lead_at u k) (own_column p)
       notes ys assigned = record {
@@ -275,10 +271,10 @@ module _ (p : Program) (u : Table) (end : IsEnded (first_tableau p).rows (first_
           ⊎ ((kind_at p.columns o.column ≡ Artificial i) × (is_inequality p.columns i ≡ false)) → whole (entry row o.column) ≡ offset status.Infeasible (is_inequality p.columns i)
       offset_is i h o (inl q) =
           let l = own_low p.columns i o.column o.own in
-          ap whole (sum.zeros o.column (below_plain o.column (plain_count p.columns) (sym (p.form.ordered o.column l) ∙ ap is_plain q.0))) ∙ ap (offset status.Infeasible) (sym q.1)
+          ap whole (sum.zeros o.column (ltb-true o.column (plain_count p.columns) (sym (p.form.ordered o.column l) ∙ ap is_plain q.0))) ∙ ap (offset status.Infeasible) (sym q.1)
       offset_is i h o (inr q) =
           let l = own_low p.columns i o.column o.own in
-          ap whole (sum.ones o.column (high_plain o.column (plain_count p.columns) (sym (p.form.ordered o.column l) ∙ ap is_plain q.0)) l) ∙ ap (offset status.Infeasible) (sym q.1)
+          ap whole (sum.ones o.column (ltb-false o.column (plain_count p.columns) (sym (p.form.ordered o.column l) ∙ ap is_plain q.0)) l) ∙ ap (offset status.Infeasible) (sym q.1)
 
       rest_offsets : rest p ys assigned ≡ rat_sum_below (length p.rows) (λ l. short p ys assigned l *ℚ offset status.Infeasible (is_inequality p.columns l))
       rest_offsets =

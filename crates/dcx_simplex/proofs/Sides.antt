@@ -1,9 +1,8 @@
 -- At the last tableau: its rows at rational assignments, and that only one column of a free unknown is basic.
 use Rattle.std.proofs.Common.{◌≡◌, ◌≢◌, ℕ, zero, suc, ◌+◌, ◌<◌, ◌≤◌, Bool, true, false, List, [], ◌∷◌, ◌++◌, length, ℤ, pos, ◌+ℤ◌, ◌*ℤ◌, neg_ℤ, arith, refl, sym, ap, ap₂, ◌∙◌, subst, ◌⊎◌, inl, inr}
-use Rattle.std.specs.Prelude.{Some, slice_get, nat_le, nat_lt, if◌then◌else◌}
+use Rattle.std.specs.Prelude.{Some, slice_get, nat_le, if◌then◌else◌}
 use Rattle.std.proofs.lemmas.Int.{ints}
-use Rattle.std.proofs.lemmas.Bool.{cases_lt, cases_eq}
-use Rattle.std.proofs.lemmas.Bool.Decides.{nat_tests}
+use Rattle.std.proofs.lemmas.Bool.{cases_lt, cases_eq, ltb-true}
 use Rattle.dcx_math.specs.Rational.{ℚ, whole, ◌+ℚ◌}
 use Rattle.dcx_math.specs.Sums.{rat_sum_below}
 use Rattle.dcx_math.specs.IntegerSums.{int_dot, int_scaled, int_added, int_sum_by}
@@ -47,9 +46,6 @@ if_negative : (b : Bool) (x y : ℤ) → y ≡ neg_ℤ x → (if b then y else p
 if_negative true x y e = e
 if_negative false x y e = refl
 
-pub below_plain : (a b : ℕ) → nat_lt a b ≡ true → a < b
-below_plain a b h = grind (arith, nat_tests)
-
 opposite : (a b : ℤ) → b ≡ neg_ℤ a → a +ℤ b ≡ pos 0
 opposite a b e = omega (arith, ints, e)
 
@@ -63,7 +59,7 @@ module _ (p : Program) (j k v : ℕ) (in_j : j < length p.columns) (in_k : k < l
       ∙ ap₂ ◌+ℤ◌ (int_dot-unit row (pos 1) j ∙ *ℤ_idl (entry row j)) (int_dot-unit row (pos 1) k ∙ *ℤ_idl (entry row k))
 
   low_by : (c : ℕ) → c < length p.columns → (x : ColumnKind) → kind_at p.columns c ≡ x → is_plain x ≡ true → c < plain_count p.columns
-  low_by c h x e t = below_plain c (plain_count p.columns) (sym (p.form.ordered c h) ∙ ap is_plain e ∙ t)
+  low_by c h x e t = ltb-true c (plain_count p.columns) (sym (p.form.ordered c h) ∙ ap is_plain e ∙ t)
 
   fronts : (es : List ℤ) (a b c : ℤ) → length es ≡ length p.columns → entry es k ≡ neg_ℤ (entry es j) → entry (es ++ a ∷ b ∷ c ∷ []) j +ℤ entry (es ++ a ∷ b ∷ c ∷ []) k ≡ pos 0
   fronts es a b c w e = ap₂ ◌+ℤ◌ (entry_front es a b c j (omega (arith, w, in_j))) (entry_front es a b c k (omega (arith, w, in_k))) ∙ opposite (entry es j) (entry es k) e

@@ -3,7 +3,7 @@ use Rattle.std.proofs.Common.{◌≡◌, ◌≢◌, ℕ, zero, suc, ◌+◌, ◌
 use Rattle.std.proofs.Common.{◌+ℤ◌, ◌-ℤ◌, ◌<ℤ◌, ◌≤ℤ◌, unsigned_abs, arith, refl, sym, ap, ap₂, ◌∙◌, subst, ◌⊎◌, inl, inr}
 use Rattle.std.specs.Prelude.{Some, slice_get, nat_le, if◌then◌else◌, ◌&&◌}
 use Rattle.std.proofs.lemmas.Int.{ints}
-use Rattle.std.proofs.lemmas.Bool.{cases_lt, cases_eq, eqb-true}
+use Rattle.std.proofs.lemmas.Bool.{cases_lt, cases_eq, eqb-true, le-leb}
 use Rattle.std.proofs.lemmas.Bool.Decides.{nat_tests}
 use Rattle.std.proofs.lemmas.List.{get_or_append_left, get_or_at, get_or-append_right}
 use native.Mathlib.Nat.{eq-one_of_dvd-one}
@@ -159,9 +159,6 @@ unknown_none (Artificial r) i start z h = refl
 
 pub at_least : (a b : ℕ) → nat_le a b ≡ true → a ≤ b
 at_least a b h = grind (arith, nat_tests)
-
-pub at_least_test : (a b : ℕ) → a ≤ b → nat_le a b ≡ true
-at_least_test a b h = grind (arith, nat_tests)
 
 -- an artificial column's entry
 told_artificial : (k : ColumnKind) (r l : ℕ) (negated : Bool) (z : ℤ) → k ≡ Artificial r → l ≢ r → told_entry l negated k z ≡ pos 0
@@ -325,7 +322,7 @@ module _ (rows : List IntRow) (kinds : List ColumnKind) (objective phase : CostR
       (λ i q is n. if_zero (nat_le (plain_count kinds) q.basic) _ ((form.each_row i q is).told j l ∙ told_artificial (kind_at kinds j) r i q.negated (entry q.entries j) e n))
       (λ q is.
       let b : j ≡ q.basic = sym (form.starting j r e) ∙ map_at first_basic_of rows r q 0 is in
-      if_some (nat_le (plain_count kinds) q.basic) _ (pos 1) (at_least_test (plain_count kinds) q.basic (omega (arith, b, h)))
+      if_some (nat_le (plain_count kinds) q.basic) _ (pos 1) (le-leb (plain_count kinds) q.basic (omega (arith, b, h)))
       ((form.each_row r q is).told j l ∙ told_artificial_own (kind_at kinds j) r q.negated (entry q.entries j) e))
 
   sum_artificial : (j : ℕ) → plain_count kinds ≤ j → j < length kinds → entry sum_row j ≡ pos 1

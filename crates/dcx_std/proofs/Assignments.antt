@@ -6,7 +6,7 @@ use Rattle.std.proofs.Common.{eq-eqb}
 use Rattle.std.proofs.lemmas.List.{get_or-map}
 use Rattle.dcx_math.specs.Rational.{ℚ, whole, ◌+ℚ◌, ◌*ℚ◌, neg_ℚ, rat_max, ◌≤ℚ◌}
 use Rattle.dcx_math.specs.Sums.{rat_at, rat_sum_by, rat_sum_below, rat_scaled, along}
-use Rattle.dcx_math.proofs.Orders.{+ℚ_idl, +ℚ_idr, ≤ℚ_refl, ≤ℚ_antisym, neg_ℚ-≤ℚ, neg_ℚ-zero, neg_ℚ-neg_ℚ}
+use Rattle.dcx_math.proofs.Orders.{+ℚ_idl, +ℚ_idr, ≤ℚ_refl, ≤ℚ_antisym, neg_ℚ-≤ℚ, neg_ℚ-zero, neg_ℚ-neg_ℚ, zero_shifted}
 use Rattle.dcx_math.proofs.Bounds.{rat_max-cases, ≤ℚ-rat_max_left}
 use Rattle.dcx_math.proofs.Ring.{ring, reads}
 use Rattle.dcx_math.proofs.Sums.{rat_sum_below-first, rat_sum_below-same, rat_sum_below-+ℚ, rat_sum_below-*ℚ, rat_sum_by-++, rat_at-get_or}
@@ -150,9 +150,6 @@ module _ (slacks : ℕ → ℚ) (y : Unknowns) (u : ℕ) where
       ∙ +ℚ_idr (y u)
 
 -- ---- along a ray
-none_along : (k : ℚ) → whole (pos 0) ≡ whole (pos 0) +ℚ k *ℚ whole (pos 0)
-none_along k = ring (k ∷ []) (search reads depth 30) tt
-
 turned_along : (a k b : ℚ) → neg_ℚ (a +ℚ k *ℚ b) ≡ neg_ℚ a +ℚ k *ℚ neg_ℚ b
 turned_along a k b = ring (a ∷ k ∷ b ∷ []) (search reads depth 30) tt
 
@@ -163,9 +160,9 @@ part_along u (Unknown v minus) a k b = by (nat_eq v u) minus
     by : (t m : Bool) → (if t then turned_if m (a +ℚ k *ℚ b) else whole (pos 0)) ≡ (if t then turned_if m a else whole (pos 0)) +ℚ k *ℚ (if t then turned_if m b else whole (pos 0))
     by true true = turned_along a k b
     by true false = refl
-    by false m = none_along k
-part_along u (Slack r) a k b = none_along k
-part_along u (Artificial r) a k b = none_along k
+    by false m = zero_shifted k
+part_along u (Slack r) a k b = zero_shifted k
+part_along u (Artificial r) a k b = zero_shifted k
 
 -- the unknowns along a ray of columns
 pub unknowns-along : (columns : List ColumnKind) (xs : List ℚ) (k : ℚ) (ds : List ℚ) (u : ℕ) → unknowns_at columns (along xs k ds) u ≡ unknowns_at columns xs u +ℚ k *ℚ unknowns_at columns ds u

@@ -1,6 +1,5 @@
 -- Tests of characters and numbers, and constructors that differ or are the same.
 use Rattle.std.proofs.Common.{◌≡◌, ◌≢◌, ℕ, ◌<◌, Bool, true, false, eqb, ◌&&◌, List, [], ◌∷◌, ◌++◌, Option, Some, None, refl, sym, ◌∙◌, arith}
-use Rattle.std.specs.Prelude.{nat_lt}
 use Rattle.std.proofs.lemmas.Bool.Decides.{nat_tests}
 
 pub never_both : (b : Bool) → b ≡ true → b ≡ false → ⊥
@@ -25,9 +24,6 @@ other_char c n h = grind (arith, nat_tests)
 
 pub not_zero : (n : ℕ) → eqb n 0 ≡ false → 0 < n
 not_zero n e = grind (arith, nat_tests)
-
-pub is_less : (a b : ℕ) → nat_lt a b ≡ true → a < b
-is_less a b e = grind (arith, nat_tests)
 
 pub none_is : {A : Type 0} (a : A) → ◌≡◌ {A = Option A} None (Some a) → ⊥
 none_is a e = cc

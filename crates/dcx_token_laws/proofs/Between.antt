@@ -3,6 +3,7 @@ use Rattle.std.proofs.Common.{◌≡◌, inl, inr, ℕ, zero, suc, ◌+◌, ◌-
 use Rattle.std.specs.Prelude.{IsTrue, not, nat_lt, get_or, ◌≤◌}
 use Rattle.std.specs.List.{All, prefix_len}
 use Rattle.std.proofs.Math.Numerals.{one-add}
+use Rattle.std.proofs.lemmas.Bool.{ltb-true, ltb-false}
 use Rattle.std.proofs.lemmas.Bool.Decides.{nat_tests}
 use Rattle.std.proofs.lemmas.List.Elements.{All-nil, All-cons}
 use Rattle.std.proofs.lemmas.List.{take-append-drop}
@@ -11,7 +12,7 @@ use Rattle.std.proofs.lemmas.List.Sums.{prefix_len_stops}
 use Rattle.std.proofs.lemmas.List.Folds.{length-prefix_len}
 use Rattle.dcx_tokens.specs.Front.{run_of, is_blank, ends_line, line_end_len, up_to_line_end, is_not_line_feed}
 use Rattle.dcx_token_laws.specs.Cut.{AreBlanks, IsLineEnd, EndsLine, HasNoLineEnd, IsComment}
-use Rattle.dcx_token_laws.proofs.Basics.{is_char, is_less, never_both}
+use Rattle.dcx_token_laws.proofs.Basics.{is_char, never_both}
 
 -- those that are counted from the front on pass
 pub run_passes : (p : ℕ → Bool) (cs : List ℕ) → All (λ c. IsTrue (p c)) (take (prefix_len p cs) cs)
@@ -127,22 +128,19 @@ return_next cs n some within is e =
 comment_of : (c : ℕ) (cs : List ℕ) (n m : ℕ) → c ≡ 35 → n ≡ suc m → m ≤ prefix_len is_not_line_feed cs → IsClear cs m → EndsLine (drop m cs) → IsComment (take n (c ∷ cs)) (drop n (c ∷ cs))
 comment_of c cs n m hash count le clear ends = rw count (hash, no_line_end cs m le clear, ends)
 
-not_less : (a b : ℕ) → nat_lt a b ≡ false → b ≤ a
-not_less a b e = grind (arith, nat_tests)
-
 comment_by : (c : ℕ) (cs : List ℕ) (n run : ℕ) (a b d : Bool) → c ≡ 35 → run ≡ prefix_len is_not_line_feed cs → nat_lt 0 run ≡ a → nat_lt run (length cs) ≡ b → eqb (get_or cs (run - 1) 0) 13 ≡ d →
     n ≡ 1 + cond ((a && b) && d) (run - 1) run → IsComment (take n (c ∷ cs)) (drop n (c ∷ cs))
 comment_by c cs n run true true true h is ea eb ed e =
-    let some = is_less 0 run ea in
-    comment_of c cs n (run - 1) h (omega arith) (omega arith) (λ k same at_end within. absurd (omega (arith, some, is, at_end))) (return_next cs run some (is_less run (length cs) eb) is ed)
+    let some = ltb-true 0 run ea in
+    comment_of c cs n (run - 1) h (omega arith) (omega arith) (λ k same at_end within. absurd (omega (arith, some, is, at_end))) (return_next cs run some (ltb-true run (length cs) eb) is ed)
 comment_by c cs n run true true false h is ea eb ed e =
     comment_of c cs n run h (omega arith) (omega arith) (λ k same at_end within. let last : run - 1 ≡ k = omega (arith, same) in
     subst (λ i. eqb (get_or cs i 0) 13 ≡ false) last ed) (subst (λ i. EndsLine (drop i cs)) (sym is) (feed_next cs))
 comment_by c cs n run true false d h is ea eb ed e =
-    comment_of c cs n run h (omega arith) (omega arith) (λ k same at_end within. absurd (let most = not_less run (length cs) eb in omega (arith, most, within)))
+    comment_of c cs n run h (omega arith) (omega arith) (λ k same at_end within. absurd (let most = ltb-false run (length cs) eb in omega (arith, most, within)))
     (subst (λ i. EndsLine (drop i cs)) (sym is) (feed_next cs))
 comment_by c cs n run false b d h is ea eb ed e =
-    comment_of c cs n run h (omega arith) (omega arith) (λ k same at_end within. absurd (let none = not_less 0 run ea in omega (arith, none, same)))
+    comment_of c cs n run h (omega arith) (omega arith) (λ k same at_end within. absurd (let none = ltb-false 0 run ea in omega (arith, none, same)))
     (subst (λ i. EndsLine (drop i cs)) (sym is) (feed_next cs))
 
 pub is_comment : (c : ℕ) (cs : List ℕ) (n : ℕ) → eqb c 35 ≡ true → n ≡ 1 + up_to_line_end cs → IsComment (take n (c ∷ cs)) (drop n (c ∷ cs))

@@ -89,6 +89,10 @@ pub comment_feeds : (front behind : List ℕ) → IsComment front behind → Has
 comment_feeds [] behind h = absurd h
 comment_feeds (x ∷ xs) behind h = All-cons (λ d. d ≢ 10) x xs (hash_other x h.0) (no_feeds xs behind h.1)
 
+pub comment_ends : (front behind : List ℕ) → IsComment front behind → EndsLine behind
+comment_ends [] behind h = absurd h
+comment_ends (x ∷ xs) behind h = h.2
+
 -- ---- where the reading stands in its line
 -- behind blanks comes no other
 abbrev pub NoMore : List ℕ → List ℕ → Type 0
@@ -543,10 +547,6 @@ module _ (s : State) (c : ℕ) (cs : List ℕ) (n : ℕ) (rising : IsRising 0 s.
             before = λ ts lined. record { new = lined.new; tokens = lined.tokens; goes = lined.goes };
             after = λ front h us cut goes. record { left = us; cut = blanks_at front us b count cut; goes = goes; tokens = refl };
           })
-
-      comment_ends : (front behind : List ℕ) → IsComment front behind → EndsLine behind
-      comment_ends (x ∷ xs) behind h = h.2
-      comment_ends [] behind h = absurd h
 
       next_leads : (t : State) → Step s t c cs n → Next s t (c ∷ cs) (take n (c ∷ cs)) (drop n (c ∷ cs)) ahead
       next_leads t (steps.line_end l count same) = next_empty t ahead (λ new h. h) (λ new h. h) l count (empty_ends s t (take n (c ∷ cs)) blanks is same)

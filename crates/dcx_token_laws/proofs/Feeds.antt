@@ -145,12 +145,9 @@ unfolding sign_at
 sign_feeds_at c [] s h e = subst (λ n. HasNoFeed (take n (c ∷ []))) (sym (short_len c s e)) (one c h)
 sign_feeds_at c (d ∷ ds) s h e = by (long_sign c d) refl e
   where
-    same : (t : Symbol) → ◌≡◌ {A = Option Symbol} (Some t) (Some s) → t ≡ s
-    same t f = cc
-
     by : (o : Option Symbol) → long_sign c d ≡ o → or_else o (short_sign c) ≡ Some s → HasNoFeed (take (sign_len s) (c ∷ d ∷ ds))
     by (Some t) is f =
-        let long : long_sign c d ≡ Some s = is ∙ ap (λ u. Some u) (same t f) in
+        let long : long_sign c d ≡ Some s = is ∙ ap (λ (u : Symbol). Some u) (same_some t s f) in
         subst (λ n. HasNoFeed (take n (c ∷ d ∷ ds))) (sym (long_len c d s long)) (All-cons (λ z. z ≢ 10) c (d ∷ []) h (one d (sign_second long_signs c d s refl long)))
     by None is f = subst (λ n. HasNoFeed (take n (c ∷ d ∷ ds))) (sym (short_len c s f)) (one c h)
 

@@ -5,12 +5,13 @@ use Rattle.std.specs.List.{list_all}
 use Rattle.std.specs.Char.{is_ascii_digit, is_ascii_alphabetic}
 use Rattle.std.specs.Int.{is_in_range}
 use Rattle.std.specs.Cmp.Lexicographic.{pointwise}
+use Rattle.std.proofs.lemmas.Bool.{ltb-true}
 use Rattle.std.proofs.lemmas.Bool.Decides.{nat_tests}
 use Prim.Native.String.{String}
 use Rattle.unicode_ident.proofs.IdentLemmas.{is_xid_start-ascii}
 use Rattle.dcx_tokens.specs.declared.token.Symbol.{Symbol}
 use Rattle.dcx_tokens.specs.Front.{is_quote, begins_name, begins_number, long_signs, short_signs, sign_of, long_sign, short_sign, sign_len}
-use Rattle.dcx_token_laws.proofs.Basics.{is_char, is_less, left, none_is, other_char, right, same_some}
+use Rattle.dcx_token_laws.proofs.Basics.{is_char, left, none_is, other_char, right, same_some}
 
 -- a character of ASCII that begins no name, no number and no text
 abbrev pub is_plain : ℕ → Bool
@@ -69,7 +70,7 @@ not_plain c p e = by (nat_lt c 128) (is_ascii_alphabetic c || eqb c 95) p e
 
 pub name_not_plain : (c : ℕ) → begins_name c ≡ true → is_plain c ≡ true → ⊥
 name_not_plain c e p =
-    let small = is_less c 128 (left (nat_lt c 128) (not (is_ascii_alphabetic c || eqb c 95) && (not (is_ascii_digit c) && (not (eqb c 46) && not (is_quote c)))) p) in
+    let small = ltb-true c 128 (left (nat_lt c 128) (not (is_ascii_alphabetic c || eqb c 95) && (not (is_ascii_digit c) && (not (eqb c 46) && not (is_quote c)))) p) in
     not_plain c p (name_ascii c small e)
 
 -- ---- numbers
@@ -187,5 +188,5 @@ module _ (c : ℕ) (s : Symbol) (short : short_sign c ≡ Some s) where
   pub short_not_name : begins_name c ≡ true → ⊥
   short_not_name e =
       let last = right (not (is_quote c)) (nat_lt c 128 && not (is_ascii_alphabetic c || eqb c 95)) rest in
-      let small = is_less c 128 (left (nat_lt c 128) (not (is_ascii_alphabetic c || eqb c 95)) last) in
+      let small = ltb-true c 128 (left (nat_lt c 128) (not (is_ascii_alphabetic c || eqb c 95)) last) in
       not_true (is_ascii_alphabetic c || eqb c 95) (right (nat_lt c 128) (not (is_ascii_alphabetic c || eqb c 95)) last) (name_ascii c small e)

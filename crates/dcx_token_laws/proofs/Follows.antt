@@ -2,6 +2,7 @@
 use Rattle.std.proofs.Common.{◌≡◌, ◌⊎◌, inl, inr, ℕ, zero, suc, ◌+◌, ◌<◌, ◌≤◌, Bool, true, false, eqb, ◌||◌, List, [], ◌∷◌, ◌++◌, length, take, Option, Some, refl, sym, ap, ◌∙◌, subst, arith}
 use Rattle.std.specs.Prelude.{nat_lt}
 use Rattle.std.specs.List.{All, list_all, list_any}
+use Rattle.std.proofs.lemmas.Bool.{lt-ltb}
 use Rattle.std.proofs.lemmas.Bool.Decides.{nat_tests}
 use Rattle.std.proofs.lemmas.List.Elements.{All-head, All-tail}
 use Rattle.dcx_tokens.specs.declared.fault.ReadFault.{ReadFault}
@@ -16,6 +17,7 @@ use Rattle.dcx_tokens.specs.Laws.{brackets_left, blocks_left}
 use Rattle.dcx_tokens.specs.Layout.{is_deeper, is_standing, opens}
 use Rattle.dcx_tokens.specs.Reading.{IsLexed}
 use Rattle.dcx_tokens.specs.State.{State, is_full}
+use Rattle.dcx_tokens.proofs.Nesting.{shallow_end}
 use Rattle.dcx_token_laws.specs.Cut.{place_behind}
 use Rattle.dcx_token_laws.specs.Faults.{IndentsDoNotFollow, TooDeepAreAbove64, BeginsNothing, DoesNotFollow, OpensBracket, BeginsBlock, open_blocks}
 use Rattle.dcx_token_laws.specs.Fine.{IsFineUpTo, IsLedBy}
@@ -27,20 +29,17 @@ use Rattle.dcx_token_laws.proofs.Firsts.{long_len}
 use Rattle.dcx_token_laws.proofs.Forms.{HasBegun, IsLed}
 use Rattle.dcx_token_laws.proofs.Halts.{IsBegun, LineHalts, tab, full, apart, Halts, char, line, bad_number, open_text, bracket}
 use Rattle.dcx_token_laws.proofs.Rising.{all_below}
-use Rattle.dcx_token_laws.proofs.Shallow.{shallow_end, shallow}
+use Rattle.dcx_token_laws.proofs.Shallow.{shallow}
 use Rattle.dcx_token_laws.proofs.Spelled.{is_word}
 use Rattle.dcx_token_laws.proofs.Spots.{Spot, within, leads, closing, spot_formed, stacks_begun}
 use Rattle.dcx_token_laws.proofs.Stacks.{Stacks, open_count}
 use Rattle.dcx_token_laws.proofs.Unread.{begun_place}
 
 -- ---- no line of this depth follows
-less_true : (a b : ℕ) → a < b → nat_lt a b ≡ true
-less_true a b h = grind (arith, nat_tests)
-
 all_true : (depth : ℕ) (blocks : List ℕ) → All (λ d. d < depth) blocks → list_all (λ i. nat_lt i depth) blocks ≡ true
 all_true depth [] h = refl
 all_true depth (b ∷ bs) h =
-    let first = less_true b depth (All-head (λ d. d < depth) b bs h) in
+    let first = lt-ltb b depth (All-head (λ d. d < depth) b bs h) in
     let more = all_true depth bs (All-tail (λ d. d < depth) b bs h) in
     rw (first, more) refl
 
@@ -68,7 +67,7 @@ stands_true stay gone depth (inr (outer, e)) = by (eqb depth 0)
 
 pub no_turn : {blocks after : List ℕ} {depth : ℕ} {marks : List TokenKind} → is_deeper blocks depth ≡ false → is_standing blocks depth ≡ false → Turns blocks depth marks after → ⊥
 no_turn {depth = depth} d st (deeper {blocks = blocks} some all) =
-    let one = less_true 0 depth some in
+    let one = lt-ltb 0 depth some in
     let more = all_true depth blocks all in
     let yes : is_deeper blocks depth ≡ true = rw (one, more) refl in
     never_both (is_deeper blocks depth) yes d

@@ -3,38 +3,28 @@ use Rattle.std.proofs.Common.{◌≡◌, inl, inr, ℕ, ◌+◌, ◌-◌, ◌<�
 use Rattle.std.specs.Prelude.{nat_lt, nat_le}
 use Rattle.std.specs.List.{All, list_all, list_any, prefix_len}
 use Rattle.std.proofs.Math.Numerals.{one-add}
-use Rattle.std.proofs.lemmas.Bool.Decides.{nat_tests}
+use Rattle.std.proofs.lemmas.Bool.{ltb-true, leb-false, le-leb, lt-leb}
 use Rattle.std.proofs.lemmas.List.{length-drop, take-append-drop}
 use Rattle.std.proofs.lemmas.List.Folds.{length-prefix_len}
 use Rattle.std.proofs.lemmas.List.Elements.{All-nil, All-cons, All-weaker}
 use Rattle.dcx_tokens.specs.declared.token.TokenKind.TheVariants as kind
 use Rattle.dcx_tokens.specs.Layout.{is_deeper, is_standing, kept}
 use Rattle.dcx_token_laws.specs.Lines.{StandsAt, Turns, deeper, back}
-use Rattle.dcx_token_laws.proofs.Basics.{is_char, is_less, left, right}
+use Rattle.dcx_token_laws.proofs.Basics.{is_char, left, right}
 
 abbrev pub IsRising : ℕ → List ℕ → Type 0
 IsRising low [] = Unit {0}
 IsRising low (x ∷ xs) = (low < x) × IsRising x xs
 
--- ---- tests
-above : (a b : ℕ) → nat_le a b ≡ false → b < a
-above a b e = grind (arith, nat_tests)
-
-le_true : (a b : ℕ) → a ≤ b → nat_le a b ≡ true
-le_true a b h = grind (arith, nat_tests)
-
-le_false : (a b : ℕ) → b < a → nat_le a b ≡ false
-le_false a b h = grind (arith, nat_tests)
-
 -- ---- deeper than all
 pub all_below : (xs : List ℕ) (x : ℕ) → list_all (λ i. nat_lt i x) xs ≡ true → All (λ d. d < x) xs
 all_below [] x e = All-nil (λ d. d < x)
-all_below (y ∷ ys) x e = All-cons (λ d. d < x) y ys (is_less y x (left (nat_lt y x) (list_all (λ i. nat_lt i x) ys) e)) (all_below ys x (right (nat_lt y x) (list_all (λ i. nat_lt i x) ys) e))
+all_below (y ∷ ys) x e = All-cons (λ d. d < x) y ys (ltb-true y x (left (nat_lt y x) (list_all (λ i. nat_lt i x) ys) e)) (all_below ys x (right (nat_lt y x) (list_all (λ i. nat_lt i x) ys) e))
 
 -- the same, by recursion
 rising_push : (low : ℕ) (xs : List ℕ) (x : ℕ) → low < x → IsRising low xs → list_all (λ i. nat_lt i x) xs ≡ true → IsRising low (xs ++ x ∷ [])
 rising_push low [] x h r e = (h, tt)
-rising_push low (y ∷ ys) x h r e = (r.0, rising_push y ys x (is_less y x (left (nat_lt y x) (list_all (λ i. nat_lt i x) ys) e)) r.1 (right (nat_lt y x) (list_all (λ i. nat_lt i x) ys) e))
+rising_push low (y ∷ ys) x h r e = (r.0, rising_push y ys x (ltb-true y x (left (nat_lt y x) (list_all (λ i. nat_lt i x) ys) e)) r.1 (right (nat_lt y x) (list_all (λ i. nat_lt i x) ys) e))
 
 -- ---- back to one that stands
 rising_all : (low : ℕ) (xs : List ℕ) → IsRising low xs → All (λ d. low < d) xs
@@ -43,7 +33,7 @@ rising_all low (x ∷ xs) r = All-cons (λ d. low < d) x xs r.0 (All-weaker (λ 
 
 none_kept : (low : ℕ) (xs : List ℕ) (x : ℕ) → x ≤ low → IsRising low xs → prefix_len (λ i. nat_le i x) xs ≡ 0
 none_kept low [] x h r = refl
-none_kept low (y ∷ ys) x h r = let k = r.0 in let no : nat_le y x ≡ false = le_false y x (omega arith) in rw no refl
+none_kept low (y ∷ ys) x h r = let k = r.0 in let no : nat_le y x ≡ false = lt-leb y x (omega arith) in rw no refl
 
 any_above : (low : ℕ) (xs : List ℕ) (x : ℕ) → IsRising low xs → list_any (λ i. eqb i x) xs ≡ true → low < x
 any_above low [] x r e = absurd (cc)
@@ -59,7 +49,7 @@ gone_above low (y ∷ ys) x r = by (nat_le y x) refl (gone_above y ys x r.1)
   where
     by : (b : Bool) → nat_le y x ≡ b → All (λ d. x < d) (drop (prefix_len (λ i. nat_le i x) ys) ys) → All (λ d. x < d) (drop (cond b (1 + prefix_len (λ i. nat_le i x) ys) 0) (y ∷ ys))
     by true is more = rw one-add more
-    by false is more = let a = above y x is in All-cons (λ d. x < d) y ys a (All-weaker (λ d. y < d) (λ d. x < d) (λ d h. omega (arith, h, a)) ys (rising_all y ys r.1))
+    by false is more = let a = leb-false y x is in All-cons (λ d. x < d) y ys a (All-weaker (λ d. y < d) (λ d. x < d) (λ d h. omega (arith, h, a)) ys (rising_all y ys r.1))
 
 kept_stands : (low : ℕ) (xs : List ℕ) (x : ℕ) → IsRising low xs → list_any (λ i. eqb i x) xs ≡ true → (outer : List ℕ) × (take (prefix_len (λ i. nat_le i x) xs) xs ≡ outer ++ x ∷ [])
 kept_stands low [] x r e = absurd (cc)
@@ -70,12 +60,12 @@ kept_stands low (y ∷ ys) x r e = by (eqb y x) refl e (kept_stands y ys x r.1)
         → (outer : List ℕ) × (take (prefix_len (λ i. nat_le i x) (y ∷ ys)) (y ∷ ys) ≡ outer ++ x ∷ [])
     by true is h more =
         let same = is_char y x is in
-        let yes : nat_le y x ≡ true = le_true y x (omega arith) in
+        let yes : nat_le y x ≡ true = le-leb y x (omega arith) in
         let none : prefix_len (λ i. nat_le i x) ys ≡ 0 = none_kept y ys x (omega arith) r.1 in
         ([], rw (yes, none) (ap (λ z. z ∷ []) same))
     by false is h more =
         let l = any_above y ys x r.1 h in
-        let yes : nat_le y x ≡ true = le_true y x (omega arith) in
+        let yes : nat_le y x ≡ true = le-leb y x (omega arith) in
         let m = more h in
         (y ∷ m.0, rw (yes, one-add) (ap (λ zs. y ∷ zs) m.1))
 
@@ -90,11 +80,11 @@ rising_kept low (y ∷ ys) x r = by (nat_le y x) (rising_kept y ys x r.1)
 -- ---- what a line of this depth makes of blocks
 pub deeper_turns : (blocks : List ℕ) (depth : ℕ) → is_deeper blocks depth ≡ true → Turns blocks depth (kind.Indent ∷ []) (blocks ++ depth ∷ [])
 deeper_turns blocks depth e =
-    deeper (is_less 0 depth (left (nat_lt 0 depth) (list_all (λ i. nat_lt i depth) blocks) e)) (all_below blocks depth (right (nat_lt 0 depth) (list_all (λ i. nat_lt i depth) blocks) e))
+    deeper (ltb-true 0 depth (left (nat_lt 0 depth) (list_all (λ i. nat_lt i depth) blocks) e)) (all_below blocks depth (right (nat_lt 0 depth) (list_all (λ i. nat_lt i depth) blocks) e))
 
 pub deeper_rising : (blocks : List ℕ) (depth : ℕ) → IsRising 0 blocks → is_deeper blocks depth ≡ true → IsRising 0 (blocks ++ depth ∷ [])
 deeper_rising blocks depth r e =
-    rising_push 0 blocks depth (is_less 0 depth (left (nat_lt 0 depth) (list_all (λ i. nat_lt i depth) blocks) e)) r (right (nat_lt 0 depth) (list_all (λ i. nat_lt i depth) blocks) e)
+    rising_push 0 blocks depth (ltb-true 0 depth (left (nat_lt 0 depth) (list_all (λ i. nat_lt i depth) blocks) e)) r (right (nat_lt 0 depth) (list_all (λ i. nat_lt i depth) blocks) e)
 
 stands : (blocks : List ℕ) (depth : ℕ) → IsRising 0 blocks → is_standing blocks depth ≡ true → StandsAt (kept blocks depth) depth
 stands blocks depth r = by (eqb depth 0) refl

@@ -1,19 +1,15 @@
 -- No more than 64 brackets and blocks are open behind the tokens that are read.
-use Rattle.std.proofs.Common.{ℕ, ◌+◌, ◌≤◌, List, [], ◌∷◌, length, Option, refl, subst, arith}
+use Rattle.std.proofs.Common.{ℕ, List, length, Option, refl, subst, arith}
 use Rattle.std.specs.Str.{chars}
 use Rattle.dcx_tokens.specs.declared.fault.ReadFault.{ReadFault}
 use Rattle.dcx_tokens.specs.declared.token.Token.{Token}
-use Rattle.dcx_tokens.specs.Laws.{brackets_behind, blocks_behind, brackets_left, blocks_left, StaysShallow}
+use Rattle.dcx_tokens.specs.Laws.{StaysShallow}
 use Rattle.dcx_tokens.specs.Position.{bytes_of}
 use Rattle.dcx_tokens.specs.Reading.{IsLexed}
 use Rattle.dcx_tokens.specs.State.{State}
 use Rattle.dcx_tokens.proofs.Kept.{reads_keep}
 use Rattle.dcx_tokens.proofs.Nesting as nesting
 use Rattle.dcx_tokens.proofs.Nesting.{Nested}
-
-pub shallow_end : (b i : ℕ) (ts : List Token) → StaysShallow b i ts → brackets_left b ts + blocks_left i ts ≤ 64
-shallow_end b i [] h = h
-shallow_end b i (u ∷ ts) h = shallow_end (brackets_behind b u.kind) (blocks_behind i u.kind) ts h.2
 
 pub shallow : (text : List ℕ) (ts : List Token) (f : Option ReadFault) → IsLexed text ts f → StaysShallow 0 0 ts
 shallow text ts f lexed =

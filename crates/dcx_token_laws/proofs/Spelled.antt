@@ -11,7 +11,6 @@ use Rattle.unicode_ident.specs.Ident.{is_xid_continue}
 use Rattle.dcx_frac.specs.declared.fraction.Frac.{Frac}
 use Rattle.dcx_tokens.specs.declared.token.Keyword.{Keyword}
 use Rattle.dcx_tokens.specs.declared.token.Symbol.{Symbol}
-use Rattle.dcx_tokens.specs.declared.token.Symbol.TheVariants as symbol
 use Rattle.dcx_tokens.specs.declared.token.TokenKind.{TokenKind}
 use Rattle.dcx_tokens.specs.declared.token.TokenKind.TheVariants as kind
 use Rattle.dcx_tokens.specs.Front.{run_of, is_quote, begins_name, begins_number, long_sign, short_sign, or_else, sign_at, sign_len}
@@ -22,11 +21,12 @@ use Rattle.dcx_tokens.specs.Word.{keyword_of}
 use Rattle.dcx_token_laws.specs.Words.{IsIdentifier, IsNumber, IsQuoted, IsSign, IsWord, IsLongest}
 use Rattle.dcx_token_laws.proofs.Between.{run_passes, run_is}
 use Rattle.dcx_token_laws.proofs.Firsts.{is_plain, long_plain, long_len, short_len, name_not_plain, name_not_number, name_not_quote, number_not_plain, number_not_quote, quote_not_plain}
+use Rattle.dcx_tokens.proofs.Kept.{sign_some}
 use Rattle.dcx_tokens.proofs.Lengths.{number_some}
 use Rattle.dcx_token_laws.proofs.Numerals.{number_front, number_within, point_long}
 use Rattle.dcx_token_laws.proofs.Quotes.{quote_front, quote_some}
 use Rattle.dcx_token_laws.proofs.Steps.{IsToken, name, number, text, sign}
-use Rattle.dcx_token_laws.proofs.Basics.{head_is, never_both, right_nil}
+use Rattle.dcx_token_laws.proofs.Basics.{head_is, never_both, right_nil, same_some}
 
 -- ---- where a run ends
 run_stops : (p : ℕ → Bool) (cs more rest : List ℕ) → drop (prefix_len p cs) cs ≡ more ++ rest → All (λ d. IsTrue (p d)) more → more ≡ []
@@ -59,7 +59,7 @@ name_count : (cs : List ℕ) (n : ℕ) → n ≡ 1 + run_of is_xid_continue cs �
 name_count cs n count = count ∙ ap (λ m. 1 + m) (run_is is_xid_continue cs) ∙ one-add (prefix_len is_xid_continue cs)
 
 -- a number
-digit_begins : (c : ℕ) (cs : List ℕ) → is_ascii_digit c ≡ true → begins_number c cs ≡ true
+pub digit_begins : (c : ℕ) (cs : List ℕ) → is_ascii_digit c ≡ true → begins_number c cs ≡ true
 digit_begins c [] e = e
 digit_begins c (d ∷ ds) e = rw e refl
 
@@ -106,12 +106,9 @@ unfolding sign_at
 sign_cases c [] s e = subst (λ n. IsSign s (take n (c ∷ []))) (sym (short_len c s e)) e
 sign_cases c (d ∷ ds) s e = by (long_sign c d) refl e
   where
-    same : (t : Symbol) → ◌≡◌ {A = Option Symbol} (Some t) (Some s) → t ≡ s
-    same t f = cc
-
     by : (o : Option Symbol) → long_sign c d ≡ o → or_else o (short_sign c) ≡ Some s → IsSign s (take (sign_len s) (c ∷ d ∷ ds))
     by (Some t) is h =
-        let long : long_sign c d ≡ Some s = is ∙ ap (λ u. Some u) (same t h) in
+        let long : long_sign c d ≡ Some s = is ∙ ap (λ (u : Symbol). Some u) (same_some t s h) in
         subst (λ n. IsSign s (take n (c ∷ d ∷ ds))) (sym (long_len c d s long)) long
     by None is h = subst (λ n. IsSign s (take n (c ∷ d ∷ ds))) (sym (short_len c s h)) h
 
@@ -126,10 +123,6 @@ is_word c cs k n (sign s b d q e count same) =
     subst (λ j. IsWord j (take n (c ∷ cs))) (sym same) (subst (λ i. IsSign s (take i (c ∷ cs))) (sym count) (sign_cases c cs s e))
 
 -- ---- no more of the text would spell a token
-pub sign_some : (s : Symbol) → 0 < sign_len s
-sign_some symbol.StarStar = omega arith
-sign_some _ = omega arith
-
 none_left : (xs ys : List ℕ) (m : ℕ) → length xs ≡ m → length (xs ++ ys) ≡ m → ys ≡ []
 none_left xs [] m a b = refl
 none_left xs (y ∷ ys) m a b = let l = length-append xs (y ∷ ys) in absurd (omega (arith, a, b, l))

@@ -9,10 +9,10 @@ use Rattle.dcx_tokens.specs.declared.token.TokenKind.{TokenKind}
 use Rattle.dcx_tokens.specs.declared.token.TokenKind.TheVariants as kind
 use Rattle.dcx_tokens.specs.Front.{is_blank, ends_line, up_to_line_end}
 use Rattle.dcx_tokens.specs.State.{State, moved, put, line_begun_at, start}
-use Rattle.dcx_token_laws.specs.Cut.{AreBlanks, IsLineEnd, IsComment, EndsLine}
+use Rattle.dcx_token_laws.specs.Cut.{AreBlanks, IsLineEnd, EndsLine}
 use Rattle.dcx_token_laws.specs.Fine.{StartsLine}
 use Rattle.dcx_token_laws.proofs.Between.{are_blanks, is_line_end, is_comment}
-use Rattle.dcx_token_laws.proofs.Depths.{NoMore, no_more, blanks_column, line_end_column, is_of_words, comment_feeds}
+use Rattle.dcx_token_laws.proofs.Depths.{NoMore, no_more, blanks_column, line_end_column, is_of_words, comment_feeds, comment_ends}
 use Rattle.dcx_token_laws.proofs.Feeds.{HasNoFeed, token_feeds}
 use Rattle.dcx_token_laws.proofs.Forms.{IsFormed, HasBegun, IsLed, turns, begun_is, begins, has_begun, nests, Closes, over, inside, begun_closes, empty_ends}
 use Rattle.dcx_token_laws.proofs.Heads.{Fronts, first_on, second_on, fronts}
@@ -87,10 +87,6 @@ end_starts front end (inr e) = inr (front ++ 13 ∷ [], ap (λ xs. front ++ xs) 
 none_before : (c : ℕ) (cs bs : List ℕ) → NoMore bs (c ∷ cs) → is_blank c ≡ true → bs ≡ []
 none_before c cs [] h b = refl
 none_before c cs (x ∷ xs) h b = absurd (never_both (is_blank c) b h)
-
-comment_ends : (cs behind : List ℕ) → IsComment cs behind → EndsLine behind
-comment_ends (x ∷ xs) behind h = h.2
-comment_ends [] behind h = absurd h
 
 -- where a step leads, and the stacks behind it
 pub record Leads (t : State) (front cs : List ℕ) : Type 0 where

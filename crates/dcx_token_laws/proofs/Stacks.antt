@@ -1,5 +1,5 @@
 -- Which brackets and blocks are open behind tokens, as stacks: with one token more, and along a step.
-use Rattle.std.proofs.Common.{◌≡◌, ℕ, zero, suc, ◌+◌, ◌-◌, ◌<◌, ◌≤◌, Bool, true, false, cond, List, [], ◌∷◌, ◌++◌}
+use Rattle.std.proofs.Common.{◌≡◌, ℕ, zero, suc, ◌+◌, ◌-◌, ◌<◌, Bool, true, false, cond, List, [], ◌∷◌, ◌++◌}
 use Rattle.std.proofs.Common.{length, take, replicate, refl, sym, ap, ◌∙◌, subst, append_assoc, arith, length-append}
 use Rattle.std.specs.Prelude.{Ok, Err, nat_le}
 use Rattle.std.specs.List.{prefix_len}
@@ -240,9 +240,6 @@ push_dedents (suc m) ts blocks brackets s p h =
     ap (λ n. take n fewer) (omega (arith, count)) ∙ take-take (length blocks - suc m) (length blocks - 1) blocks (omega arith) in
     subst (λ us. Stacks us (take (length blocks - suc m) blocks) brackets) (append_assoc ts (dedent_at s p ∷ []) (replicate m (dedent_at s p)))
     (subst (λ bs. Stacks ((ts ++ dedent_at s p ∷ []) ++ replicate m (dedent_at s p)) bs brackets) same more)
-
-pub kept_fewer : (blocks : List ℕ) (spaces : ℕ) → length (kept blocks spaces) ≤ length blocks
-kept_fewer blocks spaces = let few = length-take (prefix_len (λ i. nat_le i spaces) blocks) blocks in omega (arith, few)
 
 kept_left : (blocks : List ℕ) (spaces : ℕ) → take (length blocks - (length blocks - length (kept blocks spaces))) blocks ≡ kept blocks spaces
 kept_left blocks spaces =

@@ -8,9 +8,8 @@ use Rattle.dcx_tokens.specs.declared.token.TokenKind.{TokenKind}
 use Rattle.dcx_tokens.specs.Reading.{Reads, ends, stops, goes_on, fault_of}
 use Rattle.dcx_tokens.specs.State.{State, Answer, finished, step}
 use Rattle.dcx_tokens.proofs.Lengths.{number_some}
-use Rattle.dcx_token_laws.proofs.Spelled.{sign_some}
 use Rattle.dcx_token_laws.proofs.Steps.{IsToken, name, number, text, sign, Step, line_end, blank, comment, word, stepped}
-use Rattle.dcx_tokens.proofs.Kept.{line_end_some}
+use Rattle.dcx_tokens.proofs.Kept.{line_end_some, sign_some}
 
 pub token_long : (c : ℕ) (cs : List ℕ) (k : TokenKind) (n : ℕ) → IsToken c cs k n → 0 < n
 token_long c cs k n (name b count is) = omega (arith, count)

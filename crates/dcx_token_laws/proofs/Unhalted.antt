@@ -21,6 +21,7 @@ use Rattle.dcx_tokens.specs.Number.{is_spoiled, number_at}
 use Rattle.dcx_tokens.specs.Quoted.{up_to_quote}
 use Rattle.dcx_tokens.specs.Reading.{Reads, ends, stops, goes_on, IsLexed}
 use Rattle.dcx_tokens.specs.State.{State, is_full, start}
+use Rattle.dcx_tokens.proofs.Nesting.{kept_fewer}
 use Rattle.dcx_token_laws.specs.Cut.{AreBlanks, AreMarks, IsMark, Spans, Cut}
 use Rattle.dcx_token_laws.specs.Fine.{StandsThere, IsFine, FineTextsAreRead, StartsLine}
 use Rattle.dcx_token_laws.specs.Lines.{IsOfWords, depth_of, kinds, Turns, AreLines}
@@ -44,7 +45,7 @@ use Rattle.dcx_token_laws.proofs.Spelled.{is_word, is_longest, begins_more}
 use Rattle.dcx_token_laws.proofs.Spots as spots
 use Rattle.dcx_token_laws.proofs.Spots.{Spot, spot_formed}
 use Rattle.dcx_token_laws.proofs.Stacks as outside
-use Rattle.dcx_token_laws.proofs.Stacks.{brackets_left-append, open_count, kept_fewer}
+use Rattle.dcx_token_laws.proofs.Stacks.{brackets_left-append, open_count}
 use Rattle.dcx_token_laws.proofs.Steps.{stepped}
 use Rattle.dcx_token_laws.proofs.Stopped.{Walks, walks_next, walks_first, EndStops, EndIf, end_stops}
 use Rattle.dcx_token_laws.proofs.Shallow.{shallow}

@@ -100,7 +100,7 @@ text_good : (place : Place) (o : Option ℕ) → IfOk (text_or place o) IsGood
 text_good place (Some n) = (tt, omega arith)
 text_good place None = tt
 
-sign_some : (symbol : Symbol) → 0 < sign_len symbol
+pub sign_some : (symbol : Symbol) → 0 < sign_len symbol
 sign_some symbol.StarStar = omega arith
 sign_some _ = omega arith
 

@@ -39,7 +39,7 @@ shallow_push : (b i : ℕ) (ts : List Token) (t : Token) → StaysShallow b i ts
 shallow_push b i [] t h one few = (h, one, few)
 shallow_push b i (u ∷ ts) t h one few = (h.0, h.1, shallow_push (brackets_behind b u.kind) (blocks_behind i u.kind) ts t h.2 one few)
 
-shallow_end : (b i : ℕ) (ts : List Token) → StaysShallow b i ts → brackets_left b ts + blocks_left i ts ≤ 64
+pub shallow_end : (b i : ℕ) (ts : List Token) → StaysShallow b i ts → brackets_left b ts + blocks_left i ts ≤ 64
 shallow_end b i [] h = h
 shallow_end b i (u ∷ ts) h = shallow_end (brackets_behind b u.kind) (blocks_behind i u.kind) ts h.2
 
@@ -131,7 +131,7 @@ token_nests s kind.Newline cs n p h = absurd p
 token_nests s kind.Indent cs n p h = absurd p
 token_nests s kind.Dedent cs n p h = absurd p
 
-kept_fewer : (indents : List ℕ) (spaces : ℕ) → length (kept indents spaces) ≤ length indents
+pub kept_fewer : (indents : List ℕ) (spaces : ℕ) → length (kept indents spaces) ≤ length indents
 kept_fewer indents spaces = omega (arith, length-take (prefix_len (λ i. nat_le i spaces) indents) indents)
 
 pub nests : (total : ℕ) → Kept Nests total

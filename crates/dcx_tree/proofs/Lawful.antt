@@ -18,6 +18,8 @@ use Rattle.dcx_call.specs.Atoms.{atom_meaning, atom_lawful}
 use Rattle.dcx_call.specs.Linears.{linear_meaning, linear_lawful}
 use Rattle.dcx_call.specs.Calls.{shape_of}
 use Rattle.dcx_tree.specs.Nodes.{Names, Node, pairs_of, pairing_call, head_of, arg_sides, convex_node, convex_nodes}
+use Rattle.dcx_tree.specs.declared.problem.Problem.{Problem}
+use Rattle.dcx_tree.specs.Meaning.{names_in}
 use Rattle.dcx_tree.specs.Laws.{IsLawful}
 
 -- what stands at a place of a mapped list
@@ -59,3 +61,7 @@ module _ (names : Names) (nodes : List Node) (are : AreNodes shape_of nodes) whe
 
   pub tree_lawful : IsLawful names nodes
   tree_lawful = record { ordered = ordered; lawful = lawful }
+
+-- of a problem
+pub problem_lawful : (p : Problem) → IsLawful (names_in p) p.tree
+problem_lawful p = tree_lawful (names_in p) p.tree p.nodes

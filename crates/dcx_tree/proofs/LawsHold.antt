@@ -17,8 +17,8 @@ use Rattle.dcx_tree.specs.Nodes.{Node}
 use Rattle.dcx_tree.specs.Problems.{IsListed, roots_of}
 use Rattle.dcx_tree.specs.Gather.{positions_of, declared_in, has_variable}
 use Rattle.dcx_tree.specs.Meaning.{names_in, convex_problem}
-use Rattle.dcx_tree.specs.Laws.{IsLawful, TreesAreLawful, SignsAreTrue, AcceptedIsConvex, AnswersAgree, GatheringKeepsValues}
-use Rattle.dcx_tree.proofs.Lawful.{tree_lawful}
+use Rattle.dcx_tree.specs.Laws.{TreesAreLawful, SignsAreTrue, AcceptedIsConvex, AnswersAgree, GatheringKeepsValues}
+use Rattle.dcx_tree.proofs.Lawful.{tree_lawful, problem_lawful}
 use Rattle.dcx_tree.proofs.Sublists.{contains_at}
 use Rattle.dcx_tree.proofs.Parts.{listed_whole, declared_kept}
 use Rattle.dcx_tree.specs.Values.{IsNamed}
@@ -26,10 +26,6 @@ use Rattle.dcx_tree.proofs.Values.{part_value}
 
 pub trees_are_lawful : TreesAreLawful
 trees_are_lawful names nodes are = tree_lawful names nodes are
-
--- of a problem
-problem_lawful : (p : Problem) → IsLawful (names_in p) p.tree
-problem_lawful p = tree_lawful (names_in p) p.tree p.nodes
 
 pub signs_are_true : SignsAreTrue
 signs_are_true p s x fit dom = convex.signs_are_true Plain (convex_problem p).nodes (problem_lawful p).lawful s fit x dom

@@ -28,11 +28,12 @@ use Rattle.dcx_tokens.specs.Position.{moved_over}
 use Rattle.dcx_tokens.specs.State.{State, start as first_state, Answer, and_then, put, is_full, dedented, line_begun, nested, nested_by, led, token_read, step}
 use Rattle.dcx_tokens.proofs.Kept.{token_next, line_next}
 use Rattle.dcx_token_laws.proofs.Firsts.{short_len}
+use Rattle.dcx_token_laws.proofs.Spelled.{digit_begins}
 use Rattle.dcx_token_laws.proofs.Steps.{line_end_front, blank_front, name_front, number_front, sign_front_is, name_token, number_token, sign_token}
 use Rattle.dcx_trial_laws.proofs.Numbers.{number_is}
 use Rattle.dcx_trial_laws.proofs.Pieces.{Spot, next_of, further, begins_token, is_single, begins_word, word_goes_on, ends_word, ends_number}
 use Rattle.dcx_trial_laws.proofs.Tests.{type_of, Position, Front, halves, front_is, no_line_end, one_is, moved_single, run_none, run_word, word_begins}
-use Rattle.dcx_trial_laws.proofs.Tests.{no_word_begins, is_digit, digit_is, digits_single, digit_begins, unspoiled, no_number}
+use Rattle.dcx_trial_laws.proofs.Tests.{no_word_begins, is_digit, digit_is, digits_single, unspoiled, no_number}
 
 -- how far a line is read: it has a token, or nothing stands in it
 abbrev pub Line : Type 0

@@ -144,10 +144,6 @@ pub digits_single : (ds : List ℕ) → AllDigits 10 ds → list_all is_single d
 digits_single [] all = refl
 digits_single (c ∷ cs) all = ap₂ ◌&&◌ (digit_is c (is_digit c all.0)).single (digits_single cs all.1)
 
-pub digit_begins : (c : ℕ) (cs : List ℕ) → is_ascii_digit c ≡ true → begins_number c cs ≡ true
-digit_begins c [] e = e
-digit_begins c (d ∷ ds) e = ap (λ b. b || (eqb c 46 && is_ascii_digit d)) e
-
 pub unspoiled : (rest : List ℕ) → ends_number (next_of rest) ≡ true → is_spoiled rest ≡ false
 unspoiled [] e = refl
 unspoiled (d ∷ ds) e =

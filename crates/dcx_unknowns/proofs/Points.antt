@@ -5,7 +5,7 @@ use Rattle.std.proofs.Math.Path.{fun_ext}
 use Rattle.std.proofs.lemmas.Bool.{lt-ltb, eqb-false}
 use Rattle.std.proofs.lemmas.Option.{get_or_from_slice_get, slice_get_within}
 use Rattle.dcx_math.specs.Rational.{ℚ, whole, ◌+ℚ◌, ◌*ℚ◌, ◌≤ℚ◌}
-use Rattle.dcx_math.proofs.Orders.{+ℚ_idl, *ℚ-zero}
+use Rattle.dcx_math.proofs.Orders.{zero_shifted}
 use Rattle.dcx_shape.specs.declared.shape.Sides.{Sides}
 use Rattle.dcx_shape.specs.Sides.{entries_of}
 use Rattle.dcx_shape.specs.Places.{HasEntry, row_place}
@@ -140,19 +140,16 @@ module _ (vs : List Variable) where
   stand_for_points sq = record { point = to_point sq; kinds = to_kinds; same = to_same sq }
 
 -- ---- along a ray
-nothing : (k : ℚ) → whole (pos 0) ≡ whole (pos 0) +ℚ k *ℚ whole (pos 0)
-nothing k = sym (ap (λ q. whole (pos 0) +ℚ q) (*ℚ-zero k) ∙ +ℚ_idl (whole (pos 0)))
-
 number_along : (u d : Unknowns) (k : ℚ) (o : Option ℕ) → number_at (further u k d) o ≡ number_at u o +ℚ k *ℚ number_at d o
-number_along u d k None = nothing k
+number_along u d k None = zero_shifted k
 number_along u d k (Some n) = refl
 
 first_along : (k : ℚ) (x y z : ℚ) (b : Bool) → x ≡ y +ℚ k *ℚ z → (if b then x else whole (pos 0)) ≡ (if b then y else whole (pos 0)) +ℚ k *ℚ (if b then z else whole (pos 0))
 first_along k x y z true e = e
-first_along k x y z false e = nothing k
+first_along k x y z false e = zero_shifted k
 
 array_along : (u d : Unknowns) (k : ℚ) (first : ℕ) (o : Option Variable) (j : ℕ) → array_from (further u k d) first o j ≡ array_from u first o j +ℚ k *ℚ array_from d first o j
-array_along u d k first None j = nothing k
+array_along u d k first None j = zero_shifted k
 array_along u d k first (Some v) j =
     first_along k (number_at (further u k d) (unknown_from first v j)) (number_at u (unknown_from first v j)) (number_at d (unknown_from first v j)) (nat_lt j (entries_of (sides_in v)))
     (number_along u d k (unknown_from first v j))

@@ -1,7 +1,7 @@
 -- A quotient of numbers that fit is a fraction.
 use Rattle.std.proofs.Common.{to_z-of_z}
+use Rattle.dcx_math.proofs.IntegerLaws.{positive_some}
 use Rattle.dcx_frac.proofs.Representable.{representable_quotient}
-use Rattle.dcx_tab.proofs.Feasible.{positive_some}
 use Rattle.dcx_simplex.proofs.read.quotient.Goals as goal
 
 pub unreachable-requires : goal.unreachable-requires
