@@ -56,10 +56,6 @@ pub same_Ok : {A E : Type 0} (x y : A) → ◌≡◌ {A = Result A E} (Ok x) (Ok
 unfolding unok
 same_Ok x y e = ap (unok x) e
 
-pub ok_fact : {A E P Q : Type 0} (r : Result A E) → (P → Q) → OnOk r P → OnOk r Q
-ok_fact (Ok x) f h = f h
-ok_fact (Err e) f h = h
-
 -- ---- what a call hands on is what its node does
 pub ok_as : (r : Result (Unit {0}) CollectStop) (old new : List Frac) (given asked : Result (List Share) CollectStop) → given ≡ asked → OnOk r (handed old given ≡ Ok new)
     → OnOk r (handed old asked ≡ Ok new)

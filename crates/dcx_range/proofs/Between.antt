@@ -2,7 +2,7 @@
 use Rattle.std.proofs.Common.{◌≡◌, ◌≢◌, ℕ, zero, suc, ◌+◌, ◌<◌, ◌≤◌, ◌^◌, Bool, true, false, T, List, [], ◌∷◌, Option, Some}
 use Rattle.std.proofs.Common.{None, Ok, refl, sym, ap, ◌∙◌, subst, arith, pos, unsigned_abs, ◌⊎◌, inl, inr}
 use Rattle.std.specs.Prelude.{nat_le, if◌then◌else◌}
-use Rattle.std.proofs.lemmas.Bool.{cases_eq, leb-false}
+use Rattle.std.proofs.lemmas.Bool.{cases_eq, leb-false, leb-true}
 use Rattle.dcx_math.specs.Rational.{ℚ, whole, ◌+ℚ◌, ◌-ℚ◌, ◌*ℚ◌, ◌/ℚ◌, neg_ℚ, rat_le, rat_eq, ◌≤ℚ◌, ◌<ℚ◌}
 use Rattle.dcx_math.proofs.Orders.{≤ℚ_trans, ≤ℚ_antisym, ≤ℚ_total, ≤ℚ-from_≡, ≤ℚ-≢, <ℚ-≤ℚ, <ℚ-from_not, neg_ℚ-<ℚ, neg_ℚ-zero, *ℚ-≤ℚ, linear, linear_eq}
 use Rattle.dcx_math.proofs.Products.{*ℚ-≤ℚ_turned, *ℚ-≤ℚ_cancel, *ℚ-zero_factor, /ℚ-*ℚ}
@@ -18,7 +18,6 @@ use Rattle.dcx_tab.specs.Rows.{basic_at}
 use Rattle.dcx_tab.specs.Table.{Table, entry_at}
 use Rattle.dcx_lp_answer.proofs.Fractions.{value-whole}
 use Rattle.dcx_simplex.specs.Run.{right_at}
-use Rattle.dcx_simplex.proofs.Starts.{at_least}
 use Rattle.dcx_range.specs.declared.rates.Rate.{Rate}
 use Rattle.dcx_range.specs.declared.ends.Ends.{Ends}
 use Rattle.dcx_range.specs.Operations.{change_at, greater, lesser, from_on, up_to, with_end, zero_of, ends_by, row_ends, next_ends, ends_from, no_ends, sign_ends}
@@ -248,7 +247,7 @@ module _ (t : Table) (i : ℕ) (s : IsSettled t i) (at d : Frac) (e f : Ends) (v
   by_out true a p q g w h = let same : e ≡ f = cc in subst (λ (x : Ends). Within x v) same w
   by_out false true p q g w h =
       let same : up_to at (from_on at e) ≡ f = cc in
-      let l = at_least t.plain (basic_at t.basis i) q in
+      let l = leb-true t.plain (basic_at t.basis i) q in
       let here : v ≡ value at = together v (value at)
       (either (v -ℚ value at) (value d) (*ℚ-zero_factor (v -ℚ value at) (value d) (moved_zero (whole (right_at t i)) (v -ℚ value at) (value d) (s.artificial l) (h.artificial l)))
       (not_zero (value d) p)) in

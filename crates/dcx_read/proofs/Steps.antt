@@ -19,11 +19,11 @@ pub implied : (b c : Bool) → implies b c ≡ true → b ≡ true → c ≡ tru
 implied true c h k = h
 implied false c h k = absurd cc
 
-both-left : (b c : Bool) → cond b c false ≡ true → b ≡ true
+pub both-left : (b c : Bool) → cond b c false ≡ true → b ≡ true
 both-left true c h = refl
 both-left false c h = absurd cc
 
-both-right : (b c : Bool) → cond b c false ≡ true → c ≡ true
+pub both-right : (b c : Bool) → cond b c false ≡ true → c ≡ true
 both-right true c h = h
 both-right false c h = absurd cc
 

@@ -8,6 +8,7 @@ use Rattle.dcx_syntax.specs.Terminal.{plus_equal, import, for, print, as_word, i
 use Rattle.dcx_read.specs.Moves.{Symbol, trees}
 use Rattle.dcx_read.specs.Moves as symbols
 use Rattle.dcx_read.proofs.Complete.{Sets}
+use Rattle.dcx_read.proofs.Steps.{both-left, both-right}
 
 pub data Kind : Type 0 where
   opens_round : Kind
@@ -322,21 +323,13 @@ all P = all_in kinds P
 unfoldable tested : List Kind → (Kind → Bool) → Bool
 tested ks P = all_in ks P
 
-left : (b c : Bool) → cond b c false ≡ true → b ≡ true
-left true c h = refl
-left false c h = absurd cc
-
-right : (b c : Bool) → cond b c false ≡ true → c ≡ true
-right true c h = h
-right false c h = absurd cc
-
 first : (P : Kind → Bool) (k : Kind) (ks : List Kind) → tested (k ∷ ks) P ≡ true → P k ≡ true
 unfolding tested
-first P k ks h = left (P k) (all_in ks P) h
+first P k ks h = both-left (P k) (all_in ks P) h
 
 others : (P : Kind → Bool) (k : Kind) (ks : List Kind) → tested (k ∷ ks) P ≡ true → tested ks P ≡ true
 unfolding tested
-others P k ks h = right (P k) (all_in ks P) h
+others P k ks h = both-right (P k) (all_in ks P) h
 
 every_tested : (P : Kind → Bool) → tested kinds P ≡ true → (k : Kind) → P k ≡ true
 every_tested P h0 k =

@@ -1,11 +1,11 @@
 -- What a push leaves: the node that was there, or one more.
-use Rattle.std.proofs.Common.{◌≡◌, ℕ, zero, suc, ◌+◌, ◌<◌, ◌≤◌, Bool, true, false, cond, inl, inr, nat_le, nat_lt, nat_eq, List, [], ◌∷◌, ◌++◌, length}
+use Rattle.std.proofs.Common.{◌≡◌, ℕ, zero, suc, ◌+◌, ◌<◌, Bool, true, false, cond, nat_le, nat_lt, nat_eq, List, [], ◌∷◌, ◌++◌, length}
 use Rattle.std.proofs.Common.{map, Option, Some, None, Result, Ok, Err, refl, sym, ap, subst, ◌∙◌, arith, true≢false, All, append-nil, append_assoc}
 use Rattle.std.specs.Bool.{Decides}
 use Rattle.std.specs.List.{AllByRecursion, list_all, position_from, slice_get}
 use Rattle.std.specs.Cmp.Lexicographic.{pointwise, bytes_decides}
-use Rattle.std.proofs.lemmas.Bool.{and_parts}
-use Rattle.std.proofs.lemmas.Bool.Decides.{Decides-ltb, leb_tells}
+use Rattle.std.proofs.lemmas.Bool.{and_parts, leb-true}
+use Rattle.std.proofs.lemmas.Bool.Decides.{Decides-ltb}
 use Rattle.std.proofs.lemmas.List.Elements.{All-from_recursion}
 use Rattle.std.proofs.lemmas.Option.{none-some, same_Some}
 use Rattle.dcx_shape.specs.declared.shape.Sides.{Sides}
@@ -44,9 +44,6 @@ module _ {X : Type 0} (p : X → Bool) where
           → (j : ℕ) × (x : X) × (k + j ≡ i) × (slice_get (y ∷ xs) j ≡ Some x) × (p x ≡ true)
       by true t some rest = let same : k ≡ i = cc in (0, y, omega (arith, same), refl, t)
       by false t some rest = let r = rest some in (suc r.0, r.1, omega (arith, r.2), r.3, r.4)
-
-le_true : (a b : ℕ) → nat_le a b ≡ true → a ≤ b
-le_true a b e = elim (leb_tells a b) [ inl p ↦ p.1 | inr q ↦ absurd (true≢false (sym e ∙ q.0)) ]
 
 -- arguments that are there
 below_all : (n : ℕ) (args : List ℕ) → list_all (λ a. nat_lt a n) args ≡ true → All (λ a. a < n) args
@@ -103,7 +100,7 @@ module _ (s : State) (place : Place) (call : Call) (args : List ℕ) where
         → nat_le (entries_in s.nodes + entries_of sides) most ≡ c → limited sides b c ≡ Ok (i, t) → Pushed i t
     unfolding number_of state_of
     by_limits sides there shaped new true true few_nodes few_entries e =
-        added sides there shaped new (record { few_nodes = le_true (length s.nodes + 1) most few_nodes; few_entries = le_true (entries_in s.nodes + entries_of sides) most few_entries })
+        added sides there shaped new (record { few_nodes = leb-true (length s.nodes + 1) most few_nodes; few_entries = leb-true (entries_in s.nodes + entries_of sides) most few_entries })
         (ap number_of e) (ap state_of e)
     by_limits sides there shaped new true false few_nodes few_entries e = absurd cc
     by_limits sides there shaped new false c few_nodes few_entries e = absurd cc

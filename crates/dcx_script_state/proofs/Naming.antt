@@ -1,5 +1,6 @@
 -- Names that are added to those of what is declared.
 use Rattle.std.proofs.Common.{◌≡◌, ℕ, ◌+◌, ◌<◌, Bool, true, false, cond, List, [], ◌∷◌, ◌++◌, map, length, take, get_or, refl, sym, ap, ap₂, ◌∙◌, subst}
+use Rattle.std.proofs.lemmas.Bool.{or_parts}
 use Rattle.std.proofs.lemmas.List.{take_more}
 use Rattle.std.proofs.lemmas.List.Elements.{All-nil, All-cons, All-append}
 use Rattle.std.specs.Prelude.{◌||◌, Result, Ok, Err, OnOk, OnErr}
@@ -38,10 +39,6 @@ pub any_next : {X : Type 0} (p : X → Bool) (xs : List X) (i : ℕ) (x : X) →
 any_next p xs i x lt is = ap (list_any p) (take_more xs i x lt ∙ ap (λ y. take i xs ++ y ∷ []) (sym is)) ∙ any_more p (take i xs) x
 
 -- ---- names that stand once
-either_true : (a b : Bool) → (a || b) ≡ false → (a ≡ false) × (b ≡ false)
-either_true false b e = (refl, e)
-either_true true b e = absurd (cc)
-
 -- a name that is among none of two lists comes behind the first
 all_between : (P : List ℕ → Type 0) (xs ys : List (List ℕ)) (n : List ℕ) → P n → AllByRecursion P (xs ++ ys) → AllByRecursion P (xs ++ n ∷ ys)
 all_between P [] ys n h all = (h, all)
@@ -49,14 +46,14 @@ all_between P (x ∷ xs) ys n h all = (all.0, all_between P xs ys n h all.1)
 
 none_of : {X : Type 0} (f : X → List ℕ) (xs : List X) (name : List ℕ) → list_any (λ x. same_name name (f x)) xs ≡ false → AllByRecursion (λ y. same_name name y ≡ false) (map f xs)
 none_of f [] name e = tt
-none_of f (x ∷ xs) name e = let t = either_true (same_name name (f x)) (list_any (λ y. same_name name (f y)) xs) e in (t.0, none_of f xs name t.1)
+none_of f (x ∷ xs) name e = let t = or_parts (same_name name (f x)) (list_any (λ y. same_name name (f y)) xs) e in (t.0, none_of f xs name t.1)
 
 distinct_between : {X : Type 0} (f : X → List ℕ) (xs : List X) (ys : List (List ℕ)) (n : List ℕ) → list_any (λ x. same_name n (f x)) xs ≡ false → AllByRecursion (λ y. same_name n y ≡ false) ys →
     IsDistinct same_name (map f xs ++ ys) → IsDistinct same_name (map f xs ++ n ∷ ys)
 unfolding IsDistinct
 distinct_between f [] ys n e all d = (all, d)
 distinct_between f (x ∷ xs) ys n e all d =
-    let t = either_true (same_name n (f x)) (list_any (λ y. same_name n (f y)) xs) e in
+    let t = or_parts (same_name n (f x)) (list_any (λ y. same_name n (f y)) xs) e in
     (all_between (λ y. same_name (f x) y ≡ false) (map f xs) ys n (unlike n (f x) t.0) d.0, distinct_between f xs ys n t.1 all d.1)
 
 -- a name that is among none comes last
@@ -72,7 +69,7 @@ distinct_last (x ∷ xs) n all d = (all_last (λ y. same_name x y ≡ false) xs 
 none_both : {X : Type 0} (f : X → List ℕ) (xs : List X) (ys : List (List ℕ)) (name : List ℕ) → list_any (λ x. same_name name (f x)) xs ≡ false → AllByRecursion (λ y. same_name name y ≡ false) ys →
     AllByRecursion (λ y. same_name name y ≡ false) (map f xs ++ ys)
 none_both f [] ys name e all = all
-none_both f (x ∷ xs) ys name e all = let t = either_true (same_name name (f x)) (list_any (λ y. same_name name (f y)) xs) e in (t.0, none_both f xs ys name t.1 all)
+none_both f (x ∷ xs) ys name e all = let t = or_parts (same_name name (f x)) (list_any (λ y. same_name name (f y)) xs) e in (t.0, none_both f xs ys name t.1 all)
 
 map_more : {X Y : Type 0} (f : X → Y) (xs : List X) (x : X) (ys : List Y) → map f (xs ++ x ∷ []) ++ ys ≡ map f xs ++ f x ∷ ys
 map_more f [] x ys = refl
@@ -86,21 +83,12 @@ map_last : {X Y : Type 0} (f : X → Y) (xs : List X) (x : X) → map f (xs ++ x
 map_last f [] x = refl
 map_last f (y ∷ xs) x = ap (λ zs. f y ∷ zs) (map_last f xs x)
 
--- what follows where there is no error, and where there is one
-pub on_ok : {T E P Q : Type 0} (r : Result T E) → (P → Q) → OnOk r P → OnOk r Q
-on_ok (Ok x) f p = f p
-on_ok (Err e) f p = tt
-
-pub on_err : {T E P Q : Type 0} (r : Result T E) → (P → Q) → OnErr r P → OnErr r Q
-on_err (Ok x) f p = tt
-on_err (Err e) f p = f p
-
 module _ (vs : List Variable) (ps : List Parameter) (has now : List ℕ → Bool) (named : AreNamed vs ps has) where
   -- one variable more
   named_variable : (v : Variable) (name : List ℕ) → name ≡ v.name → is_among v.name vs ps ≡ false → IsSquare v
       → ((q : List ℕ) → now q ≡ cond (same_name name q) true (has q)) → AreNamed (vs ++ v ∷ []) ps now
   named_variable v name is new square puts =
-      let t = either_true (list_any (λ w. same_name v.name w.name) vs) (list_any (λ p. same_name v.name p.name) ps) new in
+      let t = or_parts (list_any (λ w. same_name v.name w.name) vs) (list_any (λ p. same_name v.name p.name) ps) new in
       record {
         told = λ q.
             puts q ∙ put_name name q (has q) ∙ ap₂ (λ a b. a || b) (named.told q) (ap (same_name q) is)
@@ -124,7 +112,7 @@ module _ (vs : List Variable) (ps : List Parameter) (has now : List ℕ → Bool
       }
     where
       t : (list_any (λ w. same_name p.name w.name) vs ≡ false) × (list_any (λ r. same_name p.name r.name) ps ≡ false)
-      t = either_true (list_any (λ w. same_name p.name w.name) vs) (list_any (λ r. same_name p.name r.name) ps) new
+      t = or_parts (list_any (λ w. same_name p.name w.name) vs) (list_any (λ r. same_name p.name r.name) ps) new
 
       last : IsDistinct same_name (declared_names vs (ps ++ p ∷ []))
       last =

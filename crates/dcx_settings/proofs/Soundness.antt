@@ -1,7 +1,8 @@
 -- What is read so far is spelled by the tokens so far, and is good.
-use Rattle.std.proofs.Common.{◌≡◌, ℕ, ◌+◌, ◌*◌, ◌<◌, ◌≤◌, Bool, true, false, IsTrue, ℤ, pos, List, [], ◌∷◌, ◌++◌, map, length, Option, Some, None, Result, Ok}
+use Rattle.std.proofs.Common.{◌≡◌, ℕ, ◌+◌, ◌*◌, ◌<◌, ◌≤◌, Bool, true, false, not, IsTrue, ℤ, pos, List, [], ◌∷◌, ◌++◌, map, length, Option, Some, None, Result, Ok}
 use Rattle.std.proofs.Common.{Err, refl, sym, ap, ◌∙◌, subst, arith, append_assoc}
-use Rattle.std.specs.Prelude.{⊤, nat_le, nat_eq, ◌&&◌, if◌then◌else◌}
+use Rattle.std.specs.Prelude.{⊤, nat_le, nat_eq, if◌then◌else◌}
+use Rattle.std.proofs.lemmas.Bool.{and_from, and_parts, leb-true}
 use Rattle.std.proofs.lemmas.Bool.Decides.{nat_tests}
 use Rattle.std.proofs.lemmas.List.{append-nil, map-append, length-append}
 use Rattle.dcx_settings.specs.Terminal.{Terminal, name, digits, decimal, minus, slash, equal, comma, semicolon, open_square, close_square, open_curly, close_curly, newline}
@@ -126,22 +127,12 @@ pub record Reaches (lines : List Line) (phase : Phase) (t : Terminal) (s : State
   pub text : state_text s ≡ snoc (state_text (at lines phase)) t
   pub good : IsGoodState s
 
--- ---- one more name
-both_true : (a b : Bool) → a ≡ true → b ≡ true → a && b ≡ true
-both_true a b e f = rw (e, f) refl
-
-left_true : (a b : Bool) → a && b ≡ true → a ≡ true
-left_true true b e = refl
-left_true false b e = cc
-
-right_true : (a b : Bool) → a && b ≡ true → b ≡ true
-right_true true b e = e
-right_true false b e = cc
-
--- one more name that is new
+-- ---- one more name that is new
 pub new_more : (before ns : List (List ℕ)) (n : List ℕ) → are_new before ns ≡ true → is_among (before ++ ns) n ≡ false → are_new before (ns ++ n ∷ []) ≡ true
 new_more before [] n h e = let f : is_among before n ≡ false = subst (λ ms. is_among ms n ≡ false) (append-nil before) e in rw f refl
-new_more before (m ∷ ms) n h e = both_true _ _ (left_true _ _ h) (new_more (before ++ m ∷ []) ms n (right_true _ _ h) (subst (λ xs. is_among xs n ≡ false) (sym (append_assoc before (m ∷ []) ms)) e))
+new_more before (m ∷ ms) n h e =
+    let parts = and_parts (not (is_among before m)) (are_new (before ++ m ∷ []) ms) h in
+    and_from _ _ parts.0 (new_more (before ++ m ∷ []) ms n parts.1 (subst (λ xs. is_among xs n ≡ false) (sym (append_assoc before (m ∷ []) ms)) e))
 
 pub settings_more : (lines : List Line) (line : Line) → settings_text (lines ++ line ∷ []) ≡ settings_text lines ++ line_text line
 settings_more [] line = append-nil (line_text line)
@@ -217,9 +208,6 @@ row_sound is n (rows_before (first ∷ rs)) xs g h r l e =
     equal_lengths : (a b : ℕ) → nat_eq a b ≡ true → a ≡ b
     equal_lengths a b e = grind (arith, nat_tests)
 
-le_true : (a b : ℕ) → nat_le a b ≡ true → a ≤ b
-le_true a b e = grind (arith, nat_tests)
-
 numbers_more : (xs : List Number) (x : Number) → followed comma (map number_text (xs ++ x ∷ [])) ≡ followed comma (map number_text xs) ++ (number_text x ++ comma ∷ [])
 numbers_more xs x = ap (followed comma) (map-append number_text xs (x ∷ [])) ∙ followed-more comma (map number_text xs) (number_text x)
 
@@ -243,7 +231,7 @@ row_read_sound : (lines : List Line) (is : List Item) (n : List ℕ) (o : Outer)
 row_read_sound lines is n o xs x phase ls g c h e comma s k =
     kept_when (nat_le (length (xs ++ x ∷ []) + 1) (limit o)) lines phase (number is n (in_row o (xs ++ x ∷ [])) start) comma s ls
     (ap (λ y. item_front is n ++ ((outer_text o ++ open_square ∷ y) ++ [])) (numbers_more xs x) ∙ (simp (append_assoc, append-nil)) ∙ ap (λ y. snoc y comma) (sym e))
-    (λ b. (g, (c.0, every_more IsGoodNumber xs x c.1 h, le_true _ _ b), tt)) k
+    (λ b. (g, (c.0, every_more IsGoodNumber xs x c.1 h, leb-true _ _ b), tt)) k
 row_read_sound lines is n o xs x phase ls g c h e close_square s k =
     let more = length-append xs (x ∷ []) in
     let room = c.2 in
@@ -354,7 +342,7 @@ row_closed_sound : (lines : List Line) (is : List Item) (n : List ℕ) (rows : L
     → (t : Terminal) (s : State) → after_row lines is n rows t ≡ Some s → Reaches lines (row_closed is n rows) t s
 row_closed_sound lines is n rows ls g comma s k =
     kept_when (nat_le ((length rows + 1) * width rows) 20000) lines (row_closed is n rows) (next_row is n rows) comma s ls
-    (ap (λ y. item_front is n ++ open_square ∷ y) (rows_followed rows g.1.some) ∙ (simp append_assoc)) (λ b. (g.0, g.1, le_true _ _ b)) k
+    (ap (λ y. item_front is n ++ open_square ∷ y) (rows_followed rows g.1.some) ∙ (simp append_assoc)) (λ b. (g.0, g.1, leb-true _ _ b)) k
 row_closed_sound lines is n rows ls g close_square s k = kept lines (row_closed is n rows) (ended is n (matrix rows)) close_square s ls (simp append_assoc) (g.0, (width rows, g.1, g.2)) k
 row_closed_sound lines is n rows ls g t s k = cc
 

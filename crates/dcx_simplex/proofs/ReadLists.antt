@@ -1,8 +1,7 @@
 -- What the lists are that are filled while an end is read.
 use Rattle.std.proofs.Common.{◌≡◌, ◌≢◌, ℕ, zero, suc, ◌+◌, ◌<◌, List, [], ◌∷◌, ◌++◌, length, set, get_or, map, take, ap₂, Bool, true}
 use Rattle.std.proofs.Common.{false, not, nat_eq, arith, refl, sym, ap, ◌∙◌, subst, pos, Result, Ok, Err, IfOk}
-use Rattle.std.specs.Prelude.{◌&&◌}
-use Rattle.std.proofs.lemmas.Bool.{eqb-true}
+use Rattle.std.proofs.lemmas.Bool.{and_parts, eqb-true}
 use Rattle.std.proofs.lemmas.List.{get_or_append_left, get_or_at, get_or-map, map-append, take_more, length-map}
 use borrow.Author.Count.{below_more}
 use Rattle.dcx_math.proofs.Sums.{rat_at-get_or}
@@ -52,14 +51,10 @@ module _ (t : Table) (xs : List Frac) where
   }
 
 -- ---- own columns
-pub both_true : (a b : Bool) → a && b ≡ true → a ≡ true
-both_true true b h = refl
-both_true false b h = cc
-
 pub starts_by : (kinds : List ColumnKind) (i j : ℕ) (negated : Bool) (k : ColumnKind) → kind_at kinds j ≡ k → may_start i negated k ≡ true → ¬ (kind_at kinds j ≡ Slack i)
     → kind_at kinds j ≡ Artificial i
 starts_by kinds i j negated (Unknown u n) e h none = cc
-starts_by kinds i j negated (Slack r) e h none = absurd (none (e ∙ ap Slack (eqb-true r i (both_true (nat_eq r i) (not negated) h))))
+starts_by kinds i j negated (Slack r) e h none = absurd (none (e ∙ ap Slack (eqb-true r i (and_parts (nat_eq r i) (not negated) h).0)))
 starts_by kinds i j negated (Artificial r) e h none = e ∙ ap Artificial (eqb-true r i h)
 
 module _ (rows : List IntRow) (kinds : List ColumnKind) (objective phase : CostRow) (form : IsProgram rows kinds objective phase) where

@@ -1,9 +1,9 @@
 -- A program's first tableau is one from which a run begins.
 use Rattle.std.proofs.Common.{◌≡◌, ◌≢◌, ℕ, zero, suc, ◌+◌, ◌-◌, ◌<◌, ◌≤◌, Bool, true, false, not, nat_eq, List, [], ◌∷◌, ◌++◌, length, ℤ, pos, negsuc}
 use Rattle.std.proofs.Common.{◌+ℤ◌, ◌-ℤ◌, ◌<ℤ◌, ◌≤ℤ◌, unsigned_abs, arith, refl, sym, ap, ap₂, ◌∙◌, subst, ◌⊎◌, inl, inr}
-use Rattle.std.specs.Prelude.{Some, slice_get, nat_le, if◌then◌else◌, ◌&&◌}
+use Rattle.std.specs.Prelude.{Some, slice_get, nat_le, if◌then◌else◌}
 use Rattle.std.proofs.lemmas.Int.{ints}
-use Rattle.std.proofs.lemmas.Bool.{cases_lt, cases_eq, eqb-true, le-leb}
+use Rattle.std.proofs.lemmas.Bool.{and_parts, cases_lt, cases_eq, eqb-true, le-leb, leb-true}
 use Rattle.std.proofs.lemmas.Bool.Decides.{nat_tests}
 use Rattle.std.proofs.lemmas.List.{get_or_append_left, get_or_at, get_or-append_right}
 use native.Mathlib.Nat.{eq-one_of_dvd-one}
@@ -22,7 +22,6 @@ use Rattle.dcx_tab.proofs.LineSteps.{neg_entry}
 use Rattle.dcx_tab.proofs.RowLaws.{gcd_of-dvd_entry, entry-added}
 use Rattle.dcx_tab.proofs.Programs.{has_row, map_at, from_plain, plain_count_le, length_first, length_basis, at_row, at_objective, at_phase, basic_row, basic_objective, basic_phase, widths}
 use Rattle.dcx_simplex.specs.Start.{IsStart, IsSumRow}
-use Rattle.dcx_simplex.proofs.ReadLists.{both_true}
 
 -- ---- a row with three more numbers
 module _ (es : List ℤ) (a b c : ℤ) where
@@ -139,26 +138,19 @@ same_test a = grind (arith, nat_tests)
 
 told_other : (k : ColumnKind) (i l : ℕ) (start negated : Bool) (z : ℤ) → may_start i start k ≡ true → l ≢ i → told_entry l negated k z ≡ pos 0
 told_other (Unknown u n) i l start negated z h m = cc
-told_other (Slack r) i l start negated z h m = let e = eqb-true r i (both_true (nat_eq r i) (not start) h) in let d = different r l (λ q. m (sym q ∙ e)) in rw d refl
+told_other (Slack r) i l start negated z h m = let e = eqb-true r i (and_parts (nat_eq r i) (not start) h).0 in let d = different r l (λ q. m (sym q ∙ e)) in rw d refl
 told_other (Artificial r) i l start negated z h m = let e = eqb-true r i h in let d = different r l (λ q. m (sym q ∙ e)) in rw d refl
-
-second_true : (a b : Bool) → a && b ≡ true → b ≡ true
-second_true true b h = h
-second_true false b h = cc
 
 told_own : (k : ColumnKind) (i : ℕ) (negated : Bool) (z : ℤ) → may_start i negated k ≡ true → told_entry i negated k z ≡ pos 1
 told_own (Unknown u n) i negated z h = cc
-told_own (Slack r) i true z h = let e = second_true (nat_eq r i) (not true) h in cc
-told_own (Slack r) i false z h = let e = both_true (nat_eq r i) (not false) h in rw e refl
+told_own (Slack r) i true z h = let e : false ≡ true = (and_parts (nat_eq r i) (not true) h).1 in cc
+told_own (Slack r) i false z h = let e : nat_eq r i ≡ true = (and_parts (nat_eq r i) (not false) h).0 in rw e refl
 told_own (Artificial r) i negated z h = rw h refl
 
 unknown_none : (k : ColumnKind) (i : ℕ) (start : Bool) (z : ℤ) → may_start i start k ≡ true → unknown_entry k z ≡ pos 0
 unknown_none (Unknown u n) i start z h = cc
 unknown_none (Slack r) i start z h = refl
 unknown_none (Artificial r) i start z h = refl
-
-pub at_least : (a b : ℕ) → nat_le a b ≡ true → a ≤ b
-at_least a b h = grind (arith, nat_tests)
 
 -- an artificial column's entry
 told_artificial : (k : ColumnKind) (r l : ℕ) (negated : Bool) (z : ℤ) → k ≡ Artificial r → l ≢ r → told_entry l negated k z ≡ pos 0
@@ -201,7 +193,7 @@ module _ (rows : List IntRow) (kinds : List ColumnKind) (objective phase : CostR
   phase_start_by k h (inl l) = form.sum.plain (first_basic_at rows k) l ∙ sum_none _ rows none
     where
       by : (i : ℕ) (r : IntRow) → slice_get rows i ≡ Some r → (i ≡ k) ⊎ (i ≢ k) → (if nat_le (plain_count kinds) r.basic then entry r.entries (first_basic_at rows k) else pos 0) ≡ pos 0
-      by i r is (inl e) = if_none (nat_le (plain_count kinds) r.basic) _ (λ t. let q = at_least (plain_count kinds) r.basic t in
+      by i r is (inl e) = if_none (nat_le (plain_count kinds) r.basic) _ (λ t. let q = leb-true (plain_count kinds) r.basic t in
           let b : first_basic_at rows k ≡ r.basic = ap (first_basic_at rows) (sym e) ∙ map_at first_basic_of rows i r 0 is in absurd (omega (arith, q, b, l)))
       by i r is (inr n) = if_zero (nat_le (plain_count kinds) r.basic) _ (row_start_other i r is k h n)
 

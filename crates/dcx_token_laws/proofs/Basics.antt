@@ -1,6 +1,7 @@
 -- Tests of characters and numbers, and constructors that differ or are the same.
 use Rattle.std.proofs.Common.{◌≡◌, ◌≢◌, ℕ, ◌<◌, Bool, true, false, eqb, ◌&&◌, List, [], ◌∷◌, ◌++◌, Option, Some, None, refl, sym, ◌∙◌, arith}
 use Rattle.std.proofs.lemmas.Bool.Decides.{nat_tests}
+use Rattle.dcx_tokens.specs.Front.{ends_line}
 
 pub never_both : (b : Bool) → b ≡ true → b ≡ false → ⊥
 never_both b e f = cc
@@ -21,6 +22,11 @@ not_char c n e = grind (arith, nat_tests)
 
 pub other_char : (c n : ℕ) → c ≢ n → eqb c n ≡ false
 other_char c n h = grind (arith, nat_tests)
+
+-- a line feed ends a line, whatever comes behind it
+pub feed_ends : (cs : List ℕ) → ends_line 10 cs ≡ true
+feed_ends [] = refl
+feed_ends (c ∷ cs) = refl
 
 pub not_zero : (n : ℕ) → eqb n 0 ≡ false → 0 < n
 not_zero n e = grind (arith, nat_tests)

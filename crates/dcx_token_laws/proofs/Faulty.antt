@@ -19,7 +19,7 @@ use Rattle.dcx_token_laws.specs.Cut.{IsLineEnd, IsBetween, place_behind, Cut}
 use Rattle.dcx_token_laws.specs.Faults.{BadCharsBeginNothing, BeginsNothing}
 use Rattle.dcx_token_laws.specs.Fine.{IsFineUpTo}
 use Rattle.dcx_token_laws.specs.Words.{IsSign, IsWord}
-use Rattle.dcx_token_laws.proofs.Basics.{head_is, tail_is, none_is, never_both}
+use Rattle.dcx_token_laws.proofs.Basics.{feed_ends, head_is, tail_is, none_is, never_both}
 use Rattle.dcx_token_laws.proofs.Begun.{lines_begin}
 use Rattle.dcx_token_laws.proofs.Forms.{IsFormed, HasBegun, IsLed}
 use Rattle.dcx_token_laws.proofs.Halts.{IsBegun, Starts, starts_token, starts_number, starts_text, LineHalts, tab, full, apart, Halts, char, line, bad_number, open_text, bracket, halted}
@@ -67,11 +67,7 @@ end_begins : (c : ℕ) (ys behind : List ℕ) → IsLineEnd (c ∷ ys) → ends_
 end_begins c ys behind (inl e) =
     let first = head_is c 10 ys [] e in
     let rest = tail_is c 10 ys [] e in
-    subst (λ d. ends_line d (ys ++ behind) ≡ true) (sym first) (subst (λ zs. ends_line 10 (zs ++ behind) ≡ true) (sym rest) (ten behind))
-  where
-    ten : (zs : List ℕ) → ends_line 10 zs ≡ true
-    ten [] = refl
-    ten (z ∷ zs) = refl
+    subst (λ d. ends_line d (ys ++ behind) ≡ true) (sym first) (subst (λ zs. ends_line 10 (zs ++ behind) ≡ true) (sym rest) (feed_ends behind))
 end_begins c ys behind (inr e) =
     let first = head_is c 13 ys (10 ∷ []) e in
     let rest = tail_is c 13 ys (10 ∷ []) e in

@@ -2,6 +2,7 @@
 use Rattle.std.proofs.Common.{◌≡◌, ◌≢◌, ℕ, ◌+◌, Bool, true, false, ◌||◌, ◌&&◌, not, cond, if◌then◌else◌, List, [], ◌∷◌, ◌++◌, codes, decimal, count_by, Option}
 use Rattle.std.proofs.Common.{Some, None, refl, sym, ap, ap₂, subst, ◌∙◌, true≢false}
 use Rattle.std.specs.List.{AllByRecursion, AllZip, list_any, list_all, flat_map, enumerate_from}
+use Rattle.std.proofs.lemmas.Bool.{or_parts}
 use Rattle.std.proofs.lemmas.List.Elements.{All-from_recursion}
 use Rattle.std.proofs.lemmas.List.Sums.{sum_by-cons}
 use Rattle.dcx_shape.specs.declared.place.Place.{Place}
@@ -44,10 +45,6 @@ use Rattle.dcx_top.specs.SameReport.{LacksNothing, AreReportedAlike, SameContent
 use Rattle.dcx_top.proofs.OneRun.{only_run}
 
 -- ---- where memory was not wanting
-or_false : (a b : Bool) → (a || b) ≡ false → (a ≡ false) × (b ≡ false)
-or_false true b e = absurd (true≢false e)
-or_false false b e = (refl, e)
-
 none_wanted : {A : Type 0} (answered wanted : A → Bool) (os : List A) → status_of_all answered wanted os ≢ 5 → list_any wanted os ≡ false
 none_wanted answered wanted os n = by (list_any wanted os) refl
   where
@@ -58,7 +55,7 @@ none_wanted answered wanted os n = by (list_any wanted os) refl
 each_had : {A : Type 0} (wanted : A → Bool) (P : A → Type 0) → ((a : A) → wanted a ≡ false → P a) → (os : List A) → list_any wanted os ≡ false → AllByRecursion P os
 each_had wanted P f [] e = tt
 each_had wanted P f (o ∷ os) e =
-    let both = or_false (wanted o) (list_any wanted os) e in
+    let both = or_parts (wanted o) (list_any wanted os) e in
     (f o both.0, each_had wanted P f os both.1)
 
 all_had : {A : Type 0} (answered wanted : A → Bool) (P : A → Type 0) → ((a : A) → wanted a ≡ false → P a) → (os : List A) → status_of_all answered wanted os ≢ 5 → AllByRecursion P os

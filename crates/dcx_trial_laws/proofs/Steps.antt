@@ -27,6 +27,7 @@ use Rattle.dcx_tokens.specs.Word.{keyword_of}
 use Rattle.dcx_tokens.specs.Position.{moved_over}
 use Rattle.dcx_tokens.specs.State.{State, start as first_state, Answer, and_then, put, is_full, dedented, line_begun, nested, nested_by, led, token_read, step}
 use Rattle.dcx_tokens.proofs.Kept.{token_next, line_next}
+use Rattle.dcx_token_laws.proofs.Basics.{feed_ends}
 use Rattle.dcx_token_laws.proofs.Firsts.{short_len}
 use Rattle.dcx_token_laws.proofs.Spelled.{digit_begins}
 use Rattle.dcx_token_laws.proofs.Steps.{line_end_front, blank_front, name_front, number_front, sign_front_is, name_token, number_token, sign_token}
@@ -220,8 +221,4 @@ module _ (ts : List Token) (bs : List Place) (o depth : ℕ) (place : Place) whe
   pub line_end_step : (rest : List ℕ) → length bs ≡ depth → eqb depth 0 ≡ true
       → step (state_at ts bs o (record { depth = depth; begun = true; place = place })) 10 rest
       ≡ (state_at (ts ++ token_from kind.Newline o 1 place ∷ []) bs (o + 1) (record { depth = depth; begun = false; place = next_line }), Ok 1)
-  line_end_step rest is none = line_end_front (state_at ts bs o (record { depth = depth; begun = true; place = place })) 10 rest (ends rest) ∙ rw (is, none) refl
-    where
-      ends : (cs : List ℕ) → ends_line 10 cs ≡ true
-      ends [] = refl
-      ends (d ∷ ds) = refl
+  line_end_step rest is none = line_end_front (state_at ts bs o (record { depth = depth; begun = true; place = place })) 10 rest (feed_ends rest) ∙ rw (is, none) refl

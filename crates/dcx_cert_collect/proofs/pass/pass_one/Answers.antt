@@ -1,9 +1,10 @@
 -- The node takes the last coefficients off, and is passed with its own weights.
 use Rattle.std.proofs.Common.{◌≡◌, ◌∙◌, ◌≤◌, sym, length, get_or, subst, Ok, OnOk, IfErr, Vec, Global, vec_len}
+use Rattle.std.proofs.lemmas.Result.{on_ok_weaker}
 use Rattle.dcx_tree.specs.Values.{array_at}
 use Rattle.dcx_cert_collect.specs.Pass.{Kept, kept_of, IsOrMemory}
 use Rattle.dcx_cert_collect.proofs.Starting.{start_there, start_is}
-use Rattle.dcx_cert_collect.proofs.Passing.{own_count, start_inside, step_told, passed_count, ok_fact}
+use Rattle.dcx_cert_collect.proofs.Passing.{own_count, start_inside, step_told, passed_count}
 use Rattle.dcx_cert_collect.proofs.pass.pass_one.Goals as goal
 
 length_of : {A : Type 0} (v : Vec A Global) → length v.items ≡ vec_len v
@@ -41,7 +42,7 @@ returns-in-Ok-clause-below g c =
     let nodes = c.args.given.now.tree.now in
     let i = c.args.node.0 in
     let before : Kept = record { below = c.split_off.new.self.items; reached = c.args.state.now.reached.items; total = c.args.state.now.total } in
-    ok_fact c.pass_node.result
+    on_ok_weaker c.pass_node.result
     (λ h. passed_count nodes c.args.given.now.values.now (λ _. c.of_node.result.now) i (array_at c.args.given.now.values.now i) c.in-Ok.own.items before (kept_of c.pass_node.new.state) h
     ∙ length_of c.split_off.new.self ∙ c.in-Ok.ensures.len ∙ start_is nodes c.args.given.now.starts.now i c.requires.given.starts c.requires.there)
     c.pass_node.ensures.ok
