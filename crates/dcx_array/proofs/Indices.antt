@@ -4,7 +4,6 @@ use Rattle.std.specs.List.{All, flat_map}
 use Rattle.std.proofs.Common.{refl, sym, ap, ◌∙◌, subst, arith, inl, inr, get_or}
 use Rattle.std.proofs.lemmas.Bool.{cases_lt, le-leb, lt-leb}
 use Rattle.std.proofs.lemmas.List.{length-map, length-append, get_or-map, get_or_append_left, get_or-append_right}
-use Rattle.std.proofs.lemmas.Grind.{same_number_lists}
 use native.Mathlib.Decide.{ℕ_discrete}
 use Rattle.dcx_shape.specs.declared.shape.Sides.{Sides}
 use Rattle.dcx_shape.specs.declared.shape.Shape.{Shape}
@@ -16,7 +15,8 @@ use Rattle.dcx_shape.specs.Shape.{sides_of}
 use Rattle.dcx_shape.specs.Sides.{rank_of, rows_of, cols_of, entries_of, HasFewEntries}
 use Rattle.dcx_shape.specs.Places.{row_place}
 use Rattle.dcx_shape.specs.Index.{HasStep, IsPickFault, row_pick, column_pick, IsCrossed, IsIndex, IsFirstFault, IsIndexFault}
-use Rattle.dcx_shape.proofs.Indices.{row_pick_steps, column_pick_steps, crossed_at, kept_few, index_count, index_within}
+use Rattle.dcx_shape.proofs.Indices.{row_pick_steps, column_pick_steps, kept_few, index_count, index_within}
+use Rattle.dcx_shape.proofs.IndexLaws.{crossed_one}
 use Rattle.dcx_affine.specs.declared.places.Index.{Index}
 use Rattle.dcx_array.specs.declared.fault.ArrayFault.{ArrayFault}
 use Rattle.dcx_array.specs.Answers.{Gives, fault_of, ◌>>=◌}
@@ -52,10 +52,6 @@ get_or-crossing from (r ∷ rows) columns (suc i) j b c =
 
 pub crossing_is : (from : Sides) (rows columns : List ℕ) → IsCrossed from rows columns (crossing from rows columns)
 crossing_is from rows columns = record { count = length-crossing from rows columns; entries = get_or-crossing from rows columns }
-
-crossed_one : (from : Sides) (rows columns xs ys : List ℕ) → IsCrossed from rows columns xs → IsCrossed from rows columns ys → xs ≡ ys
-crossed_one from rows columns xs ys r t =
-    same_number_lists xs ys (r.count ∙ sym t.count) (λ k h. crossed_at from rows columns xs r k h ∙ sym (crossed_at from rows columns ys t k (omega (arith, h, r.count, t.count))))
 
 -- ---- picks of an array
 pub taken_is : (from to : Sides) (picks : List Pick) (places : List ℕ) → All HasStep picks → IsIndex from picks to places → taken from picks ≡ Ok (record { sides = to; places = places })

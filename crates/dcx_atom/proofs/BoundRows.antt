@@ -101,13 +101,14 @@ weighted-append (row ∷ rows) more w a t =
     suc_plus : (n r : ℕ) → suc (n + r) ≡ suc n + r
     suc_plus n r = omega arith
 
+-- n parts of as many rows each, and one part more
+pub one_part_more : (a b n each : ℕ) → a ≡ n * each → b ≡ each → a + b ≡ suc n * each
+one_part_more a b n each e f = omega (arith, e, f)
+
 -- n parts of as many rows each
 pub length-joined : {A : Type 0} (n each : ℕ) (f : ℕ → List A) → ((i : ℕ) → length (f i) ≡ each) → length (joined_below n f) ≡ n * each
 length-joined zero each f h = omega arith
-length-joined (suc n) each f h = length-append (joined_below n f) (f n) ∙ more (length (joined_below n f)) (length (f n)) n each (length-joined n each f h) (h n)
-  where
-    more : (a b n each : ℕ) → a ≡ n * each → b ≡ each → a + b ≡ suc n * each
-    more a b n each e f = omega (arith, e, f)
+length-joined (suc n) each f h = length-append (joined_below n f) (f n) ∙ one_part_more (length (joined_below n f)) (length (f n)) n each (length-joined n each f h) (h n)
 
 -- weighted rows of n parts of as many rows each
 pub weighted-joined : (n each : ℕ) (rows : ℕ → List Row) (w : ℕ → ℚ) (a : Entries) (t : Filling) → ((i : ℕ) → length (rows i) ≡ each) →
@@ -154,10 +155,6 @@ beyond_of_row Concave k x a t h = above x.coefficient (operand_at x.operand a t)
 pub row_of_beyond : (bend : Bend) (k : ℕ) (x : RowTerm) (a : Entries) (t : Filling) → IsBeyond bend (term_at x a t) (t k) → row_at (bound_row bend k x) a t ≤ℚ whole (pos 0)
 row_of_beyond Convex k x a t h = below_back x.coefficient (operand_at x.operand a t) (t k) h
 row_of_beyond Concave k x a t h = above_back x.coefficient (operand_at x.operand a t) (t k) h
-
--- 1 times a number
-pub times_one : (x : ℚ) → whole (pos 1) *ℚ x ≡ x
-times_one x = ring (x ∷ []) (search reads depth 30) tt
 
 -- the same of several rows
 pub beyond_of_rows : {A : Type 0} (bend : Bend) (k : ℕ) (term : A → RowTerm) (ys : List A) (a : Entries) (t : Filling) → RowsHold (map (λ y. bound_row bend k (term y)) ys) a t →

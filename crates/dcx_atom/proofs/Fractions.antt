@@ -1,5 +1,5 @@
 -- Numbers that are those of fractions of 128 bits: whole numbers, entries of arrays, negatives, magnitudes and extremes.
-use Rattle.std.proofs.Common.{◌≡◌, ℕ, zero, suc, ◌<◌, ◌^◌, arith, ℤ, neg_ℤ, unsigned_abs, pos, negsuc, ◌<ℤ◌, lit<, List, [], ◌∷◌, inl, inr, refl, sym, ap, ◌∙◌, subst}
+use Rattle.std.proofs.Common.{◌≡◌, ℕ, zero, suc, ◌<◌, ◌^◌, arith, neg_ℤ, unsigned_abs, pos, negsuc, ◌<ℤ◌, lit<, List, [], ◌∷◌, inl, inr, refl, sym, ap, ◌∙◌, subst}
 use Rattle.std.specs.List.{All}
 use Rattle.std.proofs.lemmas.Int.{ints}
 use native.Mathlib.Nat.{eq-one_of_dvd-one}
@@ -7,6 +7,7 @@ use Rattle.dcx_math.specs.Rational.{ℚ, whole, neg_ℚ, rat_max, rat_abs}
 use Rattle.dcx_math.specs.Divisors.{IsCoprime}
 use Rattle.dcx_math.proofs.Bounds.{rat_max-cases}
 use Rattle.dcx_math.proofs.Denominators.{ratio-neg_ℚ}
+use Rattle.dcx_math.proofs.IntegerLaws.{unsigned_abs-neg}
 use Rattle.dcx_math.proofs.LowestTerms.{numerator, denominator, numerator_is}
 use Rattle.dcx_frac.specs.declared.fraction.Frac.{Frac}
 use Rattle.dcx_frac.specs.Fits.{IsRepresentable, representable}
@@ -58,9 +59,6 @@ minus_one_fits =
     (record { positive = one; coprime = λ d h k. eq-one_of_dvd-one k; is = sym (over_one (negsuc 0) (negsuc 0) (pos 1) one refl refl) }) (lit< tt) (lit< tt)
 
 -- ---- either sign of a number
-pub unsigned_abs-neg : (z : ℤ) → unsigned_abs (neg_ℤ z) ≡ unsigned_abs z
-unsigned_abs-neg z = omega (arith, ints)
-
 pub negative_fits : (x : ℚ) → IsRepresentable x → IsRepresentable (neg_ℚ x)
 negative_fits x h =
     let n = numerator x in

@@ -3,6 +3,7 @@ use Rattle.std.proofs.Common.{◌≡◌, ⊎_elim, subst, IsOk, ◌*◌, ℕ, ze
 use Rattle.std.proofs.lemmas.List.{map-append, length-map}
 use Rattle.dcx_math.specs.Rational.{ℚ, whole}
 use Rattle.dcx_math.specs.Sums.{rat_at}
+use Rattle.dcx_math.proofs.Sums.{rat_at-left}
 use Rattle.dcx_frac.specs.declared.fraction.Frac.{Frac}
 use Rattle.dcx_frac.specs.Frac.{value}
 use Rattle.dcx_atom.specs.declared.flags.Bend.{Bend}
@@ -15,6 +16,10 @@ use Rattle.dcx_atom.proofs.BoundRows.{list_below-first, length-joined, below_or_
 -- one more of a list
 pub list_below-next : {A : Type 0} (n : ℕ) (f : ℕ → A) → list_below (n + 1) f ≡ list_below n f ++ f n ∷ []
 list_below-next n f = let e : n + 1 ≡ suc n = omega arith in rw e refl
+
+-- one more part of a list
+pub joined_below-next : {A : Type 0} (n : ℕ) (f : ℕ → List A) → joined_below (n + 1) f ≡ joined_below n f ++ f n
+joined_below-next n f = let e : n + 1 ≡ suc n = omega arith in rw e refl
 
 -- a list that is that of the first n, with one more at its end
 pub list_below-push : {A B : Type 0} (n : ℕ) (f : ℕ → B) (g : A → B) (xs : List A) (x : A) → map g xs ≡ list_below n f → g x ≡ f n → map g (xs ++ x ∷ []) ≡ list_below (n + 1) f
@@ -73,11 +78,6 @@ number_at-map g xs ys e j h = ap (λ zs. rat_at zs j) e ∙ by xs j h
 pub list_below-same : {A : Type 0} (n : ℕ) (f g : ℕ → A) → ((i : ℕ) → i < n → f i ≡ g i) → list_below n f ≡ list_below n g
 list_below-same zero f g h = refl
 list_below-same (suc n) f g h = ap₂ (λ xs x. xs ++ x ∷ []) (list_below-same n f g (λ i b. h i (omega arith))) (h n (omega arith))
-
-rat_at-left : (xs ys : List ℚ) (j : ℕ) → j < length xs → rat_at (xs ++ ys) j ≡ rat_at xs j
-rat_at-left [] ys j h = absurd (omega arith)
-rat_at-left (x ∷ xs) ys zero h = refl
-rat_at-left (x ∷ xs) ys (suc j) h = rat_at-left xs ys j (omega arith)
 
 rat_at-right : (xs ys : List ℚ) (j : ℕ) → rat_at (xs ++ ys) (length xs + j) ≡ rat_at ys j
 rat_at-right [] ys j = let e : 0 + j ≡ j = omega arith in ap (rat_at ys) e

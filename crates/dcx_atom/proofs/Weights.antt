@@ -9,6 +9,7 @@ use Rattle.dcx_atom.specs.Arrays.{number_at}
 use Rattle.dcx_atom.specs.Meaning.{Meaning}
 use Rattle.dcx_atom.specs.Steps.{entry_stop, rows_before, weights_of, IsSlopeStop}
 use Rattle.dcx_atom.specs.Bounding.{HaveNoStop}
+use Rattle.dcx_atom.proofs.BoundRows.{one_part_more}
 use Rattle.dcx_atom.proofs.Lists.{number_at-drop, number_at-take}
 
 -- the first stop of an entry is why there are no slopes, where no earlier entry has one
@@ -21,10 +22,7 @@ stop_at m args size cs ws stops.Memory j h none e = tt
 -- the rows before an entry, where each has n
 pub rows_before-same : (m : Meaning) (args : List Sides) (n : ℕ) → ((j : ℕ) → length (m.rows args j) ≡ n) → (j : ℕ) → rows_before m args j ≡ j * n
 rows_before-same m args n each zero = omega arith
-rows_before-same m args n each (suc j) = more (rows_before m args j) (length (m.rows args j)) j n (rows_before-same m args n each j) (each j)
-  where
-    more : (a b j n : ℕ) → a ≡ j * n → b ≡ n → a + b ≡ suc j * n
-    more a b j n e f = omega (arith, e, f)
+rows_before-same m args n each (suc j) = one_part_more (rows_before m args j) (length (m.rows args j)) j n (rows_before-same m args n each j) (each j)
 
 -- the rows of an entry are among all rows
 pub within_rows : (j n size : ℕ) → j < size → j * n + n ≤ size * n

@@ -6,6 +6,7 @@ use Rattle.std.specs.List.{All}
 use Rattle.std.proofs.lemmas.List.{length-map, length-take-le, length-drop}
 use Rattle.std.proofs.lemmas.Option.{none-some, same_Some, slice_get-map, slice_get_within}
 use Rattle.dcx_math.specs.Rational.{ℚ, whole, ◌+ℚ◌, ◌≤ℚ◌}
+use Rattle.dcx_math.proofs.Lists.{element_at}
 use Rattle.dcx_frac.specs.declared.fraction.Frac.{Frac}
 use Rattle.dcx_frac.specs.declared.fraction.Passes.{Passes}
 use Rattle.dcx_frac.specs.Frac.{value}
@@ -29,7 +30,7 @@ use Rattle.dcx_std.specs.Answers.{IsRightForRowsAs}
 use Rattle.dcx_std.specs.IntegerRows.{IsMade}
 use Rattle.dcx_std.specs.Solutions.{HasKinds, row_at, unknowns_at, linear_program}
 use Rattle.dcx_std.proofs.ScaledProgram.{scaled_program}
-use Rattle.dcx_std.proofs.Solutions.{facts_of, inequality_there, unmapped_at, at_place}
+use Rattle.dcx_std.proofs.Solutions.{facts_of, inequality_there, unmapped_at}
 use Rattle.dcx_std.proofs.RightAnswers.{shown_of}
 use Rattle.dcx_unknowns.specs.Layout.{constraint_rows}
 use Rattle.dcx_unknowns.specs.Unknowns.{point_at}
@@ -162,7 +163,7 @@ module _ (p : Problem) (s : Setting) (q : Program Frac) (given : IsReducedAt p s
       let here : slice_get a.rows (first + n) ≡ Some note = sym (behind first a.rows n) ∙ before.1 in
       let within = slice_get_within are.weights n w at in
       let less : n < length bs = omega (arith, within, count) in
-      let (b, at_b) = at_place bs n less in
+      let (b, at_b) = element_at bs n less in
       formed_is_right program.columns a (first + n) note AtMost w here (bound_slack n b at_b) is)
 
   -- ---- leaves

@@ -6,13 +6,13 @@ use Rattle.std.proofs.lemmas.Int.{ints}
 use Rattle.dcx_math.specs.Rational.{ℚ, whole, ◌-ℚ◌, neg_ℚ, ◌<ℚ◌}
 use Rattle.dcx_math.specs.Sums.{rat_at}
 use Rattle.dcx_math.proofs.Orders.{whole-neg_ℤ, -ℚ_idr, neg_ℚ-from_zero, neg_ℚ-neg_ℚ, neg_ℚ-<ℚ}
+use Rattle.dcx_math.proofs.IntegerLaws.{unsigned_abs-neg}
 use Rattle.dcx_frac.specs.declared.fraction.Frac.{Frac}
 use Rattle.dcx_frac.specs.Frac.{num_of, den_of, value}
 use Rattle.dcx_frac.specs.Fits.{Fits}
 use Rattle.dcx_frac.proofs.Integers.{whole_value}
 use Rattle.dcx_atom.specs.Formed.{zero_frac}
 use Rattle.dcx_atom.proofs.FormedSums.{value-zero_frac}
-use Rattle.dcx_atom.proofs.Fractions.{unsigned_abs-neg}
 use Rattle.dcx_linear.specs.declared.row.UnknownKind.{UnknownKind}
 use Rattle.dcx_linear.specs.declared.row.UnknownKind.TheVariants.{Free, Nonneg, Nonpos}
 use Rattle.dcx_linear.specs.Size.{columns_for}

@@ -6,7 +6,7 @@ use Rattle.std.proofs.lemmas.List.Elements.{All-head, All-tail, All-cons, All-ni
 use Rattle.std.proofs.lemmas.Option.{same_Some, slice_get-map}
 use Rattle.dcx_math.specs.Rational.{ℚ, whole, ◌+ℚ◌, ◌*ℚ◌, ◌≤ℚ◌}
 use Rattle.dcx_math.proofs.Ring.{reads}
-use Rattle.dcx_math.proofs.Orders.{≤ℚ_refl, ≤ℚ_trans, ≤ℚ-from_≡, linear, +ℚ-≤ℚ}
+use Rattle.dcx_math.proofs.Orders.{≤ℚ_refl, ≤ℚ_trans, ≤ℚ-from_≡, linear, +ℚ-≤ℚ, +ℚ-nonnegative}
 use Rattle.dcx_math.proofs.Sums.{rat_sum_below-same}
 use Rattle.dcx_frac.specs.declared.fraction.Frac.{Frac}
 use Rattle.dcx_frac.specs.Frac.{value}
@@ -40,9 +40,6 @@ use Rattle.dcx_cert_collect.proofs.Passing.{same_Ok, node_shape}
 use Rattle.dcx_cert_collect.proofs.Points.{first_in, at_point, node_value}
 use Rattle.dcx_cert_collect.proofs.Bounded.{parts, step_count, total_bounds}
 use Rattle.dcx_cert_collect.proofs.Multiplied.{start_count, start_lagrangian, start_penalty}
-
-both_nonneg : (a b : ℚ) → whole (pos 0) ≤ℚ a → whole (pos 0) ≤ℚ b → whole (pos 0) ≤ℚ a +ℚ b
-both_nonneg a b h k = linear (a ∷ b ∷ []) (+ℚ-≤ℚ h k) (search reads depth 30) tt
 
 drop_nonneg : (v r t : ℚ) → whole (pos 0) ≤ℚ r → v +ℚ r ≤ℚ t → v ≤ℚ t
 drop_nonneg v r t h k = linear (v ∷ r ∷ t ∷ []) (+ℚ-≤ℚ h k) (search reads depth 30) tt
@@ -140,7 +137,7 @@ module _ (names : Names) (nodes : List Node) (are : AreNodes shape_of nodes) (s 
     all_nonneg : (rs : List Reached) → All (IsOfVariable nodes) rs → All (MayReachIn nodes) rs → whole (pos 0) ≤ℚ reached_times rs (at_point names nodes are s y)
     all_nonneg [] of may = ≤ℚ_refl _
     all_nonneg (r ∷ rs) of may =
-        both_nonneg _ _ (one_nonneg r (All-head (IsOfVariable nodes) r rs of) (All-head (MayReachIn nodes) r rs may))
+        +ℚ-nonnegative (one_nonneg r (All-head (IsOfVariable nodes) r rs of) (All-head (MayReachIn nodes) r rs may))
         (all_nonneg rs (All-tail (IsOfVariable nodes) r rs of) (All-tail (MayReachIn nodes) r rs may))
 
     pub below_total : HaveFractions nodes values weights → (table : List Frac) → length table ≡ entries_in nodes → (reached : List Reached) (total : Frac) →

@@ -20,7 +20,7 @@ use Rattle.dcx_atom.specs.Linear.{LinearMeaning, linear_term, AreTermsOf}
 use Rattle.dcx_atom.specs.Meaning.{Meaning}
 use Rattle.dcx_atom.specs.Steps.{earlier, entry_stop, weights_of, AreSlopesOf, IsFirstStop, IsSlopeStop}
 use Rattle.dcx_atom.proofs.FormedSums.{frac_at-value, frac_at-zero}
-use Rattle.dcx_atom.proofs.BoundRows.{below_or_last}
+use Rattle.dcx_atom.proofs.BoundRows.{below_or_last, length-list_below}
 use Rattle.dcx_atom.proofs.Lists.{list_below-same}
 use Rattle.dcx_affine.specs.declared.pairing.Pairing.{Pairing}
 use Rattle.dcx_affine.specs.declared.pairing.Pair.{Pair}
@@ -37,7 +37,7 @@ use Rattle.dcx_cert_collect.specs.Calls.{share_to, term_share, linear_shares, fi
 use Rattle.dcx_cert_collect.specs.Calls.{scaling_of, scaling_numbers, pair_share, pairing_shares}
 use Rattle.dcx_cert_collect.specs.Pass.{or_passes, IsOrMemory, handed, pairing_hands}
 use Rattle.dcx_atom.specs.Fractions.{AreFractionSlopes}
-use Rattle.dcx_cert_collect.proofs.Starting.{listed, many}
+use Rattle.dcx_cert_collect.proofs.Starting.{listed}
 
 -- ---- shares that are told in two ways
 pub joined-same : {A : Type 0} (n : ℕ) (f g : ℕ → List A) → ((j : ℕ) → j < n → f j ≡ g j) → joined_below n f ≡ joined_below n g
@@ -61,7 +61,7 @@ sized (Some s) n P h k = subst P (sym h) k
 
 -- ---- linear calls
 terms_count : (m : LinearMeaning) (ss : List Sides) (n : ℕ) (ts : List (List Triple)) → AreTermsOf m ss n ts → length ts ≡ n
-terms_count m ss n ts are = sym (length-map ts (map linear_term)) ∙ ap length are ∙ many n (m.terms ss)
+terms_count m ss n ts are = sym (length-map ts (map linear_term)) ∙ ap length are ∙ length-list_below n (m.terms ss)
 
 terms_of : (m : LinearMeaning) (ss : List Sides) (n : ℕ) (ts : List (List Triple)) (j : ℕ) → AreTermsOf m ss n ts → j < n → map linear_term (get_or ts j []) ≡ m.terms ss j
 terms_of m ss n ts j are b =
@@ -159,7 +159,7 @@ pairs_listed p ss a b cs ts left right h k =
 
 pub pairs_count : (p : Pairing) (ss : List Sides) (cs : List Frac) (ts shown : List (List Pair)) → shown ≡ ts
     → ts ≡ list_below (length cs) (pairs_at p (sides_at ss 0) (sides_at ss 1)) → length shown ≡ length cs
-pairs_count p ss cs ts shown is are = ap length (is ∙ are) ∙ many (length cs) (pairs_at p (sides_at ss 0) (sides_at ss 1))
+pairs_count p ss cs ts shown is are = ap length (is ∙ are) ∙ length-list_below (length cs) (pairs_at p (sides_at ss 0) (sides_at ss 1))
 
 pub pairing_told : (nodes : List Node) (args : List ℕ) (p : Pairing) (ss : List Sides) (cs : List Frac) (left right : Option Array) (scaling : Scaling) (numbers : List Frac)
     (ts shown : List (List Pair)) →

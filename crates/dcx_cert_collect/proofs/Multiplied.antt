@@ -41,9 +41,6 @@ use Rattle.dcx_cert_collect.proofs.Bound.{number_of, IsBefore, IsWorth, worth_of
 use Rattle.dcx_math.proofs.Lists.{element_at}
 
 -- ---- arithmetic
-times_one : (x : ℚ) → whole (pos 1) *ℚ x ≡ x
-times_one x = *ℚ_idl x
-
 times_minus_one : (x : ℚ) → whole (negsuc 0) *ℚ x ≡ neg_ℚ x
 times_minus_one x = ring (x ∷ []) (search reads depth 30) tt
 
@@ -147,7 +144,7 @@ module _ (p : Problem) (duals : List Array) (are : AreDuals p duals) (f : ℕ �
 
   -- the objective
   sense_worth : (sense : Sense) (z : ℚ) → value (objective_number sense) *ℚ z ≡ minimized (sense_of sense) z
-  sense_worth Minimize z = ap (λ v. v *ℚ z) (value-frac_at (whole (pos 1)) one_fits) ∙ times_one z
+  sense_worth Minimize z = ap (λ v. v *ℚ z) (value-frac_at (whole (pos 1)) one_fits) ∙ *ℚ_idl z
   sense_worth Maximize z = ap (λ v. v *ℚ z) (value-frac_at (whole (negsuc 0)) minus_one_fits) ∙ times_minus_one z
 
   objective_dot : (t u : List Frac) → length t ≡ entries_in p.tree → with_shares t (objective_shares true p) ≡ Ok u → dot u G ≡ dot t G +ℚ objective_of (convex_problem p) f

@@ -10,7 +10,7 @@ use Rattle.std.proofs.lemmas.Option.{same_Some}
 use Rattle.dcx_math.specs.Rational.{ℚ, whole, ◌+ℚ◌, ◌-ℚ◌, ◌*ℚ◌, ◌≤ℚ◌}
 use Rattle.dcx_math.specs.Sums.{IsNonnegative, rat_sum_below}
 use Rattle.dcx_math.proofs.Ring.{ring, reads}
-use Rattle.dcx_math.proofs.Orders.{≤ℚ_refl, +ℚ_idr, *ℚ-zero, zero-*ℚ, linear}
+use Rattle.dcx_math.proofs.Orders.{≤ℚ_refl, +ℚ_idl, +ℚ_idr, *ℚ-zero, zero-*ℚ, linear}
 use Rattle.dcx_math.proofs.Products.{*ℚ-nonnegative, *ℚ-nonpositive}
 use Rattle.dcx_math.proofs.Sums.{rat_sum_below-same, rat_sum_below-zero, rat_sum_below-*ℚ}
 use Rattle.dcx_frac.specs.declared.fraction.Frac.{Frac}
@@ -176,10 +176,7 @@ module _ (p : Problem) (d : AreDeclared p.tree p.variables p.parameters) where
               (none_behind r.node.0 here reached falling.0)
               ∙ +ℚ_idr _
           by false e rest =
-              ap (λ z. z +ℚ reached_times reached vn) (zero_times r.coefficients (vn r.node.0) (other_numbers (call_at p.tree r.node.0) e r.node.0 refl)) ∙ from_zero (reached_times reached vn) ∙ rest
-            where
-              from_zero : (z : ℚ) → whole (pos 0) +ℚ z ≡ z
-              from_zero z = ring (z ∷ []) (search reads depth 30) tt
+              ap (λ z. z +ℚ reached_times reached vn) (zero_times r.coefficients (vn r.node.0) (other_numbers (call_at p.tree r.node.0) e r.node.0 refl)) ∙ +ℚ_idl (reached_times reached vn) ∙ rest
 
       alone_kept : Keeps (variable_attribute v.whole v.attribute) (sides_in v) y → IsInDomain p x
       alone_kept h = to_domain p x (λ i w there. by (ℕ_discrete i k) w there)

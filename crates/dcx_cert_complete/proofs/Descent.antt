@@ -5,7 +5,7 @@ use Rattle.std.proofs.lemmas.Bool.{and_parts}
 use Rattle.dcx_math.specs.Rational.{ℚ, whole, ◌+ℚ◌, ◌-ℚ◌, ◌*ℚ◌, neg_ℚ, inverse, ◌≤ℚ◌, ◌<ℚ◌}
 use Rattle.dcx_math.specs.Sums.{IsNonnegative}
 use Rattle.dcx_math.proofs.Ring.{ring, reads}
-use Rattle.dcx_math.proofs.Orders.{linear, ≤ℚ_refl, ≤ℚ_trans, ≤ℚ_antisym, ≤ℚ-from_≡, ≤ℚ-or-<ℚ, <ℚ-≤ℚ, <ℚ-not, +ℚ-≤ℚ, +ℚ-positive, *ℚ_assoc, *ℚ_comm, *ℚ_idr, +ℚ_comm}
+use Rattle.dcx_math.proofs.Orders.{linear, ≤ℚ_refl, ≤ℚ_trans, ≤ℚ_antisym, ≤ℚ-from_≡, ≤ℚ-or-<ℚ, <ℚ-≤ℚ, <ℚ-not, +ℚ-≤ℚ, +ℚ-positive, *ℚ_assoc, *ℚ_comm, *ℚ_idr, +ℚ_comm, -ℚ_self}
 use Rattle.dcx_math.proofs.Products.{square-nonnegative, zero-<ℚ-one, *ℚ-positive, *ℚ-inverse_positive, inverse-positive}
 use Rattle.dcx_shape.specs.declared.shape.Sides.{Sides}
 use Rattle.dcx_atom.specs.declared.flags.Bend.TheVariants.{Convex, Concave}
@@ -61,9 +61,6 @@ one_step x d = ring (x ∷ d ∷ []) (search reads depth 30) tt
 no_step : (x d : ℚ) → x +ℚ whole (pos 0) *ℚ d ≡ x
 no_step x d = ring (x ∷ d ∷ []) (search reads depth 30) tt
 
-none_less : (z : ℚ) → z -ℚ z ≡ whole (pos 0)
-none_less z = ring (z ∷ []) (search reads depth 30) tt
-
 keeps_ray : (a : Attribute) (sides : Sides) (x d : Numbers) → ((k : ℚ) → IsNonnegative k → Keeps a sides (λ j. x j +ℚ k *ℚ d j)) → Keeps a sides d
 keeps_ray Free sides x d h = tt
 keeps_ray Nonneg sides x d h = λ j b. turned_low (d j) (steps_low (neg_ℚ (d j)) (x j) (λ k low. turned_step (x j) k (d j) (h k (<ℚ-≤ℚ low) j b)))
@@ -75,7 +72,7 @@ keeps_ray Symmetric sides x d h = λ i j there.
 keeps_ray Diag sides x d h = λ i j there apart.
     sym (one_step (entry_at sides x i j) (entry_at sides d i j))
     ∙ ap₂ ◌-ℚ◌ (h (whole (pos 1)) one_nonnegative i j there apart) (h (whole (pos 0)) (≤ℚ_refl (whole (pos 0))) i j there apart)
-    ∙ none_less (whole (pos 0))
+    ∙ -ℚ_self (whole (pos 0))
 
 head_ray : (head : Head) (x d : Point) → ((k : ℚ) → IsNonnegative k → VariableKeeps (shifted x k d) head) → VariableKeeps d head
 head_ray (Variable v) x d h = keeps_ray v.attribute v.sides (x v.number) (d v.number) h

@@ -7,8 +7,8 @@ use Rattle.std.proofs.lemmas.List.{get_or-map}
 use Rattle.std.specs.Prelude.{option_map}
 use Rattle.dcx_math.specs.Rational.{ℚ, whole, ◌+ℚ◌, ◌*ℚ◌, ◌-ℚ◌, ◌≤ℚ◌}
 use Rattle.dcx_math.specs.Sums.{rat_sum_below}
-use Rattle.dcx_math.proofs.Ring.{ring, reads}
-use Rattle.dcx_math.proofs.Orders.{≤ℚ_refl, ≤ℚ-from_≡, +ℚ_idr, zero-*ℚ, +ℚ-≤ℚ, linear}
+use Rattle.dcx_math.proofs.Ring.{reads}
+use Rattle.dcx_math.proofs.Orders.{≤ℚ_refl, ≤ℚ-from_≡, +ℚ_idr, +ℚ_left_comm, zero-*ℚ, +ℚ-≤ℚ, linear}
 use Rattle.dcx_math.proofs.Products.{*ℚ-nonnegative}
 use native.Mathlib.Decide.{ℕ_discrete}
 use Rattle.std.proofs.lemmas.Option.{same_Some}
@@ -245,12 +245,9 @@ module _ (names : Names) (nodes : List Node) (are : AreNodes shape_of nodes) (s 
           ap (λ z. z +ℚ rat_sum_below count whole_rows)
           (sym (entries_are x t g family (λ j. form_at (M.result ss j) (t i)) (told x t g family (calls.Atom m) same)) ∙ ap (λ k. rat_sum_below k f) size)
           ∙ sym (rat_sum_below-+ℚ count f whole_rows)
-          ∙ rat_sum_below-same count _ _ (λ j _. ap (λ z. f j +ℚ z) (weighted_parts (M.rows ss j) (w j) (a g) (t i)) ∙ turn (f j) (over_arguments j) (over_unknowns j))
+          ∙ rat_sum_below-same count _ _ (λ j _. ap (λ z. f j +ℚ z) (weighted_parts (M.rows ss j) (w j) (a g) (t i)) ∙ +ℚ_left_comm (f j) (over_arguments j) (over_unknowns j))
           ∙ rat_sum_below-+ℚ count over_arguments (λ j. f j +ℚ over_unknowns j)
           ∙ ap (λ z. z +ℚ left (t i)) (sym ((atom_lawful m).duality.slopes ss n.sides (shaped (calls.Atom m) same) w (a g)))
-        where
-          turn : (p q r : ℚ) → p +ℚ (q +ℚ r) ≡ q +ℚ (p +ℚ r)
-          turn p q r = ring (p ∷ q ∷ r ∷ []) (search reads depth 30) tt
 
       -- the bound, where the unknowns of the node are apart
       abbrev Apart : Point → (ℕ → Filling) → (ℕ → Numbers) → Filling → Type 0

@@ -6,6 +6,7 @@ use Rattle.std.proofs.lemmas.List.{length-append, length-map, append-nil}
 use Rattle.std.proofs.lemmas.Grind.{flat_map-append}
 use Rattle.std.proofs.lemmas.Option.{slice_get-map, slice_get_within}
 use Rattle.dcx_math.specs.Rational.{ℚ}
+use Rattle.dcx_math.proofs.Lists.{element_at}
 use Rattle.dcx_frac.specs.declared.fraction.Frac.{Frac}
 use Rattle.dcx_frac.specs.declared.fraction.Passes.{Passes}
 use Rattle.dcx_shape.specs.Sides.{entries_of}
@@ -37,7 +38,7 @@ use Rattle.dcx_lp_answer.specs.Right.{is_inequality, multiplier_at}
 use Rattle.dcx_lp_answer.proofs.Formed.{formed_is_right}
 use Rattle.dcx_std.specs.Solutions.{HasKinds, row_at, linear_program}
 use Rattle.dcx_std.proofs.ScaledProgram.{scaled_program}
-use Rattle.dcx_std.proofs.Solutions.{unmapped_at, at_place, facts_of, inequality_there}
+use Rattle.dcx_std.proofs.Solutions.{unmapped_at, facts_of, inequality_there}
 use Rattle.dcx_postsolve.proofs.Lists.{behind}
 use Rattle.dcx_cert_sections.specs.declared.weights.NodeWeights.{NodeWeights}
 use Rattle.dcx_cert_outline.specs.Drawn.{call_atoms, atoms_if, atoms_at, problem_outline}
@@ -150,7 +151,7 @@ module _ (p : Problem) (setting : Pairs) (q : Program Frac) (a : LpAnswer) (know
         let within = slice_get_within (rows_of q).rows place row at in
         let count = (scaled_program (rows_of q) is.integer is.made).count in
         let notes = is.parts.notes in
-        at_place a.rows place (omega (arith, within, count, notes))
+        element_at a.rows place (omega (arith, within, count, notes))
 
     -- and that is what is kept of row r of node i
     chosen : slice_get (filter_map (note_of i) (zip q.origins a.rows)) r ≡ slice_get a.rows place

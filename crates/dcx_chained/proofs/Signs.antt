@@ -5,6 +5,7 @@ use Rattle.dcx_math.specs.Integers.{*ℤ-neg_ℤ, *ℤ-neg_ℤ_left}
 use Rattle.dcx_math.specs.Divisors.{gcd, divided}
 use Rattle.dcx_math.specs.IntegerSums.{int_scaled}
 use Rattle.dcx_math.proofs.Divisors.{unsigned_abs-divided, gcd-dvd_left, quotient-pos}
+use Rattle.dcx_math.proofs.IntegerLaws.{abs-positive}
 use native.Mathlib.Nat.{div-le_self}
 use Rattle.dcx_tab.specs.Rows.{Row, entry}
 use Rattle.dcx_tab.specs.Pivot.{turned, cleared, IsFormed, IsFormedAt}
@@ -83,10 +84,6 @@ small_quotient g a b e small =
     let q = ap unsigned_abs e ∙ unsigned_abs-divided g a in
     let l = div-le_self (unsigned_abs a) g in
     omega (arith, q, l, small)
-
-abs-positive : (z : ℤ) → pos 0 <ℤ z → 0 < unsigned_abs z
-abs-positive (pos n) h = omega (arith, ints, h)
-abs-positive (negsuc n) h = absurd (omega (arith, ints, h))
 
 -- the factor of the row isn't 0
 pub some_factor : (p a u : ℤ) → pos 0 <ℤ p → u ≡ divided (gcd (unsigned_abs p) (unsigned_abs a)) p → u ≢ pos 0

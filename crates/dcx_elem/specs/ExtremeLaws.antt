@@ -6,7 +6,7 @@ use Rattle.std.proofs.lemmas.List.Elements.{All-head}
 use Rattle.dcx_math.specs.Rational.{ℚ, whole, neg_ℚ, ◌+ℚ◌, ◌*ℚ◌}
 use Rattle.dcx_math.specs.Sums.{IsNonnegative, rat_sum, rat_sum_below}
 use Rattle.dcx_math.proofs.Ring.{ring, reads}
-use Rattle.dcx_math.proofs.Orders.{≤ℚ_trans, +ℚ_idr}
+use Rattle.dcx_math.proofs.Orders.{≤ℚ_trans, +ℚ_idr, *ℚ_idl}
 use Rattle.dcx_math.proofs.Sums.{rat_sum_below-same, rat_sum_below-nonnegative, rat_sum_below-exchange}
 use Rattle.dcx_shape.specs.declared.shape.Sides.{Sides}
 use Rattle.dcx_shape.specs.declared.shape.Sides.TheVariants.{Scalar, Vector, Matrix}
@@ -24,7 +24,7 @@ use Rattle.dcx_atom.specs.Duality.{no_entries, no_filling, AreRowSlopes, AreBala
 use Rattle.dcx_atom.proofs.Duality.{subgradient_of}
 use Rattle.dcx_atom.proofs.LinearSums.{follows_rising, All-list_below}
 use Rattle.dcx_atom.specs.Bounding.{argument_term, bound_row, outward, unknown_form, free_kinds}
-use Rattle.dcx_atom.proofs.BoundRows.{map-list_below, length-list_below, All-at, RowsHold-list_below, weighted-list_below, beyond_of_rows, row_of_beyond, alone_is, times_one, free_balanced}
+use Rattle.dcx_atom.proofs.BoundRows.{map-list_below, length-list_below, All-at, RowsHold-list_below, weighted-list_below, beyond_of_rows, row_of_beyond, alone_is, free_balanced}
 use Rattle.dcx_atom.specs.Farthest.{extreme, beyond_trans, extreme_each, extreme_within}
 use Rattle.dcx_elem.specs.Extremes.{alike, extreme_meaning}
 
@@ -128,7 +128,7 @@ extreme_soundness bend count args sides is a t holds j below =
     let rows = beyond_of_rows bend j (λ i. argument_term i j (whole (pos 1))) (list_below count (λ i. i)) a t (subst (λ rows. RowsHold rows a t) (rows_are bend count j) (holds.rows j below)) in
     subst (λ y. IsBeyond bend (extreme bend (list_below count (λ i. a i j))) y) (sym (alone_is (t j)))
     (all_arguments bend count a j (t j) (omega (arith, alike.count_is, alike.some))
-    (λ i l. subst (λ y. IsBeyond bend y (t j)) (times_one (a i j))
+    (λ i l. subst (λ y. IsBeyond bend y (t j)) (*ℚ_idl (a i j))
     (All-at (λ i. IsBeyond bend (whole (pos 1) *ℚ a i j) (t j)) count (λ i. i) rows i l)))
 
 pub extreme_tightness : (bend : Bend) (count : ℕ) → IsTightGraph (extreme_meaning bend count)
@@ -137,7 +137,7 @@ extreme_tightness bend count args sides is a = record {
     kinds = λ k e. absurd (free_kinds (entries_of (sides_at args 0)) k e);
     rows = λ j b. RowsHold-list_below count (λ i. bound_row bend j (argument_term i j (whole (pos 1)))) a (λ k. extreme bend (list_below count (λ i. a i k)))
         (λ i l. row_of_beyond bend j (argument_term i j (whole (pos 1))) a (λ k. extreme bend (list_below count (λ i. a i k)))
-        (subst (λ y. IsBeyond bend y (extreme bend (list_below count (λ i. a i j)))) (sym (times_one (a i j))) (each_argument bend count a j i l)));
+        (subst (λ y. IsBeyond bend y (extreme bend (list_below count (λ i. a i j)))) (sym (*ℚ_idl (a i j))) (each_argument bend count a j i l)));
   };
   reaches = λ j b. alone_is (extreme bend (list_below count (λ i. a i j)));
 }

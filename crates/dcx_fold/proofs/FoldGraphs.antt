@@ -9,10 +9,9 @@ use Rattle.dcx_atom.specs.declared.axis.Axis.TheVariants.{All, Zero, One}
 use Rattle.dcx_atom.specs.declared.axis.Stride.{Stride}
 use Rattle.dcx_atom.specs.Arrays.{joined_below}
 use Rattle.dcx_atom.specs.Axis.{folded, folded_count, folded_stride, stride_entry}
-use Rattle.dcx_atom.proofs.Lists.{among_parts}
+use Rattle.dcx_atom.proofs.Lists.{among_parts, joined_below-next}
 use Rattle.dcx_fold.specs.Groups.{groups}
 use Rattle.dcx_fold.specs.GroupLaws.{is_member}
-use Rattle.dcx_fold.proofs.StepLists.{joined_below-next}
 
 -- each group is an entry of what the axis leaves
 pub group_folded : (axis : Axis) (s : Sides) (k : ℕ) → k < groups axis s → IfSome (folded axis s) (λ t. k < entries_of t)

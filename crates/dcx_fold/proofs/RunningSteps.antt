@@ -24,9 +24,8 @@ use Rattle.dcx_atom.specs.Rows.{Row}
 use Rattle.dcx_atom.specs.Farthest.{extreme, extreme_from}
 use Rattle.dcx_atom.proofs.BoundRows.{length-list_below}
 use Rattle.dcx_atom.proofs.FirstStops.{first_stop-append, first_stop-passed}
-use Rattle.dcx_atom.proofs.Lists.{list_below-numbers, list_below-same, number_at-take, number_at-drop, rat_at-list_below}
+use Rattle.dcx_atom.proofs.Lists.{joined_below-next, list_below-numbers, list_below-same, number_at-take, number_at-drop, rat_at-list_below}
 use Rattle.dcx_atom.proofs.Totals.{earlier-none_right, value-sum_in_order}
-use Rattle.dcx_fold.proofs.StepLists.{joined_below-next}
 use Rattle.dcx_fold.specs.Running.{greatest_so_far, running_rows, own_weights, next_weights, running_condition, rows_until, running_weights, running_tests, running_meaning}
 
 -- ---- values

@@ -1,11 +1,11 @@
 -- The first stop of steps that are made one after the other, and weights that are taken from a list.
-use Rattle.std.proofs.Common.{◌≡◌, ◌⊎◌, inl, inr, ℕ, zero, suc, ◌+◌, ◌*◌, ◌<◌, ◌≤◌, arith, List, [], ◌∷◌, ◌++◌, map, length, take, drop, refl, sym, ap, ◌∙◌, subst, Some, None}
+use Rattle.std.proofs.Common.{◌≡◌, ◌⊎◌, inl, inr, ℕ, zero, suc, ◌+◌, ◌*◌, ◌<◌, ◌≤◌, arith, List, [], ◌∷◌, ◌++◌, map, length, take, drop, sym, ap, ◌∙◌, subst, Some, None}
 use Rattle.dcx_frac.specs.declared.fraction.Frac.{Frac}
 use Rattle.dcx_frac.specs.Frac.{value}
 use Rattle.dcx_shape.specs.declared.shape.Sides.{Sides}
 use Rattle.dcx_atom.specs.declared.stops.SlopeStop.{SlopeStop}
 use Rattle.dcx_atom.specs.declared.stops.SlopeStop.TheVariants as stops
-use Rattle.dcx_atom.specs.Arrays.{list_below, joined_below, number_at}
+use Rattle.dcx_atom.specs.Arrays.{list_below, number_at}
 use Rattle.dcx_atom.specs.Meaning.{Meaning, Condition}
 use Rattle.dcx_atom.specs.Steps.{Step, test, step_stop, first_stop, entry_stop, weights_of, IsSlopeStop}
 use Rattle.dcx_atom.specs.Bounding.{HaveNoStop}
@@ -59,7 +59,3 @@ own_numbers ws i n h =
   where
     own_number : (ws : List Frac) (i n f : ℕ) → f < n → number_at (take n (drop (i * n) ws)) f ≡ number_at ws (i * n + f)
     own_number ws i n f b = number_at-take (drop (i * n) ws) n f b ∙ number_at-drop ws (i * n) f
-
--- one more part
-pub joined_below-next : {A : Type 0} (n : ℕ) (f : ℕ → List A) → joined_below (n + 1) f ≡ joined_below n f ++ f n
-joined_below-next n f = let e : n + 1 ≡ suc n = omega arith in rw e refl

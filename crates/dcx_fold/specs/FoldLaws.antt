@@ -6,7 +6,7 @@ use Rattle.std.proofs.lemmas.List.Elements.{All-head}
 use Rattle.dcx_math.specs.Rational.{ℚ, whole, neg_ℚ, ◌+ℚ◌, ◌-ℚ◌, ◌*ℚ◌, ◌≤ℚ◌, rat_abs}
 use Rattle.dcx_math.specs.Sums.{IsNonnegative, rat_sum, rat_sum_below}
 use Rattle.dcx_math.proofs.Ring.{ring, reads}
-use Rattle.dcx_math.proofs.Orders.{≤ℚ_refl, ≤ℚ_trans, ≤ℚ-from_≡, neg_ℚ-≤ℚ, +ℚ_idl, +ℚ_idr, *ℚ-≤ℚ, linear}
+use Rattle.dcx_math.proofs.Orders.{≤ℚ_refl, ≤ℚ_trans, ≤ℚ-from_≡, neg_ℚ-≤ℚ, +ℚ_idl, +ℚ_idr, *ℚ_idl, *ℚ-≤ℚ, linear}
 use Rattle.dcx_math.proofs.Bounds.{≤ℚ-rat_abs, neg_ℚ-≤ℚ-rat_abs, rat_abs-≤ℚ, rat_abs-nonnegative, rat_abs-of_nonnegative, rat_abs-of_nonpositive}
 use Rattle.dcx_math.proofs.Sums.{rat_sum_below-same, rat_sum_below-monotone, rat_sum_below-nonnegative, rat_sum_below-*ℚ, rat_sum_below-+ℚ}
 use Rattle.dcx_shape.specs.declared.shape.Sides.{Sides}
@@ -35,7 +35,6 @@ use Rattle.dcx_atom.proofs.BoundRows.{
   All-at,
   beyond_of_row,
   row_of_beyond,
-  times_one,
   alone_is,
   taken,
   nothing_taken,
@@ -82,25 +81,25 @@ minus x = ring (x ∷ []) (search reads depth 30) tt
 
 -- where the rows of a member hold, the unknown is beyond its part
 beyond_of_member : (p : Fold) (u e : ℕ) (a : Entries) (t : Filling) → RowsHold (rows_of_member p u e) a t → IsBeyond (fold_bend p) (part p (a 0 e)) (t u)
-beyond_of_member Max u e a t h = subst (λ y. y ≤ℚ t u) (times_one (a 0 e)) (beyond_of_row Convex u (argument_term 0 e (whole (pos 1))) a t h.0)
-beyond_of_member Min u e a t h = subst (λ y. t u ≤ℚ y) (times_one (a 0 e)) (beyond_of_row Concave u (argument_term 0 e (whole (pos 1))) a t h.0)
+beyond_of_member Max u e a t h = subst (λ y. y ≤ℚ t u) (*ℚ_idl (a 0 e)) (beyond_of_row Convex u (argument_term 0 e (whole (pos 1))) a t h.0)
+beyond_of_member Min u e a t h = subst (λ y. t u ≤ℚ y) (*ℚ_idl (a 0 e)) (beyond_of_row Concave u (argument_term 0 e (whole (pos 1))) a t h.0)
 beyond_of_member Norm1 u e a t h = rat_abs-≤ℚ
-    (subst (λ y. y ≤ℚ t u) (times_one (a 0 e)) (beyond_of_row Convex u (argument_term 0 e (whole (pos 1))) a t h.0))
+    (subst (λ y. y ≤ℚ t u) (*ℚ_idl (a 0 e)) (beyond_of_row Convex u (argument_term 0 e (whole (pos 1))) a t h.0))
     (subst (λ y. y ≤ℚ t u) (minus (a 0 e)) (beyond_of_row Convex u (argument_term 0 e (whole (negsuc 0))) a t h.1.0))
 beyond_of_member NormInf u e a t h = rat_abs-≤ℚ
-    (subst (λ y. y ≤ℚ t u) (times_one (a 0 e)) (beyond_of_row Convex u (argument_term 0 e (whole (pos 1))) a t h.0))
+    (subst (λ y. y ≤ℚ t u) (*ℚ_idl (a 0 e)) (beyond_of_row Convex u (argument_term 0 e (whole (pos 1))) a t h.0))
     (subst (λ y. y ≤ℚ t u) (minus (a 0 e)) (beyond_of_row Convex u (argument_term 0 e (whole (negsuc 0))) a t h.1.0))
 
 magnitude_holds : (u e : ℕ) (a : Entries) (t : Filling) → rat_abs (a 0 e) ≤ℚ t u → RowsHold (rows_of_member Norm1 u e) a t
 magnitude_holds u e a t h = (
-  row_of_beyond Convex u (argument_term 0 e (whole (pos 1))) a t (subst (λ y. y ≤ℚ t u) (sym (times_one (a 0 e))) (≤ℚ_trans (≤ℚ-rat_abs (a 0 e)) h)),
+  row_of_beyond Convex u (argument_term 0 e (whole (pos 1))) a t (subst (λ y. y ≤ℚ t u) (sym (*ℚ_idl (a 0 e))) (≤ℚ_trans (≤ℚ-rat_abs (a 0 e)) h)),
   (row_of_beyond Convex u (argument_term 0 e (whole (negsuc 0))) a t (subst (λ y. y ≤ℚ t u) (sym (minus (a 0 e))) (≤ℚ_trans (neg_ℚ-≤ℚ-rat_abs (a 0 e)) h)), tt),
 )
 
 -- and the other way round
 member_of_beyond : (p : Fold) (u e : ℕ) (a : Entries) (t : Filling) → IsBeyond (fold_bend p) (part p (a 0 e)) (t u) → RowsHold (rows_of_member p u e) a t
-member_of_beyond Max u e a t h = (row_of_beyond Convex u (argument_term 0 e (whole (pos 1))) a t (subst (λ y. y ≤ℚ t u) (sym (times_one (a 0 e))) h), tt)
-member_of_beyond Min u e a t h = (row_of_beyond Concave u (argument_term 0 e (whole (pos 1))) a t (subst (λ y. t u ≤ℚ y) (sym (times_one (a 0 e))) h), tt)
+member_of_beyond Max u e a t h = (row_of_beyond Convex u (argument_term 0 e (whole (pos 1))) a t (subst (λ y. y ≤ℚ t u) (sym (*ℚ_idl (a 0 e))) h), tt)
+member_of_beyond Min u e a t h = (row_of_beyond Concave u (argument_term 0 e (whole (pos 1))) a t (subst (λ y. t u ≤ℚ y) (sym (*ℚ_idl (a 0 e))) h), tt)
 member_of_beyond Norm1 u e a t h = magnitude_holds u e a t h
 member_of_beyond NormInf u e a t h = magnitude_holds u e a t h
 
@@ -195,7 +194,7 @@ fold_within Min n k f t some h = subst (λ y. y ≤ℚ extreme Concave (list_bel
 fold_within Norm1 n k f t some h =
     subst (λ y. y ≤ℚ form_at (unknowns_form n (k * n)) t) (sym (rat_sum-list_below n f))
     (subst (λ y. rat_sum_below n f ≤ℚ y) (sym (form-list_below n (λ i. record { aux = k * n + i; coefficient = whole (pos 1) }) t))
-    (rat_sum_below-monotone n f _ (λ i b. subst (λ y. f i ≤ℚ y) (sym (times_one (t (k * n + i)))) (h i b))))
+    (rat_sum_below-monotone n f _ (λ i b. subst (λ y. f i ≤ℚ y) (sym (*ℚ_idl (t (k * n + i)))) (h i b))))
 fold_within NormInf n k f t some h = subst (λ y. extreme Convex (list_below n f) ≤ℚ y) (sym (alone_is (t k))) (all_beyond Convex n f (t k) some h)
 
 pub fold_soundness : (p : Fold) (axis : Axis) → IsSoundGraph (fold_meaning p axis)
@@ -231,7 +230,7 @@ filled_form Min axis s x k = alone_is (extreme Concave (parts Min axis s x k))
 filled_form Norm1 axis s x k =
     let n = folded_count axis s in
     form-list_below n (λ i. record { aux = k * n + i; coefficient = whole (pos 1) }) (fold_filling Norm1 axis s x)
-    ∙ rat_sum_below-same n _ _ (λ i b. times_one (fold_filling Norm1 axis s x (k * n + i)) ∙ own_magnitude axis s x k i b)
+    ∙ rat_sum_below-same n _ _ (λ i b. *ℚ_idl (fold_filling Norm1 axis s x (k * n + i)) ∙ own_magnitude axis s x k i b)
     ∙ sym (rat_sum-list_below n (λ i. rat_abs (x (member axis s k i))))
 filled_form NormInf axis s x k = alone_is (extreme Convex (parts NormInf axis s x k))
 

@@ -6,7 +6,7 @@ use Rattle.std.proofs.lemmas.List.Elements.{All-head}
 use Rattle.dcx_math.specs.Rational.{ℚ, whole, neg_ℚ, ◌+ℚ◌, ◌*ℚ◌, ◌≤ℚ◌}
 use Rattle.dcx_math.specs.Sums.{IsNonnegative, rat_sum, rat_sum_below}
 use Rattle.dcx_math.proofs.Ring.{ring, reads}
-use Rattle.dcx_math.proofs.Orders.{≤ℚ_trans, ≤ℚ-from_≡, +ℚ_idl, +ℚ_idr, zero-*ℚ, neg_ℚ-zero}
+use Rattle.dcx_math.proofs.Orders.{≤ℚ_trans, ≤ℚ-from_≡, +ℚ_idl, +ℚ_idr, *ℚ_idl, zero-*ℚ, neg_ℚ-zero}
 use Rattle.dcx_math.proofs.Sums.{rat_sum_below-same}
 use Rattle.dcx_shape.specs.declared.shape.Sides.{Sides}
 use Rattle.dcx_shape.specs.declared.shape.Sides.TheVariants.{Scalar, Vector, Matrix}
@@ -22,7 +22,7 @@ use Rattle.dcx_atom.proofs.Sublinear.{curvature_of, recession_of}
 use Rattle.dcx_atom.specs.Duality.{no_entries, no_filling, AreRowSlopes, AreBalanced}
 use Rattle.dcx_atom.proofs.Duality.{subgradient_of}
 use Rattle.dcx_atom.proofs.LinearSums.{follows_rising}
-use Rattle.dcx_atom.proofs.BoundRows.{beyond_of_row, row_of_beyond, times_one, alone_is, below_or_last}
+use Rattle.dcx_atom.proofs.BoundRows.{beyond_of_row, row_of_beyond, alone_is, below_or_last}
 use Rattle.dcx_fold.specs.FoldLaws.{each_beyond, all_beyond, extreme_goes, extreme_signed}
 use Rattle.dcx_fold.specs.Running.{only_vector, greatest_so_far, running_rows, own_weights, next_weights, running_condition, running_meaning}
 
@@ -54,11 +54,11 @@ running_monotonicity args sides is j below signs a b h f =
 carried : (j : ℕ) (a : Entries) (t : Filling) → ((k : ℕ) → k < suc j → RowsHold (running_rows k) a t) → (i : ℕ) → i < suc j → a 0 i ≤ℚ t j
 carried zero a t h i b =
     let e : i ≡ 0 = omega arith in
-    subst (λ k. a 0 k ≤ℚ t 0) (sym e) (subst (λ y. y ≤ℚ t 0) (times_one (a 0 0)) (beyond_of_row Convex 0 (argument_term 0 0 (whole (pos 1))) a t (h 0 (omega arith)).0))
+    subst (λ k. a 0 k ≤ℚ t 0) (sym e) (subst (λ y. y ≤ℚ t 0) (*ℚ_idl (a 0 0)) (beyond_of_row Convex 0 (argument_term 0 0 (whole (pos 1))) a t (h 0 (omega arith)).0))
 carried (suc j) a t h i b =
     let rows = h (suc j) (omega arith) in
-    let on = subst (λ y. y ≤ℚ t (suc j)) (times_one (t j)) (beyond_of_row Convex (suc j) (unknown_term j (whole (pos 1))) a t rows.1.0) in
-    let own = subst (λ y. y ≤ℚ t (suc j)) (times_one (a 0 (suc j))) (beyond_of_row Convex (suc j) (argument_term 0 (suc j) (whole (pos 1))) a t rows.0) in
+    let on = subst (λ y. y ≤ℚ t (suc j)) (*ℚ_idl (t j)) (beyond_of_row Convex (suc j) (unknown_term j (whole (pos 1))) a t rows.1.0) in
+    let own = subst (λ y. y ≤ℚ t (suc j)) (*ℚ_idl (a 0 (suc j))) (beyond_of_row Convex (suc j) (argument_term 0 (suc j) (whole (pos 1))) a t rows.0) in
     let before = carried j a t (λ k l. h k (omega arith)) i in
     ⊎_elim (λ l. ≤ℚ_trans (before l) on) (λ e. subst (λ k. a 0 k ≤ℚ t (suc j)) (sym e) own) (below_or_last i (suc j) b)
 
@@ -70,15 +70,15 @@ running_soundness args sides is a t holds j below =
 running_rows_hold : (j : ℕ) (a : Entries) → RowsHold (running_rows j) a (greatest_so_far (a 0))
 running_rows_hold zero a = (
   row_of_beyond Convex 0 (argument_term 0 0 (whole (pos 1))) a (greatest_so_far (a 0))
-      (subst (λ y. y ≤ℚ greatest_so_far (a 0) 0) (sym (times_one (a 0 0))) (each_beyond Convex 1 (a 0) 0 (omega arith))),
+      (subst (λ y. y ≤ℚ greatest_so_far (a 0) 0) (sym (*ℚ_idl (a 0 0))) (each_beyond Convex 1 (a 0) 0 (omega arith))),
   tt,
 )
 running_rows_hold (suc j) a = (
   row_of_beyond Convex (suc j) (argument_term 0 (suc j) (whole (pos 1))) a (greatest_so_far (a 0))
-      (subst (λ y. y ≤ℚ greatest_so_far (a 0) (suc j)) (sym (times_one (a 0 (suc j)))) (each_beyond Convex (suc (suc j)) (a 0) (suc j) (omega arith))),
+      (subst (λ y. y ≤ℚ greatest_so_far (a 0) (suc j)) (sym (*ℚ_idl (a 0 (suc j)))) (each_beyond Convex (suc (suc j)) (a 0) (suc j) (omega arith))),
   (
     row_of_beyond Convex (suc j) (unknown_term j (whole (pos 1))) a (greatest_so_far (a 0))
-        (subst (λ y. y ≤ℚ greatest_so_far (a 0) (suc j)) (sym (times_one (greatest_so_far (a 0) j)))
+        (subst (λ y. y ≤ℚ greatest_so_far (a 0) (suc j)) (sym (*ℚ_idl (greatest_so_far (a 0) j)))
         (all_beyond Convex (suc j) (a 0) (greatest_so_far (a 0) (suc j)) (omega arith) (λ i b. each_beyond Convex (suc (suc j)) (a 0) i (omega arith)))),
     tt,
   ),

@@ -1,5 +1,6 @@
 -- A fraction is one number in lowest terms: its parts, and what a function that makes one by its parts shows.
-use Rattle.std.proofs.Common.{◌≡◌, ℕ, ◌<◌, ◌^◌, ◌↔◌, ℤ, pos, ◌*ℤ◌, ◌<ℤ◌, unsigned_abs, Bool, true, false, ◌&&◌, refl, sym, ap, ap₂, ◌∙◌, subst, Option, Some, None, IsSome, IfSome}
+use Rattle.std.proofs.Common.{◌≡◌, ℕ, ◌<◌, ◌^◌, ◌↔◌, ℤ, pos, ◌*ℤ◌, ◌<ℤ◌, unsigned_abs, Bool, true, ◌&&◌, refl, sym, ap, ap₂, ◌∙◌, subst, Option, Some, None, IsSome, IfSome}
+use Rattle.std.specs.Cmp.{both_ways}
 use Rattle.std.specs.Ordering.{int_eq}
 use Rattle.std.proofs.lemmas.Bool.{and_parts}
 use Rattle.std.proofs.lemmas.Bool.Decides.{Decides-int_eq}
@@ -73,14 +74,9 @@ module _ (x : ℚ) (s : Bool) (n d : ℕ) (low : IsInLowestTerms x (signed s n) 
   has_value None en ed = tt
   has_value (Some f) en ed = parts_value f en ed
 
-agree : (a b : Bool) → (a ≡ true → b ≡ true) → (b ≡ true → a ≡ true) → a ≡ b
-agree true b f g = sym (f refl)
-agree false true f g = g refl
-agree false false f g = refl
-
 -- fractions are equal exactly where their parts are
 pub same_parts : (f g : Frac) → (int_eq (num_of f) (num_of g) && int_eq (den_of f) (den_of g)) ≡ rat_eq (value f) (value g)
-same_parts f g = agree (int_eq (num_of f) (num_of g) && int_eq (den_of f) (den_of g)) (rat_eq (value f) (value g)) there back
+same_parts f g = both_ways (int_eq (num_of f) (num_of g) && int_eq (den_of f) (den_of g)) (rat_eq (value f) (value g)) there back
   where
     there : (int_eq (num_of f) (num_of g) && int_eq (den_of f) (den_of g)) ≡ true → rat_eq (value f) (value g) ≡ true
     there h =

@@ -10,11 +10,12 @@ use Rattle.dcx_math.specs.Divisors.{gcd, IsCoprime}
 use Rattle.dcx_math.specs.Rational.{◌*ℚ◌}
 use Rattle.dcx_math.specs.LowestTerms.{IsInLowestTerms}
 use Rattle.dcx_math.proofs.Divisors.{gcd-pos, gcd-dvd_left, gcd-dvd_right, IsCoprime-quotients, IsCoprime-swap, IsCoprime-mul, dvd_trans, quotient-pos}
+use Rattle.dcx_math.proofs.IntegerLaws.{abs-positive}
 use Rattle.dcx_math.proofs.Ratios.{ratio-*ℚ-ratio, ≡-from_products}
 use Rattle.dcx_frac.specs.declared.fraction.Frac.{Frac}
 use Rattle.dcx_frac.specs.Fits.{signed}
 use Rattle.dcx_frac.specs.Frac.{num_of, den_of, value}
-use Rattle.dcx_frac.proofs.Signs.{is_negative, lt_zero, signed-abs, signed-times, signed-mul, unsigned_abs-signed, pos-abs, abs-positive}
+use Rattle.dcx_frac.proofs.Signs.{is_negative, lt_zero, signed-abs, signed-times, signed-mul, unsigned_abs-signed, pos-abs}
 
 quotient_divides : (n g : ℕ) → g ∣ n → n / g ∣ n
 quotient_divides n g h = subst (λ x. n / g ∣ x) (div-mul_cancel g h) (dvd-mul_right (n / g) g)

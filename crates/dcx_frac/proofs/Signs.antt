@@ -39,11 +39,6 @@ pub pos-abs : (z : ℤ) → pos 0 <ℤ z → pos (unsigned_abs z) ≡ z
 pos-abs (pos n) h = refl
 pos-abs (negsuc n) h = absurd (omega (arith, ints))
 
--- and its size is positive
-pub abs-positive : (z : ℤ) → pos 0 <ℤ z → 0 < unsigned_abs z
-abs-positive (pos n) h = omega (arith, ints)
-abs-positive (negsuc n) h = absurd (omega (arith, ints))
-
 -- a positive integer divided is its size divided
 pub divided-positive : (g : ℕ) (z : ℤ) → pos 0 <ℤ z → divided g z ≡ pos (unsigned_abs z / g)
 divided-positive g (pos n) h = refl

@@ -11,12 +11,13 @@ use Rattle.dcx_math.specs.Divisors.{gcd, IsCoprime}
 use Rattle.dcx_math.specs.Rational.{◌+ℚ◌}
 use Rattle.dcx_math.specs.LowestTerms.{IsInLowestTerms}
 use Rattle.dcx_math.proofs.Divisors.{gcd_is, gcd_unique, gcd-pos, gcd-dvd_left, gcd-dvd_right, IsCoprime-quotients, dvd_of_coprime, dvd_trans, quotient-pos}
+use Rattle.dcx_math.proofs.IntegerLaws.{abs-positive}
 use Rattle.dcx_math.proofs.Ratios.{ratio-+ℚ-ratio, ≡-from_products}
 use Rattle.dcx_frac.specs.declared.fraction.Frac.{Frac}
 use Rattle.dcx_frac.specs.Fits.{signed}
 use Rattle.dcx_frac.specs.Frac.{num_of, den_of, value}
 use Rattle.dcx_frac.specs.Formed.{shared_divisor, left_term, right_term}
-use Rattle.dcx_frac.proofs.Signs.{is_negative, lt_zero, signed-abs, signed-times, unsigned_abs-signed, pos-abs, abs-positive, divided-positive}
+use Rattle.dcx_frac.proofs.Signs.{is_negative, lt_zero, signed-abs, signed-times, unsigned_abs-signed, pos-abs, divided-positive}
 
 -- a divisor of a magnitude, as a factor
 factor : (e : ℕ) (z : ℤ) → e ∣ unsigned_abs z → ∥ ((k : ℤ) × (z ≡ k *ℤ pos e)) ∥₁

@@ -1,5 +1,5 @@
 -- Zero, negatives, inverses, and what follows for sums with a zero operand, differences and quotients.
-use Rattle.std.proofs.Common.{◌≡◌, ⊎_elim, inl, inr, ◌↔◌, zero, suc, ◌<◌, ◌^◌, ℤ, pos, negsuc, ◌+ℤ◌, ◌*ℤ◌, ◌<ℤ◌, neg_ℤ, unsigned_abs, arith, refl, sym, ap, ap₂, ◌∙◌, subst}
+use Rattle.std.proofs.Common.{◌≡◌, ⊎_elim, inl, inr, ◌↔◌, ◌<◌, ◌^◌, ℤ, pos, ◌+ℤ◌, ◌*ℤ◌, ◌<ℤ◌, neg_ℤ, unsigned_abs, arith, sym, ap, ap₂, ◌∙◌, subst}
 use Rattle.std.proofs.lemmas.Int.{ints}
 use Rattle.dcx_math.specs.Integers.{ring, units, *ℤ-neg_ℤ_left}
 use Rattle.dcx_math.specs.Divisors.{gcd, IsCoprime, divided}
@@ -7,6 +7,7 @@ use Rattle.dcx_math.specs.Rational.{ratio, whole, ◌+ℚ◌, ◌-ℚ◌, ◌*�
 use Rattle.dcx_math.specs.LowestTerms.{IsInLowestTerms}
 use Rattle.dcx_math.proofs.Ratios.{ratio-*ℚ-ratio, ≡-from_products, ≡-products, ratio-one}
 use Rattle.dcx_math.proofs.Denominators.{ratio-neg_ℚ}
+use Rattle.dcx_math.proofs.IntegerLaws.{unsigned_abs-neg}
 use Rattle.dcx_math.proofs.LowestTerms.{lowest_terms_unique}
 use Rattle.dcx_math.proofs.FieldLaws.{*ℚ-inverse, +ℚ_idl}
 use Rattle.dcx_math.proofs.Orders.{+ℚ_idr, neg_ℚ-zero}
@@ -77,17 +78,11 @@ sum_representable x y (inl z) = subst IsRepresentable (zero_left x y z) (value_r
 sum_representable x y (inr (inl z)) = subst IsRepresentable (zero_right x y z) (value_representable x)
 sum_representable x y (inr (inr h)) = h.parts
 
--- a turned sign keeps the size
-pub neg_size : (z : ℤ) → unsigned_abs (neg_ℤ z) ≡ unsigned_abs z
-neg_size (pos zero) = refl
-neg_size (pos (suc n)) = refl
-neg_size (negsuc n) = refl
-
 -- the negative in lowest terms
 pub neg_lowest : (y : Frac) → IsInLowestTerms (neg_ℚ (value y)) (neg_ℤ (num_of y)) (den_of y)
 neg_lowest y = record {
   positive = y.positive;
-  coprime = subst (λ m. IsCoprime m (unsigned_abs (den_of y))) (sym (neg_size (num_of y))) y.lowest;
+  coprime = subst (λ m. IsCoprime m (unsigned_abs (den_of y))) (sym (unsigned_abs-neg (num_of y))) y.lowest;
   is = ratio-neg_ℚ (den_of y) y.positive (num_of y);
 }
 
@@ -123,13 +118,13 @@ module _ (x y f : Frac) (is : value f ≡ neg_ℚ (value y)) where
   forms_difference = (
     (λ h. record {
       left = subst Fits left_same h.left;
-      right = subst (λ m. m < 2 ^ 127) (ap unsigned_abs right_turned ∙ neg_size (right_term x y)) h.right;
+      right = subst (λ m. m < 2 ^ 127) (ap unsigned_abs right_turned ∙ unsigned_abs-neg (right_term x y)) h.right;
       difference = subst Fits (ap₂ ◌+ℤ◌ left_same right_turned) h.sum;
       parts = subst IsRepresentable difference_value h.parts;
     }),
     (λ h. record {
       left = subst Fits (sym left_same) h.left;
-      right = subst (λ m. m < 2 ^ 127) (sym (ap unsigned_abs right_turned ∙ neg_size (right_term x y))) h.right;
+      right = subst (λ m. m < 2 ^ 127) (sym (ap unsigned_abs right_turned ∙ unsigned_abs-neg (right_term x y))) h.right;
       sum = subst Fits (sym (ap₂ ◌+ℤ◌ left_same right_turned)) h.difference;
       parts = subst IsRepresentable (sym difference_value) h.parts;
     }),
@@ -147,7 +142,7 @@ pub difference_representable : (x y : Frac) → DifferenceFits x y → IsReprese
 difference_representable x y (inl z) =
     let e : neg_ℚ (value y) ≡ value x -ℚ value y = sym (-ℚ-is (value x) (value y) ∙ ap (λ u. u +ℚ neg_ℚ (value y)) z ∙ +ℚ_idl (neg_ℚ (value y))) in
     let l = neg_lowest y in
-    subst IsRepresentable e (representable (neg_ℚ (value y)) (neg_ℤ (num_of y)) (den_of y) l (subst (λ m. m < 2 ^ 127) (sym (neg_size (num_of y))) y.num_fits) y.den_fits)
+    subst IsRepresentable e (representable (neg_ℚ (value y)) (neg_ℤ (num_of y)) (den_of y) l (subst (λ m. m < 2 ^ 127) (sym (unsigned_abs-neg (num_of y))) y.num_fits) y.den_fits)
 difference_representable x y (inr (inl z)) =
     let e : value x ≡ value x -ℚ value y = sym (-ℚ-is (value x) (value y) ∙ ap (λ u. value x +ℚ neg_ℚ u) z ∙ ap (λ u. value x +ℚ u) neg_ℚ-zero ∙ +ℚ_idr (value x)) in
     subst IsRepresentable e (value_representable x)

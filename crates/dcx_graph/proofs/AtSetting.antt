@@ -4,6 +4,7 @@ use Rattle.std.specs.Option.{unwrap_or, option_and_then}
 use Rattle.std.proofs.Math.Path.{fun_ext}
 use Rattle.std.proofs.lemmas.Option.{none-some, slice_get-map, slice_get_within, get_or_from_slice_get}
 use Rattle.dcx_math.specs.Rational.{ℚ}
+use Rattle.dcx_math.proofs.Lists.{element_at}
 use Rattle.dcx_frac.specs.declared.fraction.Frac.{Frac}
 use Rattle.dcx_frac.specs.declared.fraction.Passes.{Passes}
 use Rattle.dcx_frac.specs.Frac.{value}
@@ -33,7 +34,6 @@ use Rattle.dcx_linear.specs.Rows.{RowAt, LinearProgram}
 use Rattle.dcx_linear.proofs.SettingForms.{form_at-value}
 use Rattle.dcx_linear.proofs.SettingRows.{on_row}
 use Rattle.dcx_formed.specs.Within.{IsKnown, IsKnownNumber, IsKnownTerm}
-use Rattle.dcx_std.proofs.Solutions.{at_place}
 use Rattle.dcx_graph.specs.Program.{Program}
 use Rattle.dcx_graph.specs.AsLinear.{row_at, linear_at, IsReductionAt}
 use Rattle.dcx_graph.specs.Fixing.{FixGives}
@@ -72,7 +72,7 @@ module _ (p : Problem) (setting : Pairs) where
         let size = get_or_from_slice_get (map (λ (r : Parameter). entries_of (sides_of r.shape)) p.parameters) t.position (entries_of (sides_of q.shape)) 0
         (slice_get-map (λ (r : Parameter). entries_of (sides_of r.shape)) p.parameters t.position ∙ ap (option_map (λ (r : Parameter). entries_of (sides_of r.shape))) at) in
         let inside : t.entry < length has.array.entries = let full = has.array.full in let sides = ap entries_of has.shape in let below = h.entry in omega (arith, full, sides, below, size) in
-        let (x, found) = at_place has.array.entries t.entry inside in
+        let (x, found) = element_at has.array.entries t.entry inside in
         subst IsSome (sym (ap (option_and_then (array_entry t.entry)) (ap (array_of setting) (sym same) ∙ has.there) ∙ found)) refl
 
     number_listed : (c : ParamForm) → IsKnownNumber p c → IsListedBy setting c

@@ -5,7 +5,7 @@ use Rattle.std.proofs.lemmas.List.{take_more}
 use Rattle.dcx_frac.specs.declared.fraction.Frac.{Frac}
 use Rattle.dcx_atom.specs.declared.array.Array.{Array}
 use Rattle.dcx_atom.specs.Arrays.{list_below, joined_below}
-use Rattle.dcx_atom.proofs.Lists.{list_below-same}
+use Rattle.dcx_atom.proofs.Lists.{joined_below-next, list_below-same}
 use Rattle.dcx_linear.specs.declared.form.Form.{Form}
 use Rattle.dcx_linear.specs.Forms.{is_constant}
 use Rattle.dcx_entries.specs.declared.entries.EntryForms.{EntryForms}
@@ -24,9 +24,6 @@ joined_alike (suc n) f g h = ap₂ ◌++◌ (joined_alike n f g (λ k b. h k (om
 joined_none : {A : Type 0} (n : ℕ) (f : ℕ → List A) → ((k : ℕ) → k < n → f k ≡ []) → joined_below n f ≡ []
 joined_none zero f h = refl
 joined_none (suc n) f h = ap₂ ◌++◌ (joined_none n f (λ k b. h k (omega (arith, b)))) (h n (omega arith))
-
-pub joined_more : {A : Type 0} (n : ℕ) (f : ℕ → List A) → joined_below (n + 1) f ≡ joined_below n f ++ f n
-joined_more n f = let e : n + 1 ≡ suc n = omega arith in ap (λ k. joined_below k f) e
 
 get_before : {A : Type 0} (xs : List A) (x d : A) (k : ℕ) → k < length xs → get_or (xs ++ x ∷ []) k d ≡ get_or xs k d
 get_before [] x d k b = absurd (omega (arith, b))
@@ -83,7 +80,7 @@ module _ {C : Type 0} (of_number : Frac → C) where
       → new ≡ rows ++ entry_rows of_number i k e → new ≡ old ++ rows_to i es (k + 1)
   entry_more i es k e old rows new is so_far h =
       h ∙ ap₂ (λ xs x. xs ++ entry_rows of_number i k x) so_far is ∙ append_assoc old (rows_to i es k) (entry_rows of_number i k (get_or es k (alone (zero_form of_number))))
-      ∙ ap (λ xs. old ++ xs) (sym (joined_more k (λ j. entry_rows of_number i j (slice_index_or es j (alone (zero_form of_number))))))
+      ∙ ap (λ xs. old ++ xs) (sym (joined_below-next k (λ j. entry_rows of_number i j (slice_index_or es j (alone (zero_form of_number))))))
 
   -- a number has none
   pub value_rows : (i : ℕ) (x : Array) → node_rows of_number i (value_entries of_number x) ≡ []

@@ -4,7 +4,7 @@ use Rattle.std.proofs.Common.{None, Ok, refl, sym, ap, ◌∙◌, subst, arith, 
 use Rattle.std.specs.Prelude.{nat_le, if◌then◌else◌}
 use Rattle.std.proofs.lemmas.Bool.{cases_eq, leb-false, leb-true}
 use Rattle.dcx_math.specs.Rational.{ℚ, whole, ◌+ℚ◌, ◌-ℚ◌, ◌*ℚ◌, ◌/ℚ◌, neg_ℚ, rat_le, rat_eq, ◌≤ℚ◌, ◌<ℚ◌}
-use Rattle.dcx_math.proofs.Orders.{≤ℚ_trans, ≤ℚ_antisym, ≤ℚ_total, ≤ℚ-from_≡, ≤ℚ-≢, <ℚ-≤ℚ, <ℚ-from_not, neg_ℚ-<ℚ, neg_ℚ-zero, *ℚ-≤ℚ, linear, linear_eq}
+use Rattle.dcx_math.proofs.Orders.{≡-from_difference, ≤ℚ_trans, ≤ℚ_antisym, ≤ℚ_total, ≤ℚ-from_≡, ≤ℚ-≢, <ℚ-≤ℚ, <ℚ-from_not, neg_ℚ-<ℚ, neg_ℚ-zero, *ℚ-≤ℚ, linear, linear_eq}
 use Rattle.dcx_math.proofs.Products.{*ℚ-≤ℚ_turned, *ℚ-≤ℚ_cancel, *ℚ-zero_factor, /ℚ-*ℚ}
 use Rattle.dcx_math.proofs.Ratios.{IsTrue-rat_eq}
 use Rattle.dcx_math.proofs.Ring.{ring, reads}
@@ -134,9 +134,6 @@ no_move r u d e = ap (λ z. r +ℚ z *ℚ d) e ∙ ring (r ∷ d ∷ []) (search
 apart_none : (v at : ℚ) → v ≡ at → v -ℚ at ≡ whole (pos 0)
 apart_none v at e = ap (λ z. z -ℚ at) e ∙ ring (at ∷ []) (search reads depth 30) tt
 
-together : (v at : ℚ) → v -ℚ at ≡ whole (pos 0) → v ≡ at
-together v at e = linear_eq (v ∷ at ∷ []) e (search reads depth 30) tt
-
 moved_zero : (r u d : ℚ) → r ≡ whole (pos 0) → r +ℚ u *ℚ d ≡ whole (pos 0) → u *ℚ d ≡ whole (pos 0)
 moved_zero r u d z e = linear_eq (r ∷ u ∷ d ∷ []) (ap (λ w. w +ℚ u *ℚ d) (sym z) ∙ e) (search reads depth 30) tt
 
@@ -248,7 +245,7 @@ module _ (t : Table) (i : ℕ) (s : IsSettled t i) (at d : Frac) (e f : Ends) (v
   by_out false true p q g w h =
       let same : up_to at (from_on at e) ≡ f = cc in
       let l = leb-true t.plain (basic_at t.basis i) q in
-      let here : v ≡ value at = together v (value at)
+      let here : v ≡ value at = ≡-from_difference
       (either (v -ℚ value at) (value d) (*ℚ-zero_factor (v -ℚ value at) (value d) (moved_zero (whole (right_at t i)) (v -ℚ value at) (value d) (s.artificial l) (h.artificial l)))
       (not_zero (value d) p)) in
       subst (λ (x : Ends). Within x v) same (up_out at (from_on at e) v (from_out at e v w (≤ℚ-from_≡ (sym here))) (≤ℚ-from_≡ here))

@@ -4,12 +4,12 @@ use Rattle.std.specs.Prelude.{slice_get}
 use Rattle.std.proofs.lemmas.Option.{slice_get_within}
 use Rattle.dcx_math.specs.Rational.{ℚ, whole, ◌+ℚ◌, ◌*ℚ◌, ◌≤ℚ◌}
 use Rattle.dcx_math.specs.Sums.{rat_sum_below}
+use Rattle.dcx_math.proofs.Lists.{element_at}
 use Rattle.dcx_math.proofs.Orders.{linear}
 use Rattle.dcx_math.proofs.Ring.{ring, reads}
 use Rattle.dcx_math.proofs.Sums.{rat_sum_below-same, rat_sum_below-+ℚ, rat_sum_below-*ℚ_right}
 use Rattle.dcx_linear.specs.FormTerms.{Unknowns}
 use Rattle.dcx_linear.specs.Rows.{RowAt, LinearProgram, AreOfKinds, IsSolution, IsOptimal, combined}
-use Rattle.dcx_std.proofs.Solutions.{at_place}
 use Rattle.dcx_std.proofs.RightAnswers.{combined_sum}
 
 -- the number of row k, and 0 past the end
@@ -35,7 +35,7 @@ split m f c t = ring (m ∷ f ∷ c ∷ t ∷ []) (search reads depth 30) tt
 
 module _ (l n : LinearProgram) (c : ℕ → ℚ) (b t : ℚ) (is : IsMoved l n c b t) where
   pub source : (i : ℕ) (s : RowAt) → slice_get n.rows i ≡ Some s → (r : RowAt) × (slice_get l.rows i ≡ Some r)
-  source i s e = let k = slice_get_within n.rows i s e in let d = is.count in at_place l.rows i (omega (arith, k, d))
+  source i s e = let k = slice_get_within n.rows i s e in let d = is.count in element_at l.rows i (omega (arith, k, d))
 
   combined_moves : (m : ℕ → ℚ) (x : Unknowns) → combined n m x ≡ combined l m x +ℚ rat_sum_below (length l.rows) (λ k. m k *ℚ c k) *ℚ t
   combined_moves m x =

@@ -9,7 +9,7 @@ use Rattle.dcx_math.proofs.Orders.{zero-*ℚ, whole-≤ℤ}
 use Rattle.dcx_math.proofs.Products.{/ℚ-*ℚ}
 use Rattle.dcx_math.proofs.Ring.{ring, reads}
 use Rattle.dcx_math.proofs.Sums.{rat_at-get_or}
-use Rattle.dcx_math.proofs.Lists.{holds_at}
+use Rattle.dcx_math.proofs.Lists.{element_at, holds_at}
 use Rattle.dcx_frac.specs.declared.fraction.Frac.{Frac}
 use Rattle.dcx_frac.specs.Frac.{value}
 use Rattle.dcx_shape.specs.declared.shape.Sides.{Sides}
@@ -49,7 +49,7 @@ use Rattle.dcx_simplex.proofs.Rights.{rows_are}
 use Rattle.dcx_std.specs.IntegerRows.{IsMade}
 use Rattle.dcx_std.specs.ScaledProgram.{IsScaledProgram}
 use Rattle.dcx_std.specs.Solutions.{unknowns_at, HasKinds}
-use Rattle.dcx_std.proofs.Solutions.{mapped_at, at_place}
+use Rattle.dcx_std.proofs.Solutions.{mapped_at}
 use Rattle.dcx_unknowns.specs.Unknowns.{point_at}
 use Rattle.dcx_postsolve.specs.Programs.{multipliers_of}
 use Rattle.dcx_graph.specs.Program.{Program}
@@ -183,7 +183,7 @@ module _ (p : Problem) (setting : Pairs) (name : List ℕ) (m : Program ParamFor
     right_is t d i row int e f =
         let l = slice_get_within m.rows i row e in
         let count = rows_count p setting fits.shaped m known_program r put in
-        let fixed = at_place r.rows i (omega (arith, l, count)) in
+        let fixed = element_at r.rows i (omega (arith, l, count)) in
         let c = value (coefficient_of n.at row.form.constant) in
         ap (λ z. turned_if int.negated (value int.factor *ℚ neg_ℚ z))
         (constant_moves p setting fits.shaped m known_program r put n.at n.parameter n.named.there n.scalar free constants.rows constants.objective t d i row e
@@ -203,8 +203,8 @@ module _ (p : Problem) (setting : Pairs) (name : List ℕ) (m : Program ParamFor
           let l = slice_get_within hs i h e in
           let c = hs_count in
           let k = ints_count in
-          let row = at_place m.rows i (omega (arith, l, c, k)) in
-          let int = at_place q.rows i (omega (arith, l, c)) in
+          let row = element_at m.rows i (omega (arith, l, c, k)) in
+          let int = element_at q.rows i (omega (arith, l, c)) in
           let v = rate_value n.at (row.0).form.constant int.0 h (rate_at n.at m.rows q.rows hs rates i row.0 int.0 h row.1 int.1 e) in
           ap₂ (λ x column. x *ℚ whole (entry_at u j column)) (v.1 ∙ sym (change_is i row.0 int.0 row.1 int.1)) (v.0 ∙ sym (mapped_at first_basic_of q.rows i int.0 0 int.1))
 
@@ -266,8 +266,8 @@ module _ (p : Problem) (setting : Pairs) (name : List ℕ) (m : Program ParamFor
             (within_of v
             (kept q u end changes (v -ℚ value at) f.columns f.solves.count
             (λ i l.
-            let row = at_place m.rows i (omega (arith, l, c)) in
-            let int = at_place q.rows i l in
+            let row = element_at m.rows i (omega (arith, l, c)) in
+            let int = element_at q.rows i l in
             f.solves.each_row i row.0 int.0 row.1 int.1 ∙ right_is (with_value n.at v s) (differs_with v) i row.0 int.0 row.1 int.1
             ∙ ap (λ z. whole (right_side_at q.rows i) +ℚ (z -ℚ value at) *ℚ changes i) (value_with v)) f.outside f.nonnegative f.artificial))
 

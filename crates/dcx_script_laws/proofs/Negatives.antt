@@ -5,6 +5,7 @@ use Rattle.std.proofs.lemmas.Int.{ints}
 use Rattle.dcx_math.specs.Integers.{*ℤ-neg_ℤ_left}
 use Rattle.dcx_math.specs.Rational.{neg_ℚ, ◌+ℚ◌, ◌-ℚ◌}
 use Rattle.dcx_math.specs.Divisors.{divided, IsCoprime}
+use Rattle.dcx_math.proofs.IntegerLaws.{unsigned_abs-neg}
 use Rattle.dcx_math.proofs.Ring.{difference_is}
 use Rattle.dcx_math.proofs.Orders.{neg_ℚ-neg_ℚ, neg_ℚ-zero}
 use Rattle.dcx_math.proofs.Denominators.{ratio-neg_ℚ}
@@ -38,7 +39,6 @@ use Rattle.dcx_array.specs.Operators.{entry_beside, negated_number, negated, add
 use Rattle.dcx_array.specs.Arrays.{entry, filled, first_stop, formed_number, formed_unless, formed_array}
 use Rattle.dcx_array.proofs.Equals.{get_or-list_below}
 use Rattle.dcx_script_laws.specs.Differences.{difference_passes, difference_fault, of_difference}
-use Rattle.dcx_atom.proofs.Fractions.{unsigned_abs-neg}
 
 -- ---- the negative of a number
 -- the number with its sign turned

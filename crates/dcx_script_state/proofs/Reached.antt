@@ -1,5 +1,6 @@
 -- The parameters of the problem of some roots are those that the roots reach.
-use Rattle.std.proofs.Common.{◌≡◌, ℕ, Bool, true, false, List, Option, Some, None, option_map, refl, sym, ap, ◌∙◌, subst}
+use Rattle.std.proofs.Common.{◌≡◌, ℕ, Bool, true, List, Option, Some, None, option_map, refl, sym, ap, ◌∙◌, subst}
+use Rattle.std.specs.Cmp.{both_ways}
 use Rattle.std.specs.Prelude.{filter}
 use Rattle.std.specs.List.{slice_get, list_any}
 use Rattle.std.proofs.lemmas.Option.{same_Some}
@@ -17,11 +18,6 @@ use Rattle.dcx_tree.specs.Gather as gather
 use Rattle.dcx_tree.proofs.Sublists.{contains_at, filter_at, at_filter, any_at, at_any}
 use Rattle.dcx_tree.proofs.Parts.{part_node}
 use Rattle.dcx_script_state.specs.Declarations.{is_parameter}
-
-both_ways : (a b : Bool) → (a ≡ true → b ≡ true) → (b ≡ true → a ≡ true) → a ≡ b
-both_ways true b f g = sym (f refl)
-both_ways false true f g = g refl
-both_ways false false f g = refl
 
 -- a parameter of this name
 named : (name : List ℕ) (call : Call) → gather.is_parameter name call ≡ true → (p : Parameter) × (call ≡ calls.Parameter p) × (same_name name p.name ≡ true)

@@ -1,5 +1,5 @@
 -- Reading the rows of a matrix, step by step.
-use Rattle.std.proofs.Common.{◌≡◌, ℕ, ◌+◌, ◌*◌, ◌<◌, ◌≤◌, true, List, [], ◌∷◌, ◌++◌, map, length, Some, None, Err, refl, sym, ap, ap₂, ◌∙◌, subst, arith}
+use Rattle.std.proofs.Common.{◌≡◌, ℕ, ◌+◌, ◌*◌, ◌<◌, ◌≤◌, true, List, [], ◌∷◌, ◌++◌, map, length, Some, None, Err, refl, sym, ap, ap₂, ◌∙◌, subst, arith, mul-pos}
 use Rattle.std.specs.Prelude.{◌==◌}
 use Rattle.std.proofs.lemmas.Bool.{le-leb, lt-leb}
 use Rattle.std.proofs.lemmas.Bool.Decides.{nat_tests}
@@ -179,7 +179,4 @@ module _ (w k : ℕ) (us : List Terminal) (fs : List Frac) (from : List Terminal
       within a b s l = grind arith
 
   pub rows_entries : HasFewEntries (Matrix k w)
-  rows_entries = record { some = positive k w rows_some rows_wide; most = product_few }
-    where
-      positive : (a b : ℕ) → 0 < a → 0 < b → 0 < a * b
-      positive a b s t = grind arith
+  rows_entries = record { some = mul-pos {m = k} {n = w} rows_some rows_wide; most = product_few }

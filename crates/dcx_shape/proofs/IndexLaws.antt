@@ -23,7 +23,8 @@ takes_one : (n : ℕ) (p : Pick) (xs ys : List ℕ) → Takes n p xs → Takes n
 takes_one n (At i) xs ys (a, below, is, e) (b, under, at, f) = cc
 takes_one n (Range s) xs ys (r, some) (t, other) = slice_one n s xs ys r t
 
-crossed_one : (from : Sides) (rows columns xs ys : List ℕ) → IsCrossed from rows columns xs → IsCrossed from rows columns ys → xs ≡ ys
+-- rows and columns are crossed in one way
+pub crossed_one : (from : Sides) (rows columns xs ys : List ℕ) → IsCrossed from rows columns xs → IsCrossed from rows columns ys → xs ≡ ys
 crossed_one from rows columns xs ys c d =
     let same : length xs ≡ length ys = c.count ∙ sym d.count in
     same_number_lists xs ys same (λ k h. crossed_at from rows columns xs c k h ∙ sym (crossed_at from rows columns ys d k (omega arith)))

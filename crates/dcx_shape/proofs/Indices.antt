@@ -82,14 +82,11 @@ takes_few from picks rows columns h t =
     (takes_most _ (row_pick from picks) rows (row_pick_steps from picks h) t.takes_rows)
     (takes_most _ (column_pick from picks) columns (column_pick_steps from picks h) t.takes_columns))
 
-product_pos : (m n : ℕ) → 0 < m → 0 < n → 0 < m * n
-product_pos m n h k = mul-pos h k
-
 pub kept_few : (from : Sides) (picks : List Pick) (rows columns : List ℕ) → HasFewEntries from → All HasStep picks → TakesBoth from picks rows columns
     → HasFewEntries (kept_sides (row_pick from picks) (length rows) (column_pick from picks) (length columns))
 kept_few from picks rows columns few h t = record {
   some = rw (index_entries from picks rows columns t)
-      (product_pos (length rows) (length columns) (takes_some _ (row_pick from picks) rows t.takes_rows) (takes_some _ (column_pick from picks) columns t.takes_columns));
+      (mul-pos (takes_some _ (row_pick from picks) rows t.takes_rows) (takes_some _ (column_pick from picks) columns t.takes_columns));
   most = rw (index_entries from picks rows columns t) (omega (arith, takes_few from picks rows columns h t, few.most));
 }
 

@@ -7,7 +7,7 @@ use Rattle.dcx_shape.specs.declared.shape.Shape.{Shape}
 use Rattle.dcx_shape.specs.Shape.{sides_of}
 use Rattle.dcx_shape.specs.Sides.{HasFewEntries}
 
-pub few_prop : (s : Sides) → IsProp (HasFewEntries s)
+few_prop : (s : Sides) → IsProp (HasFewEntries s)
 few_prop s = hlevel props
 
 pub shape_from_sides : (a b : Shape) → sides_of a ≡ sides_of b → a ≡ b

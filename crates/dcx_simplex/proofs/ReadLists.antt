@@ -2,9 +2,9 @@
 use Rattle.std.proofs.Common.{◌≡◌, ◌≢◌, ℕ, zero, suc, ◌+◌, ◌<◌, List, [], ◌∷◌, ◌++◌, length, set, get_or, map, take, ap₂, Bool, true}
 use Rattle.std.proofs.Common.{false, not, nat_eq, arith, refl, sym, ap, ◌∙◌, subst, pos, Result, Ok, Err, IfOk}
 use Rattle.std.proofs.lemmas.Bool.{and_parts, eqb-true}
-use Rattle.std.proofs.lemmas.List.{get_or_append_left, get_or_at, get_or-map, map-append, take_more, length-map}
+use Rattle.std.proofs.lemmas.List.{get_or_at, get_or-map, map-append, take_more, length-map}
 use borrow.Author.Count.{below_more}
-use Rattle.dcx_math.proofs.Sums.{rat_at-get_or}
+use Rattle.dcx_math.proofs.Sums.{rat_at-get_or, rat_at-left}
 use Rattle.dcx_math.specs.Rational.{ℚ, whole, neg_ℚ, ◌/ℚ◌}
 use Rattle.dcx_math.specs.Sums.{rat_at}
 use Rattle.dcx_frac.specs.declared.fraction.Frac.{Frac}
@@ -73,14 +73,11 @@ module _ (rows : List IntRow) (kinds : List ColumnKind) (objective phase : CostR
       }
 
 -- ---- one more row
-pub rat_at-front : (xs ys : List ℚ) (k : ℕ) → k < length xs → rat_at (xs ++ ys) k ≡ rat_at xs k
-rat_at-front xs ys k h = sym (rat_at-get_or (xs ++ ys) k) ∙ get_or_append_left xs ys (whole (pos 0)) k h ∙ rat_at-get_or xs k
-
 pub rat_at-last : (xs : List ℚ) (y : ℚ) (k : ℕ) → length xs ≡ k → rat_at (xs ++ y ∷ []) k ≡ y
 rat_at-last xs y k h = sym (rat_at-get_or (xs ++ y ∷ []) k) ∙ get_or_at xs y [] (whole (pos 0)) k h
 
 pub rat_at-more : (xs : List ℚ) (y : ℚ) (i : ℕ) (f : ℕ → ℚ) → length xs ≡ i → ((k : ℕ) → k < i → rat_at xs k ≡ f k) → y ≡ f i → (k : ℕ) → k < i + 1 → rat_at (xs ++ y ∷ []) k ≡ f k
-rat_at-more xs y i f e h last = below_more (λ k. rat_at (xs ++ y ∷ []) k ≡ f k) i (λ k l. rat_at-front xs (y ∷ []) k (omega arith) ∙ h k l) (rat_at-last xs y i e ∙ last)
+rat_at-more xs y i f e h last = below_more (λ k. rat_at (xs ++ y ∷ []) k ≡ f k) i (λ k l. rat_at-left xs (y ∷ []) k (omega arith) ∙ h k l) (rat_at-last xs y i e ∙ last)
 
 -- a list that is built along another
 pub along_more : {A B C : Type 0} (f : A → C) (g : B → C) (xs : List A) (ys : List B) (x : A) (y : B) (i : ℕ) → i < length ys → y ≡ get_or ys i y → map f xs ≡ take i (map g ys) → f x ≡ g y

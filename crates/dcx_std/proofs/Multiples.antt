@@ -1,6 +1,6 @@
 -- Least common multiples, one after another, and whole numbers as fractions.
 use Rattle.std.proofs.Common.{◌≡◌, ℕ, ◌+◌, ◌*◌, ◌/◌, ◌<◌, ◌^◌, Bool, true, false, nat_lt, if◌then◌else◌, List, [], ◌∷◌, ◌++◌, map, length, get_or}
-use Rattle.std.proofs.Common.{drop, Result, Ok, Err, refl, sym, ap, ◌∙◌, subst, ℤ, pos, negsuc, ◌<ℤ◌, unsigned_abs, arith, lit<}
+use Rattle.std.proofs.Common.{drop, Result, Ok, Err, refl, sym, ap, ◌∙◌, subst, pos, ◌<ℤ◌, arith, lit<}
 use Rattle.std.proofs.lemmas.Int.{ints}
 use Rattle.std.proofs.lemmas.Bool.{ltb-true}
 use Rattle.std.specs.List.{All}
@@ -10,6 +10,7 @@ use Prim.Native.Nat.{◌∣◌}
 use Rattle.dcx_math.specs.Rational.{whole, ◌/ℚ◌}
 use Rattle.dcx_math.specs.Divisors.{gcd, lcm}
 use Rattle.dcx_math.proofs.Divisors.{dvd_refl, dvd_trans, lcm-pos, dvd-lcm_left, dvd-lcm_right}
+use Rattle.dcx_math.proofs.IntegerLaws.{abs-positive}
 use Rattle.dcx_math.proofs.Ratios.{ratio-is-/ℚ}
 use Rattle.dcx_frac.specs.declared.fraction.Frac.{Frac}
 use Rattle.dcx_frac.specs.declared.fraction.Passes.{Passes}
@@ -101,12 +102,8 @@ multiple_is_one a (d ∷ ds) m p s h e = by (lcm_gives a d) refl e (λ c q k f. 
           others = All-cons (λ n. n ∣ m) d ds (dvd_trans _ (subst (λ n. d ∣ n) (sym v) (dvd-lcm_right a d)) rest.first) rest.others;
         }
 
-size_positive : (z : ℤ) → pos 0 <ℤ z → 0 < unsigned_abs z
-size_positive (pos n) h = omega (arith, ints, h)
-size_positive (negsuc n) h = omega arith
-
 pub denominator_positive : (x : Frac) → 0 < denominator_of x
-denominator_positive x = size_positive x.den x.positive
+denominator_positive x = abs-positive x.den x.positive
 
 -- all denominators of a form are positive
 denominators_positive : (ts : List (FormTerm Frac)) (x : Frac) → All (λ d. 0 < d) (map (λ t. denominator_of t.coefficient) ts ++ denominator_of x ∷ [])

@@ -17,12 +17,12 @@ use Rattle.dcx_math.specs.Rational.{whole, ◌*ℚ◌, ◌<ℚ◌}
 use Rattle.dcx_math.specs.Divisors.{gcd_of, divided}
 use Rattle.dcx_math.proofs.Orders.{*ℚ_idr}
 use Rattle.dcx_math.proofs.Divisors.{quotient-pos}
+use Rattle.dcx_math.proofs.IntegerLaws.{unsigned_abs-neg}
 use Rattle.dcx_math.proofs.Primitive.{dvd-gcd_of, IsPrimitive-primitive_part}
 use Rattle.dcx_frac.specs.declared.fraction.Frac.{Frac}
 use Rattle.dcx_frac.specs.Frac.{num_of, value}
 use Rattle.dcx_frac.specs.Results.{product_of}
 use Rattle.dcx_frac.proofs.Results.{product_of_is}
-use Rattle.dcx_frac.proofs.Turns.{neg_size}
 use Rattle.dcx_atom.specs.Formed.{zero_frac, frac_at}
 use Rattle.dcx_linear.specs.declared.form.Form.{Form}
 use Rattle.dcx_linear.specs.declared.row.Row.{Row}
@@ -156,7 +156,7 @@ module _ (n : ℕ) (kinds : List UnknownKind) (starts : List Start) (f : Form Fr
 
   -- a common divisor of the row divides each number
   same_size : (b : Bool) (z : ℤ) → unsigned_abs (turned b z) ≡ unsigned_abs z
-  same_size true z = neg_size z
+  same_size true z = unsigned_abs-neg z
   same_size false z = refl
 
   row_length : length c.entries ≡ length (columns_of kinds starts)

@@ -5,6 +5,7 @@ use Rattle.std.proofs.lemmas.List.{length-map}
 use Rattle.std.proofs.lemmas.Option.{slice_get_within}
 use Rattle.dcx_math.specs.Rational.{ℚ, whole, ◌+ℚ◌, ◌-ℚ◌, ◌*ℚ◌, ◌≤ℚ◌}
 use Rattle.dcx_math.specs.Sums.{rat_sum_below, along}
+use Rattle.dcx_math.proofs.Lists.{element_at}
 use Rattle.dcx_math.proofs.Orders.{≤ℚ_refl}
 use Rattle.dcx_math.proofs.Sums.{rat_sum_below-first, rat_sum_below-same}
 use Rattle.dcx_frac.specs.Frac.{value}
@@ -25,7 +26,7 @@ use Rattle.dcx_std.specs.ScaledProgram.{IsScaledProgram}
 use Rattle.dcx_std.specs.Solutions.{form_number, row_at, linear_program, unknowns_at, HasKinds}
 use Rattle.dcx_std.specs.Answers.{IsRightForRowsAs, IsRightForRows}
 use Rattle.dcx_std.proofs.Assignments.{column_value, assignment, assigned_at, value_nonnegative, assigned_unknown, unknowns-along}
-use Rattle.dcx_std.proofs.Solutions.{unmapped_at, at_place, facts_of, narrow, form_same, artificial_none, slack_none, inequality_there, solution_of, cost_is, form_of}
+use Rattle.dcx_std.proofs.Solutions.{unmapped_at, facts_of, narrow, form_same, artificial_none, slack_none, inequality_there, solution_of, cost_is, form_of}
 
 -- the columns of an answer that is right are one-sided
 pub one_sided : (t : LpStatus) (q : Program) (a : LpAnswer) → IsRightAs t q a → IsOneSided q.columns (numbers a.columns)
@@ -63,7 +64,7 @@ module _ (rows : GivenRows) (q : Program) (known : HasKinds rows) (s : IsScaledP
 
   unknowns_are : (y : Unknowns) → AreOfKinds rows.kinds y → (u : ℕ) → u < length rows.kinds → unknowns_at q.columns (assignment q.columns none y) u ≡ y u
   unknowns_are y h u l =
-      let k = at_place rows.kinds u l in
+      let k = element_at rows.kinds u l in
       ap (λ ks. unknowns_at ks (assignment ks none y) u) s.columns ∙ assigned_unknown none y u rows.kinds s.starts k.0 k.1 (h u k.0 k.1)
 
   cost_of : (y : Unknowns) → AreOfKinds rows.kinds y → cost_at_columns q.objective (assignment q.columns none y) ≡ form_number rows.objective y

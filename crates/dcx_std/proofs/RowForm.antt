@@ -6,8 +6,8 @@ use Rattle.std.proofs.lemmas.List.{length-map, get_or-map}
 use Rattle.std.proofs.lemmas.Option.{slice_get_within, get_or_from_slice_get}
 use Rattle.std.proofs.lemmas.Bool.Decides.{nat_tests}
 use Rattle.dcx_math.specs.Rational.{whole, ◌<ℚ◌}
+use Rattle.dcx_math.proofs.IntegerLaws.{unsigned_abs-neg}
 use Rattle.dcx_frac.specs.Frac.{value}
-use Rattle.dcx_frac.proofs.Turns.{neg_size}
 use Rattle.dcx_tab.specs.declared.rows.ColumnKind.{ColumnKind}
 use Rattle.dcx_tab.specs.declared.rows.ColumnKind.TheVariants.{Unknown, Slack, Artificial}
 use Rattle.dcx_tab.specs.declared.rows.IntRow.{IntRow}
@@ -42,7 +42,7 @@ pub small_ends : (a b c : ℤ) → unsigned_abs a < 2 ^ 127 → unsigned_abs b <
 small_ends a b c h k l = AllSmall-cons a (b ∷ c ∷ []) h (AllSmall-cons b (c ∷ []) k (AllSmall-cons c [] l AllSmall-nil))
 
 pub small_turned : (t : Bool) (z : ℤ) → unsigned_abs z < 2 ^ 127 → unsigned_abs (turned t z) < 2 ^ 127
-small_turned true z h = rw (neg_size z) h
+small_turned true z h = rw (unsigned_abs-neg z) h
 small_turned false z h = h
 
 -- ---- what a row has at its columns

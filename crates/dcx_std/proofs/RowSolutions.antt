@@ -8,6 +8,7 @@ use Rattle.std.proofs.lemmas.List.{length-map}
 use Rattle.std.proofs.lemmas.Option.{slice_get-map}
 use Rattle.dcx_math.specs.Rational.{ℚ, whole, ◌+ℚ◌, ◌*ℚ◌, neg_ℚ, ◌≤ℚ◌, ◌<ℚ◌}
 use Rattle.dcx_math.specs.Sums.{rat_at}
+use Rattle.dcx_math.proofs.Lists.{element_at}
 use Rattle.dcx_math.proofs.Orders.{neg_ℚ-≤ℚ, neg_ℚ-zero, <ℚ-≤ℚ}
 use Rattle.dcx_math.proofs.Products.{*ℚ-nonpositive}
 use Rattle.dcx_math.proofs.Ring.{ring, reads}
@@ -29,7 +30,7 @@ use Rattle.dcx_std.specs.ScaledProgram.{IsScaledProgram}
 use Rattle.dcx_std.specs.Solutions.{form_number, row_at, linear_program, unknowns_at, HasKinds}
 use Rattle.dcx_std.proofs.Assignments.{column_value, assignment, assigned_at, value_nonnegative, assigned_unknown}
 use Rattle.dcx_std.proofs.RowSums.{slack_part, slack_at, artificial_at, sign, turned_is}
-use Rattle.dcx_std.proofs.Solutions.{mapped_at, at_place, RowFacts, facts_of, narrow, form_is, form_same, linear_sum, row_value}
+use Rattle.dcx_std.proofs.Solutions.{mapped_at, RowFacts, facts_of, narrow, form_is, form_same, linear_sum, row_value}
 use Rattle.dcx_std.proofs.Solutions.{artificial_none, slack_none, no_slack, slack_there, plain_below_artificial, cost_is}
 
 filled_left : (g f l c : ℚ) → g *ℚ (f *ℚ l +ℚ neg_ℚ (f *ℚ (c +ℚ l))) +ℚ whole (pos 0) ≡ g *ℚ (f *ℚ neg_ℚ c)
@@ -65,7 +66,7 @@ module _ (rows : GivenRows) (q : Program) (known : HasKinds rows) (s : IsScaledP
   holds i f = h.rows i (row_at f.row) (slice_get-map row_at rows.rows i ∙ ap (option_map row_at) f.row_is)
 
   at_row : (i : ℕ) → i < length rows.rows → RowFacts rows q known s i
-  at_row i l = let r = at_place rows.rows i l in facts_of rows q known s i r.0 r.1
+  at_row i l = let r = element_at rows.rows i l in facts_of rows q known s i r.0 r.1
 
   number_is : (j : ℕ) → j < length q.columns → rat_at columns j ≡ column_value slacks x (kind_at q.columns j)
   unfolding columns
@@ -74,7 +75,7 @@ module _ (rows : GivenRows) (q : Program) (known : HasKinds rows) (s : IsScaledP
   unknowns_are : (u : ℕ) → u < length rows.kinds → unknowns_at q.columns columns u ≡ x u
   unfolding columns
   unknowns_are u l =
-      let k = at_place rows.kinds u l in
+      let k = element_at rows.kinds u l in
       ap (λ ks. unknowns_at ks (assignment ks slacks x) u) s.columns ∙ assigned_unknown slacks x u rows.kinds s.starts k.0 k.1 (h.kinds u k.0 k.1)
 
   slack_nonnegative : (i : ℕ) (f : RowFacts rows q known s i) → f.row.kind ≡ AtMost → whole (pos 0) ≤ℚ slacks i

@@ -6,6 +6,7 @@ use Rattle.std.proofs.lemmas.Bool.Decides.{nat_tests}
 use Rattle.std.proofs.lemmas.Option.{slice_get_within, slice_get-map, get_or_from_slice_get}
 use Rattle.dcx_math.specs.Rational.{ℚ, whole, ◌+ℚ◌, ◌-ℚ◌, ◌*ℚ◌, ◌/ℚ◌, neg_ℚ, ◌≤ℚ◌, ◌<ℚ◌}
 use Rattle.dcx_math.specs.Sums.{rat_at, rat_dot, rat_sum_below}
+use Rattle.dcx_math.proofs.Lists.{element_at}
 use Rattle.dcx_math.proofs.Orders.{+ℚ_idr, *ℚ-zero, ≤ℚ_refl, ≤ℚ-from_≡, +ℚ-≤ℚ, <ℚ-≢, linear, linear_eq, neg_ℚ-≤ℚ, neg_ℚ-zero}
 use Rattle.dcx_math.proofs.Products.{*ℚ-≤ℚ_cancel, *ℚ_cancel, /ℚ-unique, whole-<ℤ}
 use Rattle.dcx_math.proofs.Points.{wholes}
@@ -52,12 +53,6 @@ pub unmapped_at : {A B : Type 0} (f : A → B) (xs : List A) (i : ℕ) (y : B) �
 unmapped_at f [] i y e = cc
 unmapped_at f (x ∷ xs) zero y e = let d : f x ≡ y = cc in (x, refl, d)
 unmapped_at f (x ∷ xs) (suc i) y e = unmapped_at f xs i y e
-
--- what is at a place of a list
-pub at_place : {A : Type 0} (xs : List A) (i : ℕ) → i < length xs → (x : A) × (slice_get xs i ≡ Some x)
-at_place [] i h = absurd (omega (arith, h))
-at_place (x ∷ xs) zero h = (x, refl)
-at_place (x ∷ xs) (suc i) h = at_place xs i (omega (arith, h))
 
 -- ---- numbers
 sign_square : (t : Bool) (a b : ℚ) → sign t *ℚ a ≡ sign t *ℚ b → a ≡ b
@@ -127,7 +122,7 @@ module _ (rows : GivenRows) (q : Program) (known : HasKinds rows) (s : IsScaledP
   abbrev pub facts_of : (i : ℕ) (row : Row Frac) → slice_get rows.rows i ≡ Some row → RowFacts i
   facts_of i row e =
       let l = slice_get_within rows.rows i row e in
-      let r = at_place q.rows i (let c = s.count in omega (arith, l, c)) in
+      let r = element_at q.rows i (let c = s.count in omega (arith, l, c)) in
       let k = unmapped_at (λ (t : Start). t.kind) s.starts i row.kind (ap (λ ks. slice_get ks i) s.kinds ∙ slice_get-map (λ (t : Row Frac). t.kind) rows.rows i
       ∙ ap (option_map (λ (t : Row Frac). t.kind)) e) in
       record { row = row; row_is = e; ints = r.0; ints_is = r.1; start = k.0; start_is = k.1; kind = k.2; scaled = s.each_row i row r.0 e r.1; form = q.form.each_row i r.0 r.1 }

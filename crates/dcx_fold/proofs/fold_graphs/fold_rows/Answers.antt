@@ -3,7 +3,7 @@ use Rattle.std.proofs.Common.{ℕ, ◌++◌, ◌∙◌, ap, sym, map}
 use Rattle.dcx_shape.specs.Shape.{sides_of}
 use Rattle.dcx_atom.specs.Rows.{Row}
 use Rattle.dcx_fold.specs.Folds.{group_rows}
-use Rattle.dcx_fold.proofs.StepLists.{joined_below-next}
+use Rattle.dcx_atom.proofs.Lists.{joined_below-next}
 use Rattle.dcx_fold.proofs.fold_graphs.fold_rows.Goals as goal
 
 pub loop-entry-preserved : goal.loop-entry-preserved

@@ -8,12 +8,12 @@ use Rattle.dcx_atom.specs.Arrays.{list_below, joined_below, number_at}
 use Rattle.dcx_atom.specs.Axis.{folded_count}
 use Rattle.dcx_atom.specs.Formed.{exact}
 use Rattle.dcx_atom.specs.Steps.{first_stop, weights_of}
-use Rattle.dcx_atom.proofs.Lists.{number_is}
+use Rattle.dcx_atom.proofs.Lists.{joined_below-next, number_is}
 use Rattle.dcx_fold.specs.declared.folding.Fold.{Fold}
 use Rattle.dcx_fold.specs.Groups.{groups}
 use Rattle.dcx_fold.specs.Folds.{member_rows, member_weights, member_slope, group_steps, fold_meaning}
 use Rattle.dcx_fold.specs.Stops.{IsStopAmong}
-use Rattle.dcx_fold.proofs.StepLists.{first_among, joined_below-next}
+use Rattle.dcx_fold.proofs.StepLists.{first_among}
 use Rattle.dcx_fold.proofs.FoldSlopes.{IsPart, is_part, few_rows, own_stop, own_slopes}
 use Rattle.dcx_fold.proofs.fold_slopes.slopes_by_group.Goals as goal
 
