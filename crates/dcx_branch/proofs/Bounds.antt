@@ -2,7 +2,7 @@
 use Rattle.std.proofs.Common.{◌≡◌, zero, suc, Bool, true, false, if◌then◌else◌, List, [], ◌∷◌, Option, Some, None, refl, subst}
 use Rattle.std.specs.Prelude.{ℤ, pos}
 use Rattle.std.proofs.lemmas.Option.{none-some, same_Some}
-use Rattle.dcx_math.specs.Rational.{ℚ, whole, ◌-ℚ◌, ◌≤ℚ◌}
+use Rattle.dcx_math.specs.Rational.{whole, ◌-ℚ◌, ◌≤ℚ◌}
 use Rattle.dcx_math.proofs.Orders.{-ℚ-nonpositive, ≤ℚ-from_difference}
 use Rattle.dcx_linear.specs.FormTerms.{Unknowns}
 use Rattle.dcx_tree.specs.declared.problem.Problem.{Problem}
