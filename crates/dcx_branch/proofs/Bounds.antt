@@ -3,7 +3,7 @@ use Rattle.std.proofs.Common.{◌≡◌, zero, suc, Bool, true, false, if◌then
 use Rattle.std.specs.Prelude.{ℤ, pos}
 use Rattle.std.proofs.lemmas.Option.{none-some, same_Some}
 use Rattle.dcx_math.specs.Rational.{whole, ◌-ℚ◌, ◌≤ℚ◌}
-use Rattle.dcx_math.proofs.Orders.{-ℚ-nonpositive, ≤ℚ-from_difference}
+use Rattle.dcx_math.proofs.Orders.{≤ℚ-from_difference, -ℚ-nonpositive}
 use Rattle.dcx_linear.specs.FormTerms.{Unknowns}
 use Rattle.dcx_tree.specs.declared.problem.Problem.{Problem}
 use Rattle.dcx_right.specs.Boxes.{IsAtLeast, IsAtMost, IsWithin, Box}

@@ -9,6 +9,7 @@ use Rattle.dcx_cert_bound.specs.Fixed.{AreFixedValues}
 use Rattle.dcx_math.specs.Rational.{◌+ℚ◌, ◌-ℚ◌}
 use Rattle.dcx_math.specs.Sums.{IsNonnegative}
 use Rattle.dcx_math.proofs.Orders.{≤ℚ_trans, ≤ℚ-from_≡, +ℚ-≤ℚ_left}
+use Rattle.dcx_math.proofs.Lists.{mapped}
 use Rattle.dcx_shape.specs.Sides.{entries_of}
 use Rattle.dcx_atom.specs.declared.array.Array.{Array}
 use Rattle.dcx_atom.specs.Arrays.{numbers_of}
@@ -21,7 +22,6 @@ use Rattle.dcx_convex.proofs.MapBack.{weighed_same}
 use Rattle.dcx_tree.specs.declared.problem.Problem.{Problem}
 use Rattle.dcx_tree.specs.Nodes.{arg_sides}
 use Rattle.dcx_tree.specs.Meaning.{names_in, sense_of, convex_constraint, convex_problem, setting_of}
-use Rattle.dcx_tree.proofs.Lawful.{mapped}
 use Rattle.dcx_cert_complete.specs.Bounded.{started}
 use Rattle.dcx_cert_complete.specs.Laws.{FormsBoundPrograms}
 use Rattle.dcx_cert_complete.proofs.Families.{first_same, first_rows}

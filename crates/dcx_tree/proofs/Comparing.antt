@@ -2,7 +2,7 @@
 use Rattle.std.proofs.Common.{◌≡◌, Bool, true, false, MatchBool, sym, subst, ◌∙◌, pos}
 use Rattle.std.proofs.lemmas.Bool.{false≢true}
 use Rattle.dcx_math.specs.Rational.{ℚ, whole, rat_le, rat_eq, ◌-ℚ◌, ◌≤ℚ◌}
-use Rattle.dcx_math.proofs.Orders.{-ℚ_self, ≡-from_difference, -ℚ-nonpositive, ≤ℚ-from_difference}
+use Rattle.dcx_math.proofs.Orders.{≡-from_difference, ≤ℚ-from_difference, -ℚ_self, -ℚ-nonpositive}
 use Rattle.dcx_math.proofs.Ratios.{IsTrue-rat_le, IsTrue-rat_eq}
 use Rattle.dcx_convex.specs.Problems.{Holds, AtMost, Equal}
 
