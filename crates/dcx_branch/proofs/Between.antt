@@ -1,5 +1,5 @@
 -- The greatest integer below a fraction that isn't whole, and that there is one.
-use Rattle.std.proofs.Common.{◌≡◌, ◌≢◌, ℕ, suc, ◌+◌, ◌*◌, ◌-◌, ◌/◌, ◌%◌, ◌<◌, ◌≤◌, ◌^◌, arith, refl, sym, ap, ◌∙◌, subst, inl, inr, ◌⊎◌}
+use Rattle.std.proofs.Common.{◌≡◌, ◌≢◌, ℕ, suc, ◌+◌, ◌*◌, ◌-◌, ◌/◌, ◌%◌, ◌<◌, ◌≤◌, ◌^◌, arith, suc-mul, refl, sym, ap, ◌∙◌, subst, inl, inr, ◌⊎◌}
 use Rattle.std.specs.Prelude.{ℤ, pos, negsuc, ◌+ℤ◌, ◌*ℤ◌, neg_ℤ, ◌<ℤ◌, ◌≤ℤ◌, unsigned_abs}
 use Rattle.std.specs.Int.{int_div_euclid}
 use Rattle.std.proofs.lemmas.Int.{ints}
@@ -58,9 +58,6 @@ record IsDivided (z q : ℤ) (d : ℕ) : Type 0 where
 below_zero : (a m d r k : ℕ) → k ≡ m + d → m + r ≡ a → r < d → negsuc a ≡ neg_ℤ (pos k) +ℤ pos (d - 1 - r)
 below_zero a m d r k e f h = omega (arith, ints)
 
-more_times : (m d : ℕ) → suc m * d ≡ m * d + d
-more_times m d = omega arith
-
 divided : (z : ℤ) (d : ℕ) → 0 < d → IsDivided z (int_div_euclid z (pos d)) d
 divided (pos a) d h = record { rest = a % d; small = mod_below a d h; is = ap pos (sym (div-add-mod' a d)) }
 divided (negsuc a) d h =
@@ -69,7 +66,7 @@ divided (negsuc a) d h =
     record {
       rest = d - 1 - rest;
       small = omega arith;
-      is = below_zero a (a / d * d) d rest (suc (a / d) * d) (more_times (a / d) d) (div-add-mod' a d) small
+      is = below_zero a (a / d * d) d rest (suc (a / d) * d) (suc-mul (a / d) d) (div-add-mod' a d) small
           ∙ ap (λ y. y +ℤ pos (d - 1 - rest)) (sym (*ℤ-neg_ℤ_left (pos (suc (a / d))) (pos d)));
     }
 

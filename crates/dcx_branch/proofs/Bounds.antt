@@ -2,9 +2,8 @@
 use Rattle.std.proofs.Common.{◌≡◌, zero, suc, Bool, true, false, if◌then◌else◌, List, [], ◌∷◌, Option, Some, None, refl, subst}
 use Rattle.std.specs.Prelude.{ℤ, pos}
 use Rattle.std.proofs.lemmas.Option.{none-some, same_Some}
-use Rattle.dcx_math.specs.Rational.{ℚ, whole, ◌-ℚ◌, ◌≤ℚ◌}
-use Rattle.dcx_math.proofs.Ring.{reads}
-use Rattle.dcx_math.proofs.Orders.{linear, -ℚ-nonpositive}
+use Rattle.dcx_math.specs.Rational.{whole, ◌-ℚ◌, ◌≤ℚ◌}
+use Rattle.dcx_math.proofs.Orders.{≤ℚ-from_difference, -ℚ-nonpositive}
 use Rattle.dcx_linear.specs.FormTerms.{Unknowns}
 use Rattle.dcx_tree.specs.declared.problem.Problem.{Problem}
 use Rattle.dcx_right.specs.Boxes.{IsAtLeast, IsAtMost, IsWithin, Box}
@@ -41,17 +40,14 @@ module _ (p : Problem) (box : Box) where
 abbrev pub Keeps : Unknowns → BoundAt → Type 0
 Keeps x b = excess b.upper b.limit (x b.place.unknown) ≤ℚ whole (pos 0)
 
-less : (x y : ℚ) → x -ℚ y ≤ℚ whole (pos 0) → x ≤ℚ y
-less x y h = linear (x ∷ y ∷ []) h (search reads depth 30) tt
-
 module _ (x : Unknowns) where
   lower_kept : (q : Place) (o : Option ℤ) → Each (Keeps x) (bound_of q false o) → IsAtLeast o (x q.unknown)
   lower_kept q None h = tt
-  lower_kept q (Some n) h = less (whole n) (x q.unknown) (h 0 (record { place = q; upper = false; limit = n }) refl)
+  lower_kept q (Some n) h = ≤ℚ-from_difference (whole n) (x q.unknown) (h 0 (record { place = q; upper = false; limit = n }) refl)
 
   upper_kept : (q : Place) (o : Option ℤ) → Each (Keeps x) (bound_of q true o) → IsAtMost o (x q.unknown)
   upper_kept q None h = tt
-  upper_kept q (Some n) h = less (x q.unknown) (whole n) (h 0 (record { place = q; upper = true; limit = n }) refl)
+  upper_kept q (Some n) h = ≤ℚ-from_difference (x q.unknown) (whole n) (h 0 (record { place = q; upper = true; limit = n }) refl)
 
   -- numbers that keep the bounds of a box are within it
   pub kept_within : (ps : List Place) (box : Box) → Each (Keeps x) (all_bounds ps box) → Each (λ (q : Place). IsWithin (box q.variable q.entry) (x q.unknown)) ps

@@ -11,6 +11,7 @@ use Rattle.dcx_convex.specs.Nodes.{Numbers, Point, Setting, first_of, value_by, 
 use Rattle.dcx_convex.specs.Rules.{Rules, judgement_at}
 use Rattle.dcx_convex.specs.Reductions.{Unknowns, StandsFor, IsLifted}
 use Rattle.dcx_convex.proofs.Told.{value_tells}
+use Rattle.dcx_convex.proofs.Signs.{first_in}
 use Rattle.dcx_tree.specs.declared.problem.Problem.{Problem}
 use Rattle.dcx_tree.specs.Nodes.{head_of, arg_sides, convex_node, number_in}
 use Rattle.dcx_tree.specs.Problems.{HasCall, AreDeclared}
@@ -21,7 +22,7 @@ use Rattle.dcx_linear.specs.Rows.{LinearProgram}
 use Rattle.dcx_unknowns.specs.Unknowns.{sides_in, first_unknown, unknown_from, number_at, point_at}
 use Rattle.dcx_unknowns.specs.Laws.{IsVariable}
 use Rattle.dcx_unknowns.proofs.Domains.{number_is}
-use Rattle.dcx_unknowns.proofs.Points.{array_is, below}
+use Rattle.dcx_unknowns.proofs.Points.{array_is}
 use Rattle.dcx_graph.specs.AsLinear.{IsReductionAt}
 
 -- an entry of a point of unknowns is its unknown
@@ -29,7 +30,7 @@ pub entry_unknown : (p : Problem) (u : Unknowns) (k j n : ℕ) (v : Variable) �
     point_at p.variables u k j ≡ u n
 entry_unknown p u k j n v at b e =
     ap (λ (f : Numbers). f j) (array_is p.variables u k v at)
-    ∙ below (entries_of (sides_in v)) (λ i. number_at u (unknown_from (first_unknown p.variables k) v i)) j b
+    ∙ first_in (entries_of (sides_in v)) (λ i. number_at u (unknown_from (first_unknown p.variables k) v i)) j b
     ∙ ap (number_at u) e
 
 module _ (rules : Rules) (p : Problem) (s : Setting) (l : LinearProgram) (is : IsReductionAt rules p s l) (y : Point) (t : Unknowns) (low : IsLifted is.reduced (convex_problem p) s y t) where
@@ -58,8 +59,8 @@ module _ (rules : Rules) (p : Problem) (s : Setting) (l : LinearProgram) (is : I
       (ap (λ c. head_of names c (arg_sides p.tree n) n.sides) call) in
       let number = number_is p d k v at in
       subst (λ m. is.reduced.point t m j ≡ y m j) number
-      (sym (below (entries_of (sides_in v)) (is.reduced.point t (number_in names.variables v.name)) j b) ∙ ap (λ (f : Numbers). f j) same
-      ∙ below (entries_of (sides_in v)) (y (number_in names.variables v.name)) j b)
+      (sym (first_in (entries_of (sides_in v)) (is.reduced.point t (number_in names.variables v.name)) j b) ∙ ap (λ (f : Numbers). f j) same
+      ∙ first_in (entries_of (sides_in v)) (y (number_in names.variables v.name)) j b)
 
   pub lifted_entry : (k j n : ℕ) (v : Variable) → IsVariable p.variables k v → j < entries_of (sides_in v) → unknown_from (first_unknown p.variables k) v j ≡ Some n → t n ≡ y k j
   lifted_entry k j n v at b e =

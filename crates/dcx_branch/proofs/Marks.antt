@@ -12,6 +12,7 @@ use Rattle.dcx_call.specs.declared.attribute.Whole.{Whole}
 use Rattle.dcx_call.specs.declared.attribute.Whole.TheVariants.{Not, Integer, Boolean}
 use Rattle.dcx_call.specs.declared.attribute.Variable.{Variable}
 use Rattle.dcx_convex.specs.Nodes.{Setting, Keeps}
+use Rattle.dcx_convex.proofs.Signs.{first_in}
 use Rattle.dcx_tree.specs.declared.problem.Problem.{Problem}
 use Rattle.dcx_tree.specs.Nodes.{variable_attribute}
 use Rattle.dcx_tree.specs.Meaning.{IsFeasible, objective_at, point_of}
@@ -19,7 +20,7 @@ use Rattle.dcx_linear.specs.FormTerms.{Unknowns}
 use Rattle.dcx_unknowns.specs.Unknowns.{sides_in, first_unknown, unknown_from, number_at, point_at}
 use Rattle.dcx_unknowns.specs.Laws.{AreAlike}
 use Rattle.dcx_unknowns.proofs.Domains.{to_variables}
-use Rattle.dcx_unknowns.proofs.Points.{array_is, below}
+use Rattle.dcx_unknowns.proofs.Points.{array_is}
 use Rattle.dcx_postsolve.specs.Points.{numbered}
 use Rattle.dcx_postsolve.proofs.Alike.{arrays_are_points}
 use Rattle.dcx_postsolve.proofs.Carrying.{feasible_alike, objective_alike}
@@ -65,7 +66,7 @@ module _ (p : Problem) (s : Setting) (x : Unknowns) (whole_places : AreWhole (pl
     entry_none : unknown_from (first_unknown p.variables k) v j ≡ None → point_at p.variables x k j ≡ whole (pos 0)
     entry_none e =
         ap (λ (f : ℕ → ℚ). f j) (array_is p.variables x k v has.variable)
-        ∙ below (entries_of (sides_in v)) (λ i. number_at x (unknown_from (first_unknown p.variables k) v i)) j has.entry
+        ∙ first_in (entries_of (sides_in v)) (λ i. number_at x (unknown_from (first_unknown p.variables k) v i)) j has.entry
         ∙ ap (number_at x) e
 
     is_whole_by : (o : Option ℕ) → unknown_from (first_unknown p.variables k) v j ≡ o → v.whole ≢ Not → IsWhole (point_at p.variables x k j)

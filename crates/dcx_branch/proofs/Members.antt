@@ -4,13 +4,13 @@ use Rattle.std.proofs.Common.{Some, None, option_map, slice_get, refl, sym, ap, 
 use Rattle.std.proofs.lemmas.Option.{none-some, same_Some, slice_get-map, slice_get_within, get_or_from_slice_get, slice_get-get_or}
 use Rattle.std.specs.List.{All}
 use Rattle.std.proofs.lemmas.List.FromFn.{length-range_with_len, get_or-range_with_len}
+use Rattle.dcx_math.proofs.Lists.{mapped}
 use Rattle.dcx_shape.specs.Sides.{entries_of}
 use Rattle.dcx_shape.specs.Places.{places_below}
 use Rattle.dcx_call.specs.declared.attribute.Variable.{Variable}
 use Rattle.dcx_call.specs.Attributes.{IsSquare, AreSquare}
 use Rattle.dcx_call.specs.declared.attribute.Whole.{Whole}
 use Rattle.dcx_call.specs.declared.attribute.Whole.TheVariants.{Not, Integer, Boolean}
-use Rattle.dcx_std.proofs.Solutions.{unmapped_at}
 use Rattle.dcx_unknowns.specs.Own.{source_of, own_before}
 use Rattle.dcx_unknowns.specs.Unknowns.{demanded, sides_in, variable_unknowns, first_unknown, unknown_from}
 use Rattle.dcx_unknowns.proofs.Places.{place_within, own_before-lt}
@@ -98,7 +98,7 @@ module _ (vs : List Variable) where
   own_place k v at marked =
       each_of k v.whole (IsPlaceOf vs) 0 (map (unknown_from (first_unknown vs k) v) (places_below (entries_of (sides_in v))))
       (λ e n there.
-      let (j, listed, is) = unmapped_at (unknown_from (first_unknown vs k) v) (places_below (entries_of (sides_in v))) e (Some n) there in
+      let (j, listed, is) = mapped (unknown_from (first_unknown vs k) v) (places_below (entries_of (sides_in v))) e (Some n) there in
       let same = place_number (entries_of (sides_in v)) e j listed in
       let within = place_within (entries_of (sides_in v)) e j listed in
       let z : j ≡ 0 + e = same ∙ sym (zero-add e) in

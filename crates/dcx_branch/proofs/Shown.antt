@@ -6,7 +6,7 @@ use Rattle.std.specs.List.{All}
 use Rattle.std.proofs.lemmas.List.{length-map, length-take-le, length-drop}
 use Rattle.std.proofs.lemmas.Option.{none-some, same_Some, slice_get-map, slice_get_within}
 use Rattle.dcx_math.specs.Rational.{ℚ, whole, ◌+ℚ◌, ◌≤ℚ◌}
-use Rattle.dcx_math.proofs.Lists.{element_at}
+use Rattle.dcx_math.proofs.Lists.{element_at, mapped}
 use Rattle.dcx_frac.specs.declared.fraction.Frac.{Frac}
 use Rattle.dcx_frac.specs.declared.fraction.Passes.{Passes}
 use Rattle.dcx_frac.specs.Frac.{value}
@@ -30,7 +30,7 @@ use Rattle.dcx_std.specs.Answers.{IsRightForRowsAs}
 use Rattle.dcx_std.specs.IntegerRows.{IsMade}
 use Rattle.dcx_std.specs.Solutions.{HasKinds, row_at, unknowns_at, linear_program}
 use Rattle.dcx_std.proofs.ScaledProgram.{scaled_program}
-use Rattle.dcx_std.proofs.Solutions.{facts_of, inequality_there, unmapped_at}
+use Rattle.dcx_std.proofs.Solutions.{facts_of, inequality_there}
 use Rattle.dcx_std.proofs.RightAnswers.{shown_of}
 use Rattle.dcx_unknowns.specs.Layout.{constraint_rows}
 use Rattle.dcx_unknowns.specs.Unknowns.{point_at}
@@ -158,7 +158,7 @@ module _ (p : Problem) (s : Setting) (q : Program Frac) (given : IsReducedAt p s
       ∙ weights_are m first bs are.weights count
       (λ n w at.
       let formed : slice_get (map f notes) n ≡ Some (Ok w) = ap (λ xs. slice_get xs n) (sym are.formed) ∙ slice_get-map ok are.weights n ∙ ap (λ o. option_map ok o) at in
-      let (note, noted, is) = unmapped_at f notes n (Ok w) formed in
+      let (note, noted, is) = mapped f notes n (Ok w) formed in
       let before = in_front (to - first) (drop first a.rows) n note noted in
       let here : slice_get a.rows (first + n) ≡ Some note = sym (behind first a.rows n) ∙ before.1 in
       let within = slice_get_within are.weights n w at in

@@ -38,11 +38,6 @@ use Rattle.dcx_lp_solve.specs.Stops.{run_stop}
 use Rattle.dcx_branch.specs.Run.{Turn, TurnsOut, IsLeafTurn, unknowns_in, NodeStops, at_rows, at_leaf}
 use Rattle.dcx_branch.specs.Taken.{IsSolvedWith, TellsUnknowns, made_leaf, IsTaken, PassesLeaf, StopsJudging, TakenAs, StopsTaking}
 
--- what follows from an error
-pub err_weaker : {T E : Type 0} (r : Result T E) (P Q : E → Type 0) → ((e : E) → P e → Q e) → IfErr r P → IfErr r Q
-err_weaker (Ok x) P Q h k = tt
-err_weaker (Err e) P Q h k = h e k
-
 -- ---- entries that are whole
 -- one entry more is whole
 pub whole_more : (ps : List Place) (x : Unknowns) (n : ℕ) (q : Place) → slice_get ps n ≡ Some q → IsWhole (x q.unknown)

@@ -5,6 +5,7 @@ use Rattle.std.proofs.lemmas.Bool.{and_parts}
 use native.Mathlib.Decide.{dec_lt}
 use Rattle.dcx_math.specs.Rational.{ℚ, whole, rat_le, ◌≤ℚ◌}
 use Rattle.dcx_math.proofs.Orders.{≤ℚ_refl}
+use Rattle.dcx_math.proofs.Ratios.{IsTrue-rat_le}
 use Rattle.dcx_frac.specs.declared.fraction.Frac.{Frac}
 use Rattle.dcx_frac.specs.Frac.{value}
 use Rattle.dcx_shape.specs.declared.shape.Sides.{Sides}
@@ -47,17 +48,14 @@ attribute_has_sign Nonpos sides x h j b = record { nonneg = λ t. cc; nonpos = �
 attribute_has_sign Symmetric sides x h j b = no_sign (x j)
 attribute_has_sign Diag sides x h j b = no_sign (x j)
 
-le_from : (x y : ℚ) → rat_le x y ≡ true → x ≤ℚ y
-le_from x y e = record { le = rw e tt }
-
 numbers_nonneg : (xs : List Frac) → list_all (λ x. rat_le (whole (pos 0)) (value x)) xs ≡ true → (j : ℕ) → whole (pos 0) ≤ℚ number_at xs j
 numbers_nonneg [] h j = ≤ℚ_refl (whole (pos 0))
-numbers_nonneg (x ∷ xs) h zero = le_from (whole (pos 0)) (value x) (and_parts _ _ h).0
+numbers_nonneg (x ∷ xs) h zero = (IsTrue-rat_le (whole (pos 0)) (value x)).0 (and_parts (rat_le (whole (pos 0)) (value x)) (list_all (λ x. rat_le (whole (pos 0)) (value x)) xs) h).0
 numbers_nonneg (x ∷ xs) h (suc j) = numbers_nonneg xs (and_parts _ _ h).1 j
 
 numbers_nonpos : (xs : List Frac) → list_all (λ x. rat_le (value x) (whole (pos 0))) xs ≡ true → (j : ℕ) → number_at xs j ≤ℚ whole (pos 0)
 numbers_nonpos [] h j = ≤ℚ_refl (whole (pos 0))
-numbers_nonpos (x ∷ xs) h zero = le_from (value x) (whole (pos 0)) (and_parts _ _ h).0
+numbers_nonpos (x ∷ xs) h zero = (IsTrue-rat_le (value x) (whole (pos 0))).0 (and_parts (rat_le (value x) (whole (pos 0))) (list_all (λ x. rat_le (value x) (whole (pos 0))) xs) h).0
 numbers_nonpos (x ∷ xs) h (suc j) = numbers_nonpos xs (and_parts _ _ h).1 j
 
 -- ---- products and quotients

@@ -1,5 +1,5 @@
 -- Entries that are formed, and the first that isn't.
-use Rattle.std.proofs.Common.{◌≡◌, ℕ, ◌<◌, arith, sym, ◌∙◌, subst, Result, Ok, Err, IsOk, IfOk, IfErr, Option, None, Some, IfSome}
+use Rattle.std.proofs.Common.{◌≡◌, ℕ, ◌<◌, arith, sym, ◌∙◌, subst, Result, IsOk, Option, None, Some, IfSome}
 use Rattle.dcx_frac.specs.declared.fraction.Frac.{Frac}
 use Rattle.dcx_atom.specs.declared.stops.ValueStop.{ValueStop}
 use Rattle.dcx_atom.specs.declared.stops.ValueStop.TheVariants.{Passes, ZeroDivisor, Memory}
@@ -30,14 +30,6 @@ stop_alike f g n (ZeroDivisor entry) same h = first_alike f g n (ZeroDivisor ent
 stop_alike f g n Memory same h = tt
 
 -- what holds of each value holds of what is there
-pub ok_weaker : {A B : Type 0} {P Q : A → Type 0} (r : Result A B) → ((x : A) → P x → Q x) → IfOk r P → IfOk r Q
-ok_weaker (Ok x) f h = f x h
-ok_weaker (Err e) f h = h
-
-pub err_weaker : {A B : Type 0} {P Q : B → Type 0} (r : Result A B) → ((e : B) → P e → Q e) → IfErr r P → IfErr r Q
-err_weaker (Ok x) f h = h
-err_weaker (Err e) f h = f e h
-
 pub some_weaker : {A : Type 0} {P Q : A → Type 0} (o : Option A) → ((x : A) → P x → Q x) → IfSome o P → IfSome o Q
 some_weaker None f h = h
 some_weaker (Some x) f h = f x h

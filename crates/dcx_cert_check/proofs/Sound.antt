@@ -16,11 +16,10 @@ use Rattle.dcx_call.specs.Values.{given_by}
 use Rattle.dcx_tree.specs.declared.constraint.Constraint.{Constraint}
 use Rattle.dcx_tree.specs.declared.problem.Problem.{Problem}
 use Rattle.dcx_tree.specs.Meaning.{IsFeasible, IsInDomain, convex_constraint, convex_problem, setting_of, point_of}
-use Rattle.dcx_tree.proofs.Lawful.{mapped}
 use Rattle.dcx_domain.specs.Points.{IsInside}
 use Rattle.dcx_domain.proofs.Entries.{entries_hold}
 use Rattle.dcx_domain.proofs.Points.{points_hold}
-use Rattle.dcx_math.proofs.Lists.{holds_at}
+use Rattle.dcx_math.proofs.Lists.{mapped, holds_at}
 use Rattle.dcx_answer.specs.declared.cert_fault.CertFault.{CertFault}
 use Rattle.dcx_answer.specs.declared.cert_fault.CertFault.TheVariants as faults
 use Rattle.dcx_cert_values.proofs.Nonzero.{divisors_hold}

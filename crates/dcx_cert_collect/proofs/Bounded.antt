@@ -28,6 +28,7 @@ use Rattle.dcx_affine.specs.Pairing.{pairs_at}
 use Rattle.dcx_arena.specs.Nodes.{AreNodes, IsNode, call_at, args_at, entries_in, sides_at as sides_of_node}
 use Rattle.dcx_convex.specs.Nodes.{Numbers, Setting, Point, arguments, zeros, value_by}
 use Rattle.dcx_convex.specs.Pairs.{products_at, quotients_at, Pair as CallPair}
+use Rattle.dcx_convex.proofs.Signs.{first_in}
 use Rattle.dcx_call.specs.declared.atoms.AtomCall.{AtomCall}
 use Rattle.dcx_call.specs.declared.call.Call.{Call}
 use Rattle.dcx_call.specs.declared.call.Call.TheVariants as calls
@@ -51,7 +52,7 @@ use Rattle.dcx_cert_collect.proofs.Starting.{start_all}
 use Rattle.dcx_cert_collect.proofs.Passing.{same_Ok, own_count, start_inside, passed_count}
 use Rattle.dcx_cert_collect.proofs.Flat.{frac_value, dot, dot-nil, dot-append, dot-sum, dot-table, flat, flat-place}
 use Rattle.dcx_cert_collect.proofs.Bound.{number_of, IsBefore}
-use Rattle.dcx_cert_collect.proofs.Points.{first_in, at_point, node_value, place_number, some_item}
+use Rattle.dcx_cert_collect.proofs.Points.{at_point, node_value, place_number, some_item}
 use Rattle.dcx_cert_collect.proofs.ArgSides.{two_sides, as_many, args_before, args_there, few_sides}
 use Rattle.dcx_cert_collect.proofs.Worth.{linear_worth, products_worth_right, products_worth_left, quotients_worth, slopes_worth}
 

@@ -20,6 +20,7 @@ use Rattle.dcx_convex.specs.Nodes.{Numbers, Setting, Point}
 use Rattle.dcx_convex.specs.Nodes as convex
 use Rattle.dcx_convex.specs.Certificates.{times}
 use Rattle.dcx_convex.proofs.DualCones.{dual}
+use Rattle.dcx_convex.proofs.Signs.{first_in}
 use Rattle.dcx_call.specs.declared.attribute.Variable.{Variable}
 use Rattle.dcx_call.specs.declared.call.Call.{Call}
 use Rattle.dcx_call.specs.declared.call.Call.TheVariants as calls
@@ -37,7 +38,7 @@ use Rattle.dcx_cert_collect.specs.Pass.{Kept, begin, or_passes, handed, with_bel
 use Rattle.dcx_cert_collect.specs.Laws.{table_times, reached_times, AreKnown, MayReachIn, AreSquareIn, TotalIsABound, TotalShowsAnswers}
 use Rattle.dcx_cert_collect.proofs.Starting.{start_all}
 use Rattle.dcx_cert_collect.proofs.Passing.{same_Ok, node_shape}
-use Rattle.dcx_cert_collect.proofs.Points.{first_in, at_point, node_value}
+use Rattle.dcx_cert_collect.proofs.Points.{at_point, node_value}
 use Rattle.dcx_cert_collect.proofs.Bounded.{parts, step_count, total_bounds}
 use Rattle.dcx_cert_collect.proofs.Multiplied.{start_count, start_lagrangian, start_penalty}
 

@@ -2,7 +2,7 @@
 use Rattle.std.proofs.Common.{◌≡◌, ℕ, zero, suc, ◌+◌, ◌-◌, ◌<◌, ◌≤◌, arith, Bool, true, false, nat_lt, if◌then◌else◌, List, [], ◌∷◌}
 use Rattle.std.proofs.Common.{map, length, All, refl, sym, ap, ◌∙◌, subst, Option, Some, None, slice_get, pos}
 use Rattle.std.specs.Prelude.{option_map, unwrap_or}
-use Rattle.std.proofs.lemmas.Bool.{false≢true, lt-ltb, le-ltb, ltb-true, ltb-false}
+use Rattle.std.proofs.lemmas.Bool.{false≢true, le-ltb, ltb-true, ltb-false}
 use Rattle.std.proofs.lemmas.List.{length-map, get_or_past}
 use Rattle.std.proofs.lemmas.Option.{slice_get-map, slice_get-get_or, get_or_from_slice_get, slice_get_within}
 use Rattle.dcx_math.specs.Rational.{whole}
@@ -29,14 +29,7 @@ use Rattle.dcx_cert_collect.proofs.Starting.{start_next}
 use Rattle.dcx_cert_collect.proofs.Flat.{flat, flat-place}
 use Rattle.dcx_cert_collect.proofs.Bound.{number_of, IsBefore}
 
--- ---- numbers below a size, and 0 from there on
-pub first_in : (n : ℕ) (g : Numbers) (j : ℕ) → j < n → first_of n g j ≡ g j
-first_in n g j b = by (nat_lt j n) (lt-ltb j n b)
-  where
-    by : (t : Bool) → t ≡ true → (if t then g j else whole (pos 0)) ≡ g j
-    by true e = refl
-    by false e = absurd (false≢true e)
-
+-- ---- numbers are 0 from their size on
 pub first_past : (n : ℕ) (g : Numbers) (j : ℕ) → n ≤ j → first_of n g j ≡ whole (pos 0)
 first_past n g j b = by (nat_lt j n) (le-ltb j n b)
   where

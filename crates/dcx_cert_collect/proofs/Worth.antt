@@ -1,5 +1,6 @@
 -- What a node hands on, times the values of its arguments, is at most its coefficients times its value.
-use Rattle.std.proofs.Common.{◌≡◌, ℕ, zero, suc, ◌<◌, arith, List, [], ◌∷◌, map, length, get_or, All, sym, ap, ap₂, ◌∙◌, subst, ⊎_elim, Option, Some, None, Result, Ok, Err, IfOk, slice_get}
+use Rattle.std.proofs.Common.{◌≡◌, ℕ, zero, suc, ◌<◌, arith, List, [], ◌∷◌, map, length, get_or, All, sym, ap, ap₂, ◌∙◌, subst, ⊎_elim, Option, Some, None, Result, Ok, IfOk, slice_get}
+use Rattle.std.proofs.lemmas.Result.{IfOk-weaker}
 use Rattle.dcx_math.specs.Rational.{ℚ, inverse, ◌+ℚ◌, ◌*ℚ◌, ◌/ℚ◌, ◌≤ℚ◌}
 use Rattle.dcx_math.specs.Sums.{rat_sum_below, rat_sum_by}
 use Rattle.dcx_math.proofs.Ring.{ring, reads, /ℚ-is}
@@ -55,18 +56,14 @@ divided v c q n e = ap (λ z. z *ℚ n) (e ∙ /ℚ-is c q) ∙ turn c (inverse 
     turn : (a b d : ℚ) → a *ℚ b *ℚ d ≡ a *ℚ (d *ℚ b)
     turn a b d = ring (a ∷ b ∷ d ∷ []) (search reads depth 30) tt
 
-if_ok : {P Q : Frac → Type 0} (r : Result Frac Passes) → ((x : Frac) → P x → Q x) → IfOk r P → IfOk r Q
-if_ok (Ok x) f h = f x h
-if_ok (Err p) f h = h
-
 product_worth : (c x : Frac) (q n : ℚ) → value x ≡ q → IfOk (product_of c x) (λ v. value v *ℚ n ≡ value c *ℚ (q *ℚ n))
-product_worth c x q n e = if_ok (product_of c x) (λ v h. scaled (value v) (value c) q n (h ∙ ap (λ z. value c *ℚ z) e)) (product_of_is c x).exact
+product_worth c x q n e = IfOk-weaker (product_of c x) _ _ (λ v h. scaled (value v) (value c) q n (h ∙ ap (λ z. value c *ℚ z) e)) (product_of_is c x).exact
 
 product_worth_turned : (c x : Frac) (q n : ℚ) → value x ≡ q → IfOk (product_of c x) (λ v. value v *ℚ n ≡ value c *ℚ (n *ℚ q))
-product_worth_turned c x q n e = if_ok (product_of c x) (λ v h. scaled_turned (value v) (value c) q n (h ∙ ap (λ z. value c *ℚ z) e)) (product_of_is c x).exact
+product_worth_turned c x q n e = IfOk-weaker (product_of c x) _ _ (λ v h. scaled_turned (value v) (value c) q n (h ∙ ap (λ z. value c *ℚ z) e)) (product_of_is c x).exact
 
 quotient_worth : (c x : Frac) (q n : ℚ) → value x ≡ q → IfOk (quotient_of c x) (λ v. value v *ℚ n ≡ value c *ℚ (n /ℚ q))
-quotient_worth c x q n e = if_ok (quotient_of c x) (λ v h. divided (value v) (value c) q n (h ∙ ap (λ z. value c /ℚ z) e)) (quotient_of_is c x).exact
+quotient_worth c x q n e = IfOk-weaker (quotient_of c x) _ _ (λ v h. divided (value v) (value c) q n (h ∙ ap (λ z. value c /ℚ z) e)) (quotient_of_is c x).exact
 
 -- a number at a place
 at_place : (F : Numbers) (place : Option ℕ) (r : Result Frac Passes) (n w : ℚ) → number_of F place ≡ n → IfOk r (λ v. value v *ℚ n ≡ w) → IfOk r (λ v. value v *ℚ number_of F place ≡ w)

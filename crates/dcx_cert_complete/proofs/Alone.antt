@@ -22,6 +22,7 @@ use Rattle.dcx_point.proofs.Puts.{same_name-refl, same_name-true}
 use Rattle.dcx_arena.specs.Nodes.{call_at}
 use Rattle.dcx_convex.specs.Nodes.{Attribute, Free, Nonneg, Nonpos, Symmetric, Diag, Numbers, Point, Keeps, first_of, zeros}
 use Rattle.dcx_convex.specs.Certificates.{times, IsInDualCone}
+use Rattle.dcx_convex.proofs.Signs.{first_in}
 use Rattle.dcx_call.specs.declared.attribute.Variable.{Variable}
 use Rattle.dcx_call.specs.declared.call.Call.{Call}
 use Rattle.dcx_call.specs.declared.call.Call.TheVariants as calls
@@ -35,7 +36,7 @@ use Rattle.dcx_unknowns.specs.Unknowns.{sides_in}
 use Rattle.dcx_unknowns.proofs.Domains.{number_is, to_domain}
 use Rattle.dcx_cert_collect.specs.declared.collected.Reached.{Reached}
 use Rattle.dcx_cert_collect.specs.Laws.{reached_times}
-use Rattle.dcx_cert_collect.proofs.Points.{first_in, first_past}
+use Rattle.dcx_cert_collect.proofs.Points.{first_past}
 use Rattle.dcx_cert_bound.specs.Variables.{is_named, reaching}
 use Rattle.dcx_cert_bound.proofs.Falling.{AreFalling}
 use Rattle.dcx_cert_bound.proofs.Reaching.{bare, listed}

@@ -1,15 +1,15 @@
 -- What bounds a program at all unknowns of their kinds bounds it at all points and unknowns of the graphs.
-use Rattle.std.proofs.Common.{◌≡◌, ℕ, suc, ◌+◌, ◌<◌, arith, Bool, true, false, List, [], ◌∷◌, length, Option, Some, None, slice_get, refl, sym, ap, ap₂, ◌∙◌, subst}
+use Rattle.std.proofs.Common.{◌≡◌, ℕ, ◌+◌, ◌<◌, arith, Bool, true, false, List, length, Option, None, refl, sym, ap, ap₂, ◌∙◌, subst}
 use Rattle.std.proofs.lemmas.Option.{none-some, slice_get_within}
 use Rattle.dcx_point.specs.Pairs.{Pairs}
 use Rattle.dcx_convex.specs.Certificates.{is_fixed}
 use Rattle.dcx_tree.specs.Values.{array_at}
 use Rattle.dcx_cert_build.proofs.Fixed.{unfixed_is_reduced}
 use Rattle.dcx_cert_bound.specs.Fixed.{AreFixedValues}
-use Rattle.dcx_math.specs.Rational.{ℚ, ◌+ℚ◌, ◌-ℚ◌, ◌*ℚ◌}
+use Rattle.dcx_math.specs.Rational.{◌+ℚ◌, ◌-ℚ◌}
 use Rattle.dcx_math.specs.Sums.{IsNonnegative}
 use Rattle.dcx_math.proofs.Orders.{≤ℚ_trans, ≤ℚ-from_≡, +ℚ-≤ℚ_left}
-use Rattle.dcx_math.proofs.Sums.{rat_sum_below-same}
+use Rattle.dcx_math.proofs.Lists.{mapped}
 use Rattle.dcx_shape.specs.Sides.{entries_of}
 use Rattle.dcx_atom.specs.declared.array.Array.{Array}
 use Rattle.dcx_atom.specs.Arrays.{numbers_of}
@@ -17,23 +17,16 @@ use Rattle.dcx_atom.specs.Steps.{rows_before}
 use Rattle.dcx_call.specs.Atoms.{atom_meaning}
 use Rattle.dcx_convex.specs.Nodes.{Numbers}
 use Rattle.dcx_convex.specs.Problems.{Constraint, minimized, gap_of}
-use Rattle.dcx_convex.specs.Answers.{Multipliers, weighed, penalty_of}
+use Rattle.dcx_convex.specs.Answers.{penalty_of}
+use Rattle.dcx_convex.proofs.MapBack.{weighed_same}
 use Rattle.dcx_tree.specs.declared.problem.Problem.{Problem}
 use Rattle.dcx_tree.specs.Nodes.{arg_sides}
 use Rattle.dcx_tree.specs.Meaning.{names_in, sense_of, convex_constraint, convex_problem, setting_of}
-use Rattle.dcx_tree.proofs.Lawful.{mapped}
 use Rattle.dcx_cert_complete.specs.Bounded.{started}
 use Rattle.dcx_cert_complete.specs.Laws.{FormsBoundPrograms}
 use Rattle.dcx_cert_complete.proofs.Families.{first_same, first_rows}
 use Rattle.dcx_cert_complete.proofs.Lifting.{u, of_kinds, family}
 use Rattle.dcx_cert_complete.proofs.Rowwise.{rows_count, rows_within, all_rows}
-
-weighed_same : (f g : Constraint → ℕ → ℚ) (constraints : List Constraint) (m : Multipliers) → ((k : ℕ) (c : Constraint) → slice_get constraints k ≡ Some c → (j : ℕ) → f c j ≡ g c j) →
-    weighed f constraints m ≡ weighed g constraints m
-weighed_same f g [] m h = refl
-weighed_same f g (c ∷ constraints) m h =
-    ap₂ ◌+ℚ◌ (rat_sum_below-same c.size (λ j. m 0 j *ℚ f c j) (λ j. m 0 j *ℚ g c j) (λ j b. ap (λ u. m 0 j *ℚ u) (h 0 c refl j)))
-    (weighed_same f g constraints (λ k. m (suc k)) (λ k. h (suc k)))
 
 module _ (p : Problem) (duals : List Array) (f g : ℕ → Numbers) (same : (i : ℕ) → i < length p.tree → f i ≡ g i) where
   penalty_same : penalty_of (convex_problem p) (numbers_of duals) f ≡ penalty_of (convex_problem p) (numbers_of duals) g

@@ -4,8 +4,8 @@ use Rattle.std.specs.Prelude.{IfOk, if◌then◌else◌}
 use Rattle.std.proofs.lemmas.Bool.{eqb-true}
 use Rattle.dcx_math.specs.Rational.{ℚ, whole, ◌+ℚ◌, ◌*ℚ◌, ◌≤ℚ◌}
 use Rattle.dcx_math.specs.Sums.{IsNonnegative}
-use Rattle.dcx_math.proofs.Ring.{ring, reads}
-use Rattle.dcx_math.proofs.Orders.{≤ℚ_antisym, ≤ℚ-from_≡, <ℚ-not, +ℚ_comm, *ℚ-zero, linear}
+use Rattle.dcx_math.proofs.Ring.{reads}
+use Rattle.dcx_math.proofs.Orders.{≤ℚ_antisym, ≤ℚ-from_≡, <ℚ-not, +ℚ_comm, +ℚ-*ℚ, *ℚ-zero, linear}
 use Rattle.dcx_math.proofs.FieldLaws.{*ℚ-+ℚ}
 use Rattle.dcx_math.proofs.Products.{linear_over}
 use Rattle.dcx_math.proofs.Sums.{rat_sum_below-same, rat_sum_below-+ℚ, rat_sum_below-one}
@@ -86,10 +86,7 @@ module _ (s : Sides) (sq : rows_of s ≡ cols_of s) where
       (rat_sum_below-one n (mirror_of s e) other (mirror_below s sq e b)
       (λ i l d. ap (λ z. c i *ℚ z) (at_other e x (mirror_of s i) (λ h. d (sym (mirror_twice i l) ∙ ap (mirror_of s) h))) ∙ *ℚ-zero (c i))
       ∙ ap (λ z. c (mirror_of s e) *ℚ z) (ap (only_at e x) (mirror_twice e b) ∙ at_itself e x))
-      ∙ gather (c e) (c (mirror_of s e)) x
-    where
-      gather : (p q x : ℚ) → p *ℚ x +ℚ q *ℚ x ≡ (p +ℚ q) *ℚ x
-      gather p q x = ring (p ∷ q ∷ x ∷ []) (search reads depth 30) tt
+      ∙ sym (+ℚ-*ℚ (c e) (c (mirror_of s e)) x)
 
 -- ---- by attribute
 module _ (s : Sides) (cs : List Frac) where

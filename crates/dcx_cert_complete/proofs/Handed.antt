@@ -36,6 +36,7 @@ use Rattle.dcx_affine.specs.Pairing.{pairs_at}
 use Rattle.dcx_arena.specs.Nodes.{AreNodes, IsNode}
 use Rattle.dcx_convex.specs.Nodes.{Numbers, Setting, Point, arguments, zeros}
 use Rattle.dcx_convex.proofs.Told.{map-same}
+use Rattle.dcx_convex.proofs.Signs.{first_in}
 use Rattle.dcx_call.specs.declared.atoms.AtomCall.{AtomCall}
 use Rattle.dcx_call.specs.declared.call.Call.{Call}
 use Rattle.dcx_call.specs.declared.call.Call.TheVariants as calls
@@ -61,7 +62,7 @@ use Rattle.dcx_cert_collect.specs.Laws.{reached_times, HasKnownSide, AreKnown}
 use Rattle.dcx_cert_collect.proofs.Passing.{same_Ok}
 use Rattle.dcx_cert_collect.proofs.Flat.{dot, flat}
 use Rattle.dcx_cert_collect.proofs.Bound.{number_of, IsBefore, worth_of, below_dot, joined_dot, IsWorth}
-use Rattle.dcx_cert_collect.proofs.Points.{first_in, argument_place}
+use Rattle.dcx_cert_collect.proofs.Points.{argument_place}
 use Rattle.dcx_cert_collect.proofs.ArgSides.{two_sides, as_many, args_before, args_there, few_sides}
 use Rattle.dcx_cert_collect.proofs.Worth.{linear_worth, products_worth_right, products_worth_left, quotients_worth}
 use Rattle.dcx_cert_complete.specs.Families.{IsFamily, AreFilled, AreWeighed, atom_rows, call_rows, rows_below, variable_if, variable_numbers}

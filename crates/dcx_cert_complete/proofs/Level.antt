@@ -2,6 +2,7 @@
 use Rattle.std.proofs.Common.{◌≡◌, ℕ, ◌<◌, List, [], ◌∷◌, Some, ap, ap₂, ◌∙◌, refl, subst, pos}
 use Rattle.dcx_math.specs.Rational.{whole, ◌+ℚ◌, ◌*ℚ◌}
 use Rattle.dcx_math.proofs.Orders.{≤ℚ_refl, ≤ℚ-from_≡, *ℚ-zero, +ℚ_idl}
+use Rattle.dcx_math.proofs.Lists.{mapped}
 use Rattle.dcx_shape.specs.declared.shape.Sides.{Sides}
 use Rattle.dcx_shape.specs.Sides.{entries_of}
 use Rattle.dcx_atom.specs.declared.flags.Bend.{Bend}
@@ -23,7 +24,6 @@ use Rattle.dcx_call.specs.declared.call.Call.TheVariants as calls
 use Rattle.dcx_call.specs.Atoms.{atom_meaning, atom_lawful}
 use Rattle.dcx_call.specs.Calls.{shape_of}
 use Rattle.dcx_tree.specs.Nodes.{Names, Node, pairing_call, head_of, arg_sides, convex_node, convex_nodes}
-use Rattle.dcx_tree.proofs.Lawful.{mapped}
 
 -- arguments whose entries are all 0
 abbrev pub nothing : Entries

@@ -6,7 +6,7 @@ use Rattle.std.proofs.lemmas.List.{length-append, length-map, append-nil}
 use Rattle.std.proofs.lemmas.Grind.{flat_map-append}
 use Rattle.std.proofs.lemmas.Option.{slice_get-map, slice_get_within}
 use Rattle.dcx_math.specs.Rational.{ℚ}
-use Rattle.dcx_math.proofs.Lists.{element_at}
+use Rattle.dcx_math.proofs.Lists.{element_at, mapped}
 use Rattle.dcx_frac.specs.declared.fraction.Frac.{Frac}
 use Rattle.dcx_frac.specs.declared.fraction.Passes.{Passes}
 use Rattle.dcx_shape.specs.Sides.{entries_of}
@@ -38,7 +38,7 @@ use Rattle.dcx_lp_answer.specs.Right.{is_inequality, multiplier_at}
 use Rattle.dcx_lp_answer.proofs.Formed.{formed_is_right}
 use Rattle.dcx_std.specs.Solutions.{HasKinds, row_at, linear_program}
 use Rattle.dcx_std.proofs.ScaledProgram.{scaled_program}
-use Rattle.dcx_std.proofs.Solutions.{unmapped_at, facts_of, inequality_there}
+use Rattle.dcx_std.proofs.Solutions.{facts_of, inequality_there}
 use Rattle.dcx_postsolve.proofs.Lists.{behind}
 use Rattle.dcx_cert_sections.specs.declared.weights.NodeWeights.{NodeWeights}
 use Rattle.dcx_cert_outline.specs.Drawn.{call_atoms, atoms_if, atoms_at, problem_outline}
@@ -140,14 +140,14 @@ module _ (p : Problem) (setting : Pairs) (q : Program Frac) (a : LpAnswer) (know
     -- it is an inequality
     inequality : is_inequality is.integer.columns place ≡ true
     inequality =
-        let (row, at, same) = unmapped_at row_at (rows_of q).rows place (bound_row there.0) there.1 in
+        let (row, at, same) = mapped row_at (rows_of q).rows place (bound_row there.0) there.1 in
         let scaled = scaled_program (rows_of q) is.integer is.made in
         inequality_there (rows_of q) is.integer known scaled place (facts_of (rows_of q) is.integer known scaled place row at) (ap (λ x. x.kind) same)
 
     -- something is kept of it
     noted : (note : RowNote) × (slice_get a.rows place ≡ Some note)
     noted =
-        let (row, at, same) = unmapped_at row_at (rows_of q).rows place (bound_row there.0) there.1 in
+        let (row, at, same) = mapped row_at (rows_of q).rows place (bound_row there.0) there.1 in
         let within = slice_get_within (rows_of q).rows place row at in
         let count = (scaled_program (rows_of q) is.integer is.made).count in
         let notes = is.parts.notes in
@@ -170,7 +170,7 @@ module _ (p : Problem) (setting : Pairs) (q : Program Frac) (a : LpAnswer) (know
         let ok : Frac → Result Frac Passes = λ z. Ok z in
         let formed : slice_get (map ok ws) r ≡ Some (graph_multiplier a.status note) =
         ap (λ l. slice_get l r) found ∙ slice_get-map (graph_multiplier a.status) (filter_map (note_of i) (zip q.origins a.rows)) r ∙ ap (option_map (graph_multiplier a.status)) (chosen ∙ at) in
-        let (x, stands, told) = unmapped_at ok ws r (graph_multiplier a.status note) formed in
+        let (x, stands, told) = mapped ok ws r (graph_multiplier a.status note) formed in
         number_there ws r x stands ∙ formed_is_right is.integer.columns a place note AtMost x at inequality (sym told)
 
   -- the weights that are built are the multipliers of the rows

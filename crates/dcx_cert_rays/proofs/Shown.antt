@@ -1,12 +1,12 @@
 -- A ray that passes its checks is one along which the problem is unbounded.
 use Rattle.std.proofs.Common.{◌<◌, subst}
 use Rattle.std.proofs.lemmas.Option.{slice_get_within}
+use Rattle.dcx_math.proofs.Lists.{mapped}
 use Rattle.dcx_point.specs.Pairs.{Pairs}
 use Rattle.dcx_convex.specs.Problems as convex
 use Rattle.dcx_convex.specs.Problems.{EachRow, Holds, gap_of}
 use Rattle.dcx_tree.specs.declared.problem.Problem.{Problem}
 use Rattle.dcx_tree.specs.Meaning.{convex_constraint, convex_problem, setting_of, point_of}
-use Rattle.dcx_tree.proofs.Lawful.{mapped}
 use Rattle.dcx_right.proofs.RayLawsHold.{rays_show}
 use Rattle.dcx_cert_rays.specs.Steepness.{steepness_at}
 use Rattle.dcx_cert_rays.specs.Rays.{constraint_check, constraints_check}

@@ -1,5 +1,5 @@
 -- What is told of nodes, read off the lists of a node's arguments.
-use Rattle.std.proofs.Common.{◌≡◌, ℕ, zero, suc, IsTrue, Bool, List, [], ◌∷◌, length, map, All, refl, ap, ap₂, pos}
+use Rattle.std.proofs.Common.{◌≡◌, ℕ, zero, suc, IsTrue, Bool, ◌&&◌, List, [], ◌∷◌, length, map, All, refl, ap, ap₂, pos}
 use Rattle.std.specs.List.{list_all}
 use Rattle.std.proofs.lemmas.Bool.{and_parts, false≢true}
 use Rattle.std.proofs.lemmas.List.Elements.{All-head, All-tail}
@@ -27,6 +27,11 @@ args_signed judged values h (i ∷ args) (suc k) e = args_signed judged values h
 pub count_of : {A B : Type 0} (f : ℕ → A) (g : A → B) (args : List ℕ) → length (map g (map f args)) ≡ length args
 count_of f g [] = refl
 count_of f g (i ∷ args) = ap suc (count_of f g args)
+
+-- where a test says the same at each position, it says the same of all arguments
+pub tests_same : (test : Judgement → Bool) (f g : ℕ → Judgement) → ((i : ℕ) → test (f i) ≡ test (g i)) → (args : List ℕ) → list_all test (map f args) ≡ list_all test (map g args)
+tests_same test f g h [] = refl
+tests_same test f g h (i ∷ args) = ap₂ ◌&&◌ (h i) (tests_same test f g h args)
 
 module _ (judged : ℕ → Judgement) (u v : ℕ → Numbers) (Q : ℕ → Type 0) where
   -- where u and v agree at the positions that pass a test, they agree at arguments that all do

@@ -1,6 +1,6 @@
 -- A certificate bounds what its coefficients start from, at every point of the domain.
-use Rattle.std.proofs.Common.{◌≡◌, ℕ, ◌<◌, Bool, true, false, IsTrue, IsFalse, nat_lt, if◌then◌else◌, List, [], ◌∷◌, length, map, Option, Some, None, slice_get, refl, sym, ap, ◌∙◌, pos}
-use Rattle.std.proofs.lemmas.Bool.{false≢true, lt-ltb}
+use Rattle.std.proofs.Common.{◌≡◌, ℕ, Bool, true, false, IsTrue, IsFalse, if◌then◌else◌, List, [], ◌∷◌, length, map, Option, Some, None, slice_get, refl, sym, ap, ◌∙◌, pos}
+use Rattle.std.proofs.lemmas.Bool.{false≢true}
 use Rattle.dcx_math.specs.Rational.{ℚ, whole, ◌+ℚ◌, ◌*ℚ◌, ◌≤ℚ◌}
 use Rattle.dcx_math.specs.Sums.{rat_sum_below}
 use Rattle.dcx_math.proofs.Ring.{reads}
@@ -11,19 +11,11 @@ use Rattle.dcx_convex.specs.Nodes.{Head, Variable, Parameter, Constant, Apply, N
 use Rattle.dcx_convex.specs.Rules.{Plain, judgement_by, judgement_at}
 use Rattle.dcx_convex.specs.Certificates.{size_of, size_if, size_at, Coefficients, Slopes, times, is_fixed, handed_by, handed_if, handed_at, AreCollected, MayHandOn, given_at, IsCertificate, total}
 use Rattle.dcx_convex.proofs.Told.{value_tells, judgement_tells}
-use Rattle.dcx_convex.proofs.Signs.{value_fixed}
+use Rattle.dcx_convex.proofs.Signs.{first_in, value_fixed}
 use Rattle.dcx_convex.proofs.Arguments.{fixed_argument_same}
 
--- below its size an array is what it is made of
-first_is : (n : ℕ) (f : Numbers) (j : ℕ) → j < n → first_of n f j ≡ f j
-first_is n f j b = by (nat_lt j n) (lt-ltb j n b)
-  where
-    by : (t : Bool) → t ≡ true → (if t then f j else whole (pos 0)) ≡ f j
-    by true e = refl
-    by false e = absurd (false≢true e)
-
 times_first : (n : ℕ) (c f : Numbers) → times n c (first_of n f) ≡ times n c f
-times_first n c f = rat_sum_below-same n (λ e. c e *ℚ first_of n f e) (λ e. c e *ℚ f e) (λ j b. ap (λ u. c j *ℚ u) (first_is n f j b))
+times_first n c f = rat_sum_below-same n (λ e. c e *ℚ first_of n f e) (λ e. c e *ℚ f e) (λ j b. ap (λ u. c j *ℚ u) (first_in n f j b))
 
 settle : (t h l c : ℚ) → c ≡ l +ℚ h → t +ℚ h ≤ℚ c → t ≤ℚ l
 settle t h l c e k = linear (t ∷ h ∷ l ∷ c ∷ []) (+ℚ-≤ℚ k (≤ℚ-from_≡ e)) (search reads depth 30) tt

@@ -11,6 +11,7 @@ use Rattle.dcx_convex.specs.Nodes.{Head, Variable, Parameter, Constant, Apply, N
 use Rattle.dcx_convex.specs.Rules.{Plain, Parametrized, Judgement, is_constant, is_affine, is_bent, opposite, no_argument}
 use Rattle.dcx_convex.specs.Rules.{argument, scales, bends, suits, all_suit, is_bent_call, judgement_by, judgement_at}
 use Rattle.dcx_convex.specs.Problems.{Sense, Minimize, Maximize, Relation, AtMost, Equal, Constraint, Problem, may_be_objective, may_be_sides, accepted_by, IsAccepted}
+use Rattle.dcx_convex.proofs.Arguments.{tests_same}
 
 -- the first judgement says no more than the second, and the same of signs and of what is reached
 record Refines (g h : Judgement) : Type 0 where
@@ -65,14 +66,6 @@ module _ (f g : ℕ → Judgement) (r : (i : ℕ) → Refines (f i) (g i)) where
   signs_same [] = refl
   signs_same (i ∷ args) = ap₂ ◌∷◌ (r i).sign (signs_same args)
 
-  fixed_same : (args : List ℕ) → list_all (λ x. x.fixed) (map f args) ≡ list_all (λ x. x.fixed) (map g args)
-  fixed_same [] = refl
-  fixed_same (i ∷ args) = ap₂ ◌&&◌ (r i).fixed (fixed_same args)
-
-  unparametrized_same : (args : List ℕ) → list_all (λ x. x.unparametrized) (map f args) ≡ list_all (λ x. x.unparametrized) (map g args)
-  unparametrized_same [] = refl
-  unparametrized_same (i ∷ args) = ap₂ ◌&&◌ (r i).unparametrized (unparametrized_same args)
-
   at_argument : (args : List ℕ) (k : ℕ) → Refines (argument (map f args) k) (argument (map g args) k)
   at_argument [] k = same no_argument
   at_argument (i ∷ args) zero = r i
@@ -122,8 +115,8 @@ module _ (f g : ℕ → Judgement) (r : (i : ℕ) → Refines (f i) (g i)) where
   head_refines (Constant xs) args = record { sign = refl; fixed = refl; unparametrized = refl; convex = λ t. t; concave = λ t. t }
   head_refines (Apply c) args = record {
     sign = ap c.sign (signs_same args);
-    fixed = fixed_same args;
-    unparametrized = unparametrized_same args;
+    fixed = tests_same (λ x. x.fixed) f g (λ i. (r i).fixed) args;
+    unparametrized = tests_same (λ x. x.unparametrized) f g (λ i. (r i).unparametrized) args;
     convex = bent_call c Convex args;
     concave = bent_call c Concave args;
   }

@@ -1,10 +1,10 @@
 -- The coefficients that may reach a variable are in the dual cone of its attribute.
-use Rattle.std.proofs.Common.{◌≡◌, inl, inr, ℕ, zero, suc, ◌+◌, ◌*◌, ◌<◌, arith, [], ◌∷◌, sym, ap, ◌∙◌, subst, pos}
+use Rattle.std.proofs.Common.{◌≡◌, inl, inr, ℕ, zero, suc, ◌+◌, ◌*◌, ◌<◌, arith, zero-mul, suc-mul, [], ◌∷◌, sym, ap, ◌∙◌, subst, pos}
 use Rattle.std.proofs.lemmas.Bool.{cases_eq}
 use Rattle.dcx_math.specs.Rational.{ℚ, whole, ◌+ℚ◌, ◌*ℚ◌, ◌≤ℚ◌}
 use Rattle.dcx_math.specs.Sums.{rat_sum_below}
-use Rattle.dcx_math.proofs.Ring.{ring, reads}
-use Rattle.dcx_math.proofs.Orders.{≤ℚ_trans, ≤ℚ-from_≡, ≤ℚ_total, linear, +ℚ_assoc, +ℚ_idr, zero-*ℚ, *ℚ-zero}
+use Rattle.dcx_math.proofs.Ring.{reads}
+use Rattle.dcx_math.proofs.Orders.{≤ℚ_trans, ≤ℚ-from_≡, ≤ℚ_total, linear, +ℚ_assoc, +ℚ_idr, +ℚ-*ℚ, zero-*ℚ, *ℚ-zero}
 use Rattle.dcx_math.proofs.Products.{*ℚ-nonnegative, *ℚ-nonnegative_both_negative}
 use Rattle.dcx_math.proofs.Sums.{rat_sum_below-same, rat_sum_below-+ℚ, rat_sum_below-zero, rat_sum_below-nonnegative, rat_sum_below-exchange}
 use Rattle.dcx_shape.specs.declared.shape.Sides.{Sides}
@@ -23,14 +23,8 @@ split a (suc b) f =
     ap (λ n. rat_sum_below n f) e ∙ ap (λ u. u +ℚ f (a + b)) (split a b f) ∙ +ℚ_assoc (rat_sum_below a f) (rat_sum_below b (λ j. f (a + j))) (f (a + b))
 
 by_rows : (m n : ℕ) (f : Numbers) → rat_sum_below (m * n) f ≡ rat_sum_below m (λ i. rat_sum_below n (λ j. f (i * n + j)))
-by_rows zero n f = ap (λ k. rat_sum_below k f) (zero_rows n)
-  where
-    zero_rows : (n : ℕ) → 0 * n ≡ 0
-    zero_rows n = grind arith
-by_rows (suc m) n f = ap (λ k. rat_sum_below k f) (more_rows m n) ∙ split (m * n) n f ∙ ap (λ u. u +ℚ rat_sum_below n (λ j. f (m * n + j))) (by_rows m n f)
-  where
-    more_rows : (m n : ℕ) → suc m * n ≡ m * n + n
-    more_rows m n = grind arith
+by_rows zero n f = ap (λ k. rat_sum_below k f) (zero-mul n)
+by_rows (suc m) n f = ap (λ k. rat_sum_below k f) (suc-mul m n) ∙ split (m * n) n f ∙ ap (λ u. u +ℚ rat_sum_below n (λ j. f (m * n + j))) (by_rows m n f)
 
 -- the sum over the entries, by row and column
 by_entries : (sides : Sides) (c x : Numbers) → times (entries_of sides) c x ≡ rat_sum_below (rows_of sides) (λ i. rat_sum_below (cols_of sides) (λ j. entry_at sides c i j *ℚ entry_at sides x i j))
@@ -51,10 +45,7 @@ from_double x e =
     ]
 
 pair_zero : (a b x y : ℚ) → a +ℚ b ≡ whole (pos 0) → x ≡ y → a *ℚ x +ℚ b *ℚ y ≡ whole (pos 0)
-pair_zero a b x y e f = ap (λ u. a *ℚ x +ℚ b *ℚ u) (sym f) ∙ apart a b x ∙ ap (λ u. u *ℚ x) e ∙ zero-*ℚ x
-  where
-    apart : (a b x : ℚ) → a *ℚ x +ℚ b *ℚ x ≡ (a +ℚ b) *ℚ x
-    apart a b x = ring (a ∷ b ∷ x ∷ []) (search reads depth 30) tt
+pair_zero a b x y e f = ap (λ u. a *ℚ x +ℚ b *ℚ u) (sym f) ∙ sym (+ℚ-*ℚ a b x) ∙ ap (λ u. u *ℚ x) e ∙ zero-*ℚ x
 
 symmetric_zero : (n : ℕ) (c x : ℕ → Numbers) → ((i j : ℕ) → i < n → j < n → c i j +ℚ c j i ≡ whole (pos 0)) → ((i j : ℕ) → i < n → j < n → x i j ≡ x j i) →
     whole (pos 0) ≤ℚ rat_sum_below n (λ i. rat_sum_below n (λ j. c i j *ℚ x i j))

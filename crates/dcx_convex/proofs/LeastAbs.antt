@@ -1,12 +1,12 @@
 -- The reduced program of the least abs(x), and its answer.
-use Rattle.std.proofs.Common.{◌≡◌, inl, inr, ℕ, zero, suc, ◌<◌, arith, IsFalse, [], ◌∷◌, length, map, if◌then◌else◌, refl, sym, ap, subst, pos, All}
+use Rattle.std.proofs.Common.{◌≡◌, inl, inr, ℕ, zero, suc, ◌<◌, arith, IsFalse, [], ◌∷◌, length, map, if◌then◌else◌, refl, sym, ap, ◌∙◌, subst, pos, All}
 use Rattle.std.proofs.lemmas.Bool.{false≢true, eqb-true}
 use Rattle.std.proofs.lemmas.Option.{none-some, same_Some}
 use Rattle.std.proofs.lemmas.List.Elements.{All-nil, All-cons}
 use Rattle.dcx_math.specs.Rational.{ℚ, whole, ◌+ℚ◌, ◌-ℚ◌, ◌*ℚ◌, neg_ℚ, rat_abs, ◌≤ℚ◌}
 use Rattle.dcx_math.specs.Sums.{IsNonnegative}
 use Rattle.dcx_math.proofs.Ring.{ring, reads}
-use Rattle.dcx_math.proofs.Orders.{≤ℚ_refl, ≤ℚ_trans, ≤ℚ-from_≡, linear, neg_ℚ-≤ℚ, -ℚ-nonpositive}
+use Rattle.dcx_math.proofs.Orders.{≤ℚ_refl, ≤ℚ_trans, ≤ℚ-from_≡, linear, +ℚ_idl, zero-*ℚ, neg_ℚ-≤ℚ, -ℚ-nonpositive}
 use Rattle.dcx_math.proofs.Bounds.{rat_abs-≤ℚ, ≤ℚ-rat_abs, neg_ℚ-≤ℚ-rat_abs, rat_abs-nonnegative, rat_abs-convex}
 use Rattle.dcx_atom.specs.declared.flags.Sign.{Sign}
 use Rattle.dcx_atom.specs.declared.flags.Bend.{Bend}
@@ -151,16 +151,13 @@ collected f = one (f 0 0) (f 1 0)
         ≡ (t +ℚ whole (pos 0)) +ℚ ((whole (pos 0) +ℚ whole (pos 0)) +ℚ (whole (pos 0) +ℚ (whole (pos 0) +ℚ whole (pos 0) *ℚ x)))
     one x t = ring (x ∷ t ∷ []) (search reads depth 30) tt
 
-nothing : (x : ℚ) → whole (pos 0) ≡ whole (pos 0) +ℚ whole (pos 0) *ℚ x
-nothing x = ring (x ∷ []) (search reads depth 30) tt
-
 flat : (x t : ℚ) → whole (pos 0) ≤ℚ t → whole (pos 0) +ℚ (whole (pos 0) +ℚ whole (pos 0) *ℚ x) ≤ℚ whole (pos 0) +ℚ whole (pos 1) *ℚ t
 flat x t h = linear (x ∷ t ∷ []) h (search reads depth 30) tt
 
 handed : (s : Setting) (i : ℕ) (n : Node) → IsNode least_abs.nodes i n → IsFalse (is_fixed least_abs.nodes i)
     → MayHandOn least_abs.nodes (given_at least_abs.nodes s) n.head n.args (least_abs_coefficients i) (no_slopes i)
 handed s i n e loose =
-    each (λ i n. MayHandOn least_abs.nodes (given_at least_abs.nodes s) n.head n.args (least_abs_coefficients i) (no_slopes i)) (λ x _. ≤ℚ-from_≡ (nothing (x 0)))
+    each (λ i n. MayHandOn least_abs.nodes (given_at least_abs.nodes s) n.head n.args (least_abs_coefficients i) (no_slopes i)) (λ x _. ≤ℚ-from_≡ (sym (+ℚ_idl (whole (pos 0) *ℚ x 0) ∙ zero-*ℚ (x 0))))
     (λ a _. flat (a 0 0) (rat_abs (a 0 0)) (rat_abs-nonnegative (a 0 0))) i n e
 
 reaches : whole (pos 0) ≤ℚ (whole (pos 0) +ℚ whole (pos 0)) +ℚ whole (pos 0)

@@ -1,7 +1,7 @@
 -- The sign of a node is true of its value, and a node that reaches no variable has one value.
 use Rattle.std.proofs.Common.{◌≡◌, ℕ, zero, suc, ◌<◌, Bool, true, false, IsTrue, nat_lt, if◌then◌else◌, List, [], ◌∷◌, length, map, Option, Some, None, slice_get, refl, ap, pos}
 use Rattle.std.specs.List.{list_all}
-use Rattle.std.proofs.lemmas.Bool.{ltb-true, and_parts, false≢true}
+use Rattle.std.proofs.lemmas.Bool.{ltb-true, lt-ltb, and_parts, false≢true}
 use Rattle.dcx_math.specs.Rational.{ℚ, whole, rat_le, ◌≤ℚ◌}
 use Rattle.dcx_math.specs.Sums.{rat_at}
 use Rattle.dcx_math.proofs.Orders.{≤ℚ_refl}
@@ -23,6 +23,10 @@ at_test n j P f g = by (nat_lt j n) refl
     by : (b : Bool) → nat_lt j n ≡ b → P b
     by true e = f (ltb-true j n e)
     by false e = g
+
+-- below the size the array is what it is made of
+pub first_in : (n : ℕ) (f : Numbers) (j : ℕ) → j < n → first_of n f j ≡ f j
+first_in n f j b = ap (λ t. if t then f j else whole (pos 0)) (lt-ltb j n b)
 
 pub first_signed : (s : Sign) (n : ℕ) (f : Numbers) → ((j : ℕ) → j < n → HasSign s (f j)) → (j : ℕ) → HasSign s (first_of n f j)
 first_signed s n f h j = at_test n j (λ b. HasSign s (if b then f j else whole (pos 0))) (h j) (zero_signed s)

@@ -5,6 +5,7 @@ use Rattle.std.specs.List.{slice_get, All}
 use Rattle.std.proofs.Math.Logic.{∥∥₁_elim}
 use Rattle.std.proofs.lemmas.Option.{slice_get-map, slice_get-get_or, slice_get_within, get_or_from_slice_get}
 use Rattle.dcx_math.proofs.Orders.{≤ℚ_prop, ≡ℚ_prop}
+use Rattle.dcx_math.proofs.Lists.{mapped}
 use Rattle.dcx_shape.specs.declared.shape.Sides.{Sides}
 use Rattle.dcx_shape.specs.Shape.{sides_of}
 use Rattle.dcx_point.specs.Pairs.{Pairs}
@@ -25,7 +26,6 @@ use Rattle.dcx_call.specs.Values.{given_by}
 use Rattle.dcx_tree.specs.Nodes.{Names, Node, variable_attribute, head_of, arg_sides, convex_node, convex_nodes, numbers_by, number_in}
 use Rattle.dcx_tree.specs.Problems.{IsListed, AreDeclared}
 use Rattle.dcx_tree.specs.Meaning.{names_in, point_of}
-use Rattle.dcx_tree.proofs.Lawful.{mapped}
 use Rattle.dcx_tree.proofs.Names.{found_in}
 use Rattle.dcx_tree.proofs.Sublists.{contains_at}
 use Rattle.dcx_tree.proofs.Values.{taken}

@@ -1,6 +1,7 @@
 -- Where no entry of a divisor is 0, nothing is divided by 0.
 use Rattle.std.proofs.Common.{◌≡◌, ◌≢◌, ℕ, ◌<◌, map, refl, subst, pos}
 use Rattle.dcx_math.specs.Rational.{whole}
+use Rattle.dcx_math.proofs.Lists.{mapped}
 use Rattle.dcx_shape.specs.Sides.{entries_of}
 use Rattle.dcx_affine.specs.declared.pairing.Pairing.TheVariants.{Times, MatTimes, Over}
 use Rattle.dcx_arena.specs.Nodes.{IsNode}
@@ -11,7 +12,6 @@ use Rattle.dcx_call.specs.declared.call.Call.TheVariants as calls
 use Rattle.dcx_tree.specs.declared.problem.Problem.{Problem}
 use Rattle.dcx_tree.specs.Nodes.{Node, head_of, arg_sides, convex_node}
 use Rattle.dcx_tree.specs.Meaning.{names_in, convex_problem, value_at as problem_value}
-use Rattle.dcx_tree.proofs.Lawful.{mapped}
 use Rattle.dcx_fit.specs.Laws.{DividesByNoZero}
 
 module _ (p : Problem) (s : Setting) (nonzero : (x : Point) (i : ℕ) (n : Node) → IsNode p.tree i n → n.call ≡ calls.Pairing Over → (j : ℕ) → j < entries_of n.sides →

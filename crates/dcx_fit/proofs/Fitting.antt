@@ -20,13 +20,12 @@ use Rattle.dcx_call.specs.Values.{given_by}
 use Rattle.dcx_tree.specs.Nodes.{Names, Node, attribute_of, head_of, arg_sides, convex_node, convex_nodes, numbers_by}
 use Rattle.dcx_tree.specs.Problems.{IsListed, AreDeclared}
 use Rattle.dcx_tree.specs.Meaning.{names_in, setting_of}
-use Rattle.dcx_tree.proofs.Lawful.{mapped}
 use Rattle.dcx_tree.proofs.Names.{found_in}
 use Rattle.dcx_tree.proofs.Sublists.{contains_at}
 use Rattle.dcx_tree.proofs.Values.{taken}
 use Rattle.dcx_domain.proofs.Points.{same_attribute, within_prop}
 use Rattle.dcx_fit.specs.Laws.{HoldsForFitting}
-use Rattle.dcx_math.proofs.Lists.{holds_at}
+use Rattle.dcx_math.proofs.Lists.{mapped, holds_at}
 
 -- the numbers that the setting gives the parameter are as its attribute demands
 abbrev KeptBy : Pairs → Parameter → Type 0

@@ -6,7 +6,7 @@ use Rattle.std.proofs.lemmas.List.Elements.{All-head}
 use Rattle.dcx_math.specs.Rational.{ℚ, whole, neg_ℚ, ◌+ℚ◌, ◌-ℚ◌, ◌*ℚ◌, ◌≤ℚ◌, rat_abs}
 use Rattle.dcx_math.specs.Sums.{IsNonnegative, rat_sum, rat_sum_below}
 use Rattle.dcx_math.proofs.Ring.{ring, reads}
-use Rattle.dcx_math.proofs.Orders.{≤ℚ_refl, ≤ℚ_trans, ≤ℚ-from_≡, neg_ℚ-≤ℚ, +ℚ_idl, +ℚ_idr, *ℚ_idl, *ℚ-≤ℚ, linear}
+use Rattle.dcx_math.proofs.Orders.{≤ℚ_refl, ≤ℚ_trans, ≤ℚ-from_≡, neg_ℚ-≤ℚ, +ℚ_idl, +ℚ_idr, *ℚ_idl, *ℚ-≤ℚ, linear, +ℚ-*ℚ}
 use Rattle.dcx_math.proofs.Bounds.{≤ℚ-rat_abs, neg_ℚ-≤ℚ-rat_abs, rat_abs-≤ℚ, rat_abs-nonnegative, rat_abs-of_nonnegative, rat_abs-of_nonpositive}
 use Rattle.dcx_math.proofs.Sums.{rat_sum_below-same, rat_sum_below-monotone, rat_sum_below-nonnegative, rat_sum_below-*ℚ, rat_sum_below-+ℚ}
 use Rattle.dcx_shape.specs.declared.shape.Sides.{Sides}
@@ -303,12 +303,9 @@ taken_of_group p axis s k w t =
 both_taken_convex : (x y t : ℚ) → neg_ℚ (x *ℚ t) +ℚ neg_ℚ (y *ℚ t) ≡ neg_ℚ ((x +ℚ y) *ℚ t)
 both_taken_convex x y t = ring (x ∷ y ∷ t ∷ []) (search reads depth 30) tt
 
-both_taken_concave : (x y t : ℚ) → x *ℚ t +ℚ y *ℚ t ≡ (x +ℚ y) *ℚ t
-both_taken_concave x y t = ring (x ∷ y ∷ t ∷ []) (search reads depth 30) tt
-
 both_taken : (bend : Bend) (x y t : ℚ) → taken bend x t +ℚ taken bend y t ≡ taken bend (x +ℚ y) t
 both_taken Convex x y t = both_taken_convex x y t
-both_taken Concave x y t = both_taken_concave x y t
+both_taken Concave x y t = sym (+ℚ-*ℚ x y t)
 
 pub all_taken : (bend : Bend) (n : ℕ) (f : ℕ → ℚ) (t : ℚ) → rat_sum_below n (λ i. taken bend (f i) t) ≡ taken bend (rat_sum_below n f) t
 all_taken bend zero f t = nothing_taken bend t

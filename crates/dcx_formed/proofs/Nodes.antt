@@ -32,6 +32,7 @@ use Rattle.dcx_convex.specs.Rules.{Rules, Judgement, is_constant, is_affine, arg
 use Rattle.dcx_convex.specs.Problems.{accepted_by}
 use Rattle.dcx_convex.specs.Reductions.{Unknowns}
 use Rattle.dcx_convex.proofs.Told.{judgement_tells}
+use Rattle.dcx_convex.proofs.Signs.{first_in}
 use Rattle.dcx_call.specs.declared.attribute.Variable.{Variable}
 use Rattle.dcx_call.specs.declared.attribute.Parameter.{Parameter}
 use Rattle.dcx_call.specs.declared.call.Call.{Call}
@@ -57,7 +58,6 @@ use Rattle.dcx_unknowns.specs.Layout.{is_reduced, first_aux}
 use Rattle.dcx_unknowns.specs.Equations.{Forms, call_entry, filling_of, entry_by, Stands}
 use Rattle.dcx_unknowns.proofs.Constants.{call_constant}
 use Rattle.dcx_unknowns.proofs.CallGraphs.{IsReducible}
-use Rattle.dcx_unknowns.proofs.Points.{below as first_below}
 use Rattle.dcx_unknowns.proofs.NodeForms.{nodes_of, nodes_ordered, node_at, not_constant, reducible}
 use Rattle.dcx_entries.specs.declared.entries.EntryForms.{EntryForms}
 use Rattle.dcx_entries.specs.declared.scaling.Scaling.{Scaling}
@@ -258,7 +258,7 @@ module _ {C : Type 0} (value_at : C → Parameters → ℚ) (of_number : Frac �
         let k = number_of_name (names_in p).variables v.name in
         let first = first_unknown p.variables k in
         where_declared p i n v at is (number_at u (unknown_from first v j)) (point_at p.variables u k j) (λ there.
-        sym (first_below (entries_of (sides_in v)) (λ j. number_at u (unknown_from first v j)) j
+        sym (first_in (entries_of (sides_in v)) (λ j. number_at u (unknown_from first v j)) j
         (subst (λ (r : Sides). j < entries_of r) (sym (own_is (sides_in v) (arg_sides p.tree n) n.sides shape)) b))
         ∙ sym (ap (λ o. array_from u first o j) there))
 

@@ -1,8 +1,6 @@
 -- Nodes that reach no parameter have one value at all settings, and the sign of a node that reaches nothing is true of its
 -- value, whatever the setting and the point are.
-use Rattle.std.proofs.Common.{◌≡◌, ℕ, zero, suc, IsTrue, List, [], ◌∷◌, map, Option, Some, None, slice_get, refl, ap, ap₂, ◌∙◌, pos}
-use Rattle.std.specs.Prelude.{◌&&◌}
-use Rattle.std.specs.List.{list_all}
+use Rattle.std.proofs.Common.{◌≡◌, ℕ, zero, suc, IsTrue, List, map, Option, Some, None, slice_get, refl, ap, ◌∙◌, pos}
 use Rattle.std.proofs.lemmas.Bool.{and_parts, false≢true}
 use Rattle.dcx_math.specs.Rational.{whole}
 use Rattle.dcx_math.proofs.Orders.{≤ℚ_refl, ≤ℚ_antisym}
@@ -11,7 +9,7 @@ use Rattle.dcx_convex.specs.Nodes.{Attribute, Free, Nonneg, Nonpos, Symmetric, D
 use Rattle.dcx_convex.specs.Nodes.{told_within, zeros, first_of, arguments, value_by, value_at, Keeps, VariableKeeps, ParameterKeeps, AreLawful}
 use Rattle.dcx_convex.specs.Rules.{Rules, Plain, Judgement, no_argument, judgement_by, judgement_at}
 use Rattle.dcx_convex.specs.Pairs.{is_zero}
-use Rattle.dcx_convex.proofs.Arguments.{args_same}
+use Rattle.dcx_convex.proofs.Arguments.{args_same, tests_same}
 use Rattle.dcx_convex.proofs.Signs.{value_signed}
 use Rattle.dcx_convex.proofs.LawsHold.{constants_are_fixed}
 
@@ -44,15 +42,11 @@ value_settled rules nodes s t x i b = settled_within rules nodes s t x (suc i) i
 
 -- ---- what is reached is the same by both rules
 module _ (f g : ℕ → Judgement) (h : (i : ℕ) → (f i).fixed ≡ (g i).fixed) where
-  all_alike : (args : List ℕ) → list_all (λ x. x.fixed) (map f args) ≡ list_all (λ x. x.fixed) (map g args)
-  all_alike [] = refl
-  all_alike (i ∷ args) = ap₂ ◌&&◌ (h i) (all_alike args)
-
   head_alike : (rules : Rules) (head : Head) (args : List ℕ) → (judgement_by rules head (map f args)).fixed ≡ (judgement_by Plain head (map g args)).fixed
   head_alike rules (Variable d) args = refl
   head_alike rules (Parameter d) args = refl
   head_alike rules (Constant xs) args = refl
-  head_alike rules (Apply c) args = all_alike args
+  head_alike rules (Apply c) args = tests_same (λ x. x.fixed) f g h args
 
 fixed_within : (rules : Rules) (nodes : List Node) (n i : ℕ) → (told_within no_argument (judgement_by rules) nodes n i).fixed ≡ (told_within no_argument (judgement_by Plain) nodes n i).fixed
 fixed_within rules nodes zero i = refl

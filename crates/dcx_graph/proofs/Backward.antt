@@ -1,6 +1,7 @@
 -- Answers of the linear program of a problem are answers of the problem.
 use Rattle.std.proofs.Common.{ℕ, ◌<◌, arith, length, subst}
 use Rattle.std.proofs.lemmas.List.{length-map}
+use Rattle.dcx_math.proofs.Lists.{mapped}
 use Rattle.dcx_convex.specs.Nodes.{Point}
 use Rattle.dcx_convex.specs.Problems as convex
 use Rattle.dcx_convex.specs.Problems.{accepted_by}
@@ -10,7 +11,7 @@ use Rattle.dcx_tree.specs.declared.problem.Problem.{Problem}
 use Rattle.dcx_tree.specs.Nodes.{convex_node}
 use Rattle.dcx_tree.specs.Meaning as meaning
 use Rattle.dcx_tree.specs.Meaning.{names_in, convex_problem, convex_constraint, Fits}
-use Rattle.dcx_tree.proofs.Lawful.{mapped, tree_lawful}
+use Rattle.dcx_tree.proofs.Lawful.{tree_lawful}
 use Rattle.dcx_unknowns.specs.Unknowns.{point_at}
 use Rattle.dcx_postsolve.specs.Programs.{multipliers_of}
 use Rattle.dcx_postsolve.proofs.CarryingLawsHold as program

@@ -7,6 +7,7 @@ use Rattle.std.proofs.lemmas.List.{length-map}
 use Rattle.std.proofs.lemmas.List.Sums.{sum_by-cons}
 use Rattle.std.proofs.lemmas.Option.{none-some, same_Some}
 use Rattle.dcx_math.specs.Rational.{ℚ}
+use Rattle.dcx_math.proofs.Lists.{mapped}
 use Rattle.dcx_atom.specs.Arrays.{list_below}
 use Rattle.dcx_atom.proofs.BoundRows.{length-list_below}
 use Rattle.dcx_convex.specs.Nodes.{Numbers}
@@ -26,7 +27,7 @@ use Rattle.dcx_std.specs.GivenRows.{GivenRows}
 use Rattle.dcx_std.specs.IntegerRows.{IsMade}
 use Rattle.dcx_std.specs.Solutions.{HasKinds, row_at, linear_program}
 use Rattle.dcx_std.proofs.ScaledProgram.{scaled_program}
-use Rattle.dcx_std.proofs.Solutions.{unmapped_at, facts_of, no_slack, inequality_there}
+use Rattle.dcx_std.proofs.Solutions.{facts_of, no_slack, inequality_there}
 use Rattle.dcx_unknowns.specs.Layout.{constraint_rows}
 use Rattle.dcx_postsolve.specs.Programs.{kind_of, gap_row, gap_rows, multipliers_from}
 use Rattle.dcx_postsolve.proofs.Rows.{AllFrom, all_left, all_right, all_below}
@@ -100,7 +101,7 @@ module _ (rows : GivenRows) (q : Program) (known : HasKinds rows) (made : IsMade
   -- the inequalities have slacks, and no others
   pub have_slacks : HaveSlacks q.columns cs
   have_slacks k c at j b =
-      let (row, is, same) = unmapped_at row_at rows.rows (first_row cs k + j) (gap_row forms (convex_constraint c) j) (row_there k c at j b) in
+      let (row, is, same) = mapped row_at rows.rows (first_row cs k + j) (gap_row forms (convex_constraint c) j) (row_there k c at j b) in
       let scaled = scaled_program rows q made in
       let facts = facts_of rows q known scaled (first_row cs k + j) row is in
       by row.kind (first_row cs k + j) (λ e. inequality_there rows q known scaled (first_row cs k + j) facts e)

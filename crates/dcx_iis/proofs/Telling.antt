@@ -5,6 +5,7 @@ use Rattle.std.specs.List.{list_all}
 use Rattle.std.proofs.lemmas.Bool.{and_parts, and_from}
 use Rattle.std.proofs.lemmas.Option.{slice_get-map}
 use Rattle.dcx_math.specs.Rational.{ℚ}
+use Rattle.dcx_math.proofs.Lists.{mapped}
 use Rattle.dcx_frac.specs.declared.fraction.Frac.{Frac}
 use Rattle.dcx_convex.specs.Nodes.{Point, Setting}
 use Rattle.dcx_convex.specs.Rules.{Rules, judgement_at}
@@ -17,7 +18,7 @@ use Rattle.dcx_convex.proofs.MapBack.{projects}
 use Rattle.dcx_convex.proofs.OneAnswer.{none_feasible}
 use Rattle.dcx_tree.specs.declared.problem.Problem.{Problem}
 use Rattle.dcx_tree.specs.Meaning.{names_in, convex_problem, convex_constraint}
-use Rattle.dcx_tree.proofs.Lawful.{mapped, tree_lawful}
+use Rattle.dcx_tree.proofs.Lawful.{tree_lawful}
 use Rattle.dcx_right.specs.ConstraintSets.{ConstraintSet, KeepsSet, IsImpossible}
 use Rattle.dcx_linear.specs.Rows.{LinearProgram, StandsTo, IsSolution, IsInfeasible}
 use Rattle.dcx_unknowns.specs.Unknowns.{point_at}

@@ -10,6 +10,12 @@ element_at [] k lt = absurd (omega arith)
 element_at (x ∷ xs) zero lt = (x, refl)
 element_at (x ∷ xs) (suc k) lt = element_at xs k (omega arith)
 
+-- the element of which one of a mapped list is the image
+pub mapped : {A B : Type 0} (f : A → B) (xs : List A) (i : ℕ) (y : B) → slice_get (map f xs) i ≡ Some y → (x : A) × (slice_get xs i ≡ Some x) × (f x ≡ y)
+mapped f [] i y e = cc
+mapped f (x ∷ xs) zero y e = let d : f x ≡ y = cc in (x, refl, d)
+mapped f (x ∷ xs) (suc i) y e = mapped f xs i y e
+
 -- what holds of all holds of the one at a place
 pub holds_at : {X : Type 0} (P : X → Type 0) (xs : List X) (k : ℕ) (x : X) → All P xs → slice_get xs k ≡ Some x → P x
 holds_at P xs k x h at = subst P (get_or_from_slice_get xs k x x at) (h k x (slice_get_within xs k x at))

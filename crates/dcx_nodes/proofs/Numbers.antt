@@ -8,6 +8,7 @@ use Rattle.std.proofs.lemmas.List.{length-map, take_more, map_push}
 use Rattle.std.proofs.lemmas.List.Elements.{All-cons, All-nil}
 use Rattle.std.proofs.lemmas.Option.{same_Some, slice_get_within, get_or_from_slice_get, slice_get-map}
 use Rattle.dcx_math.specs.Rational.{whole}
+use Rattle.dcx_math.proofs.Lists.{mapped}
 use Rattle.dcx_frac.specs.declared.fraction.Frac.{Frac}
 use Rattle.dcx_frac.specs.declared.fraction.Passes.{Passes}
 use Rattle.dcx_frac.specs.Frac.{value}
@@ -36,7 +37,6 @@ use Rattle.dcx_atom.specs.Fractions.{AreFractions, HaveFewEntries}
 use Rattle.dcx_call.proofs.Exact.{forms_exactly}
 use Rattle.dcx_tree.specs.declared.problem.Problem.{Problem}
 use Rattle.dcx_tree.specs.Nodes.{Node, arg_sides}
-use Rattle.dcx_tree.proofs.Lawful.{mapped}
 use Rattle.dcx_unknowns.proofs.NodeForms.{node_at}
 use Rattle.dcx_tree.proofs.NodeValues.{args_are, sides_are as sides_are_at, number_there, number_past}
 use Rattle.dcx_linear.specs.declared.change.Change.{Change}

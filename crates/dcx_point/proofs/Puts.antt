@@ -9,6 +9,10 @@ use Rattle.dcx_point.specs.Laws.{HoldsForPuts}
 pub same_name-refl : (a : List ℕ) → same_name a a ≡ true
 same_name-refl a = nat_list_eq_equiv.refl a
 
+-- names are compared either way
+pub same_name-sym : (a b : List ℕ) → same_name a b ≡ same_name b a
+same_name-sym a b = nat_list_eq_equiv.symm a b
+
 -- the same bytes are one name
 pub same_name-true : (a b : List ℕ) → same_name a b ≡ true → a ≡ b
 same_name-true a b e = (bytes_decides a b).0 e

@@ -6,6 +6,7 @@ use Rattle.std.proofs.lemmas.Option.{get_or_from_slice_get, slice_get_within}
 use Rattle.dcx_math.specs.Rational.{ℚ, whole, ◌+ℚ◌, ◌-ℚ◌, ◌*ℚ◌, ◌≤ℚ◌}
 use Rattle.dcx_math.specs.Sums.{IsNonnegative}
 use Rattle.dcx_math.proofs.Sums.{rat_sum_below-same}
+use Rattle.dcx_math.proofs.Lists.{mapped}
 use Rattle.dcx_shape.specs.declared.shape.Sides.{Sides}
 use Rattle.dcx_shape.specs.Sides.{rows_of, cols_of, entries_of}
 use Rattle.dcx_shape.specs.Places.{HasEntry, row_place}
@@ -25,7 +26,6 @@ use Rattle.dcx_call.specs.Attributes.{counted, IsSquareFor}
 use Rattle.dcx_tree.specs.declared.problem.Problem.{Problem}
 use Rattle.dcx_tree.specs.Nodes.{attribute_of, arg_sides, convex_node, variable_attribute}
 use Rattle.dcx_tree.specs.Meaning.{names_in, convex_problem, convex_constraint, value_at, objective_at, sense_of, IsInDomain, IsFeasible, IsOptimal, IsInfeasible, IsUnbounded}
-use Rattle.dcx_tree.proofs.Lawful.{mapped}
 use Rattle.dcx_unknowns.specs.Unknowns.{demanded, sides_in}
 use Rattle.dcx_unknowns.specs.Laws.{AreAlike}
 use Rattle.dcx_unknowns.proofs.Domains.{to_domain, to_variables}

@@ -6,13 +6,13 @@ use Rattle.std.proofs.lemmas.List.Sums.{sum_by-cons}
 use Rattle.std.proofs.lemmas.Option.{none-some, same_Some, slice_get-map}
 use Rattle.dcx_frac.specs.declared.fraction.Frac.{Frac}
 use Rattle.dcx_math.specs.Rational.{ℚ}
+use Rattle.dcx_math.proofs.Lists.{mapped}
 use Rattle.dcx_frac.specs.declared.fraction.Passes.{Passes}
 use Rattle.dcx_shape.specs.Shape.{sides_of}
 use Rattle.dcx_shape.specs.Sides.{entries_of}
 use Rattle.dcx_atom.specs.declared.array.Array.{Array}
 use Rattle.dcx_atom.specs.Arrays.{number_at}
 use Rattle.dcx_tree.specs.declared.constraint.Constraint.{Constraint}
-use Rattle.dcx_tree.proofs.Lawful.{mapped}
 use Rattle.dcx_lp_answer.specs.declared.answer.LpStatus.{LpStatus}
 use Rattle.dcx_lp_answer.specs.declared.answer.RowNote.{RowNote}
 use Rattle.dcx_lp_answer.specs.Multipliers.{multiplier_of, passing_from}

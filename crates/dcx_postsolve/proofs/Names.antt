@@ -6,6 +6,7 @@ use Rattle.std.specs.List.{IsDistinct}
 use Rattle.std.proofs.lemmas.Bool.{cases_lt}
 use Rattle.std.proofs.lemmas.List.{map_more, map_push, take_all}
 use Rattle.std.proofs.lemmas.Option.{slice_get-map, slice_get_within, slice_get-get_or, get_or_from_slice_get, same_Some}
+use Rattle.dcx_math.proofs.Lists.{mapped}
 use Rattle.dcx_frac.specs.declared.fraction.Frac.{Frac}
 use Rattle.dcx_shape.specs.Shape.{sides_of}
 use Rattle.dcx_atom.specs.declared.array.Array.{Array}
@@ -15,7 +16,6 @@ use Rattle.dcx_point.proofs.Puts.{same_name-false, found, others, absent}
 use Rattle.dcx_call.specs.declared.attribute.Variable.{Variable}
 use Rattle.dcx_call.specs.Values.{given_by, HasArray}
 use Rattle.dcx_tree.specs.Nodes.{number_in}
-use Rattle.dcx_tree.proofs.Lawful.{mapped}
 use Rattle.dcx_unknowns.specs.Unknowns.{first_unknown, array_from, point_at}
 use Rattle.dcx_unknowns.specs.Laws.{IsVariable}
 use Rattle.dcx_unknowns.proofs.Domains.{number_of}

@@ -6,7 +6,7 @@ use Rattle.std.proofs.lemmas.Bool.{cases_eq, leb-false, leb-true}
 use Rattle.dcx_math.specs.Rational.{ℚ, whole, ◌+ℚ◌, ◌-ℚ◌, ◌*ℚ◌, ◌/ℚ◌, neg_ℚ, rat_le, rat_eq, ◌≤ℚ◌, ◌<ℚ◌}
 use Rattle.dcx_math.proofs.Orders.{≡-from_difference, ≤ℚ_trans, ≤ℚ_antisym, ≤ℚ_total, ≤ℚ-from_≡, ≤ℚ-≢, <ℚ-≤ℚ, <ℚ-from_not, neg_ℚ-<ℚ, neg_ℚ-zero, *ℚ-≤ℚ, linear, linear_eq}
 use Rattle.dcx_math.proofs.Products.{*ℚ-≤ℚ_turned, *ℚ-≤ℚ_cancel, *ℚ-zero_factor, /ℚ-*ℚ}
-use Rattle.dcx_math.proofs.Ratios.{IsTrue-rat_eq}
+use Rattle.dcx_math.proofs.Ratios.{IsTrue-rat_le, IsTrue-rat_eq}
 use Rattle.dcx_math.proofs.Ring.{ring, reads}
 use Rattle.dcx_frac.specs.declared.fraction.Frac.{Frac}
 use Rattle.dcx_frac.specs.Frac.{value}
@@ -26,9 +26,6 @@ use Rattle.dcx_right.specs.Ranges.{IsFrom, IsUpTo, IsBetween}
 use Rattle.dcx_range.proofs.Exact.{both_formed, end_value}
 
 -- ---- tests
-at_most : (a b : ℚ) → rat_le a b ≡ true → a ≤ℚ b
-at_most a b e = record { le = subst T (sym e) tt }
-
 above : (a b : ℚ) → rat_le a b ≡ false → ¬ (a ≤ℚ b)
 above a b e h = subst T e h.le
 
@@ -51,7 +48,7 @@ greater_in None x v h = (tt, h)
 greater_in (Some y) x v h = by (rat_le (value x) (value y)) refl h
   where
     by : (b : Bool) → rat_le (value x) (value y) ≡ b → value (if b then y else x) ≤ℚ v → (value y ≤ℚ v) × (value x ≤ℚ v)
-    by true e k = (k, ≤ℚ_trans (at_most (value x) (value y) e) k)
+    by true e k = (k, ≤ℚ_trans ((IsTrue-rat_le (value x) (value y)).0 e) k)
     by false e k = (≤ℚ_trans (least (value x) (value y) e) k, k)
 
 greater_out : (end : Option Frac) (x : Frac) (v : ℚ) → IsFrom end v → value x ≤ℚ v → IsFrom (Some (greater end x)) v
@@ -67,7 +64,7 @@ lesser_in None x v h = (tt, h)
 lesser_in (Some y) x v h = by (rat_le (value y) (value x)) refl h
   where
     by : (b : Bool) → rat_le (value y) (value x) ≡ b → v ≤ℚ value (if b then y else x) → (v ≤ℚ value y) × (v ≤ℚ value x)
-    by true e k = (k, ≤ℚ_trans k (at_most (value y) (value x) e))
+    by true e k = (k, ≤ℚ_trans k ((IsTrue-rat_le (value y) (value x)).0 e))
     by false e k = (≤ℚ_trans k (least (value y) (value x) e), k)
 
 lesser_out : (end : Option Frac) (x : Frac) (v : ℚ) → IsUpTo end v → v ≤ℚ value x → IsUpTo (Some (lesser end x)) v
@@ -145,7 +142,7 @@ positive_of : (d : Frac) → rat_le (value d) (value zero_frac) ≡ false → wh
 positive_of d e = <ℚ-from_not (whole (pos 0)) (value d) (λ h. above (value d) (value zero_frac) e (subst (λ z. value d ≤ℚ z) (sym value-zero_frac) h))
 
 low_of : (d : Frac) → rat_le (value d) (value zero_frac) ≡ true → value d ≤ℚ whole (pos 0)
-low_of d e = subst (λ z. value d ≤ℚ z) value-zero_frac (at_most (value d) (value zero_frac) e)
+low_of d e = subst (λ z. value d ≤ℚ z) value-zero_frac ((IsTrue-rat_le (value d) (value zero_frac)).0 e)
 
 negative_of : (d : Frac) → rat_le (value d) (value zero_frac) ≡ true → value d ≢ whole (pos 0) → whole (pos 0) <ℚ neg_ℚ (value d)
 negative_of d e n = subst (λ z. z <ℚ neg_ℚ (value d)) neg_ℚ-zero (neg_ℚ-<ℚ (≤ℚ-≢ (low_of d e) n))

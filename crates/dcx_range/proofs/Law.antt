@@ -7,7 +7,7 @@ use Rattle.std.proofs.lemmas.Option.{same_Some, slice_get-map, get_or_from_slice
 use Rattle.dcx_math.specs.Rational.{ℚ, whole, ◌+ℚ◌, ◌*ℚ◌}
 use Rattle.dcx_math.specs.Sums.{rat_sum_by}
 use Rattle.dcx_math.proofs.Orders.{+ℚ_idr, *ℚ-zero}
-use Rattle.dcx_math.proofs.Lists.{map-map}
+use Rattle.dcx_math.proofs.Lists.{mapped, map-map}
 use Rattle.dcx_frac.specs.declared.fraction.Frac.{Frac}
 use Rattle.dcx_frac.specs.Frac.{value}
 use Rattle.dcx_shape.specs.declared.shape.Sides.TheVariants.{Scalar}
@@ -35,7 +35,6 @@ use Rattle.dcx_linear.proofs.SettingRows.{on_row}
 use Rattle.dcx_formed.specs.Within.{IsKnownNumber, IsKnownTerm}
 use Rattle.dcx_std.specs.Solutions as solutions
 use Rattle.dcx_std.specs.Solutions.{linear_program}
-use Rattle.dcx_std.proofs.Solutions.{unmapped_at}
 use Rattle.dcx_unknowns.specs.Unknowns.{point_at}
 use Rattle.dcx_postsolve.specs.Programs.{multipliers_of}
 use Rattle.dcx_graph.specs.Program.{Program}
@@ -143,8 +142,8 @@ module _ (p : Problem) (setting : Pairs) (arrays : HaveArrays p setting) where
       kinds = sym put.0.2;
       count = length-map q.rows (row_at form_value t) ∙ sym (ap length (rows_are q known r put) ∙ length-map q.rows (row_at form_value (setting_of p setting)));
       rows = λ i a b e f.
-          let o = unmapped_at (row_at form_value (setting_of p setting)) q.rows i a (ap (λ rs. slice_get rs i) (sym (rows_are q known r put)) ∙ e) in
-          let n = unmapped_at (row_at form_value t) q.rows i b f in
+          let o = mapped (row_at form_value (setting_of p setting)) q.rows i a (ap (λ rs. slice_get rs i) (sym (rows_are q known r put)) ∙ e) in
+          let n = mapped (row_at form_value t) q.rows i b f in
           let same = same_Some n.0 o.0 (sym n.1 ∙ o.1) in (
             ap (λ (z : RowAt). z.kind) (sym n.2) ∙ ap (λ (z : Row ParamForm). z.kind) same ∙ ap (λ (z : RowAt). z.kind) o.2,
             λ x.

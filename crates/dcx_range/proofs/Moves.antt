@@ -7,6 +7,7 @@ use Rattle.std.proofs.lemmas.List.Elements.{All-tail, All-head, All-cons, All-ni
 use Rattle.dcx_math.specs.Rational.{ℚ, whole, ◌+ℚ◌, ◌-ℚ◌, ◌*ℚ◌}
 use Rattle.dcx_math.specs.Sums.{rat_sum_by}
 use Rattle.dcx_math.proofs.Ring.{ring, reads}
+use Rattle.dcx_math.proofs.Orders.{+ℚ_idl, zero-*ℚ}
 use Rattle.dcx_math.proofs.Sums.{rat_sum_by-same}
 use Rattle.dcx_math.specs.Rising.{IsRising}
 use Rattle.dcx_frac.specs.Frac.{value}
@@ -38,9 +39,6 @@ moved_later x r c d = ring (x ∷ r ∷ c ∷ d ∷ []) (search reads depth 30) 
 moved_front : (x r c d : ℚ) → (x +ℚ c *ℚ d) +ℚ r ≡ (x +ℚ r) +ℚ c *ℚ d
 moved_front x r c d = ring (x ∷ r ∷ c ∷ d ∷ []) (search reads depth 30) tt
 
-moved_none : (d : ℚ) → whole (pos 0) ≡ whole (pos 0) +ℚ whole (pos 0) *ℚ d
-moved_none d = ring (d ∷ []) (search reads depth 30) tt
-
 -- the only entry of the parameter is 0, wherever it is listed
 abbrev pub IsScalarAt : ℕ → List ParamTerm → Type 0
 IsScalarAt k ts = All (λ t. t.position ≡ k → t.entry ≡ 0) ts
@@ -61,7 +59,7 @@ module _ (s t : Parameters) (k : ℕ) (differ : DifferAt k s t) where
 
   sum_moves : (ts : List ParamTerm) → IsRising key_of ts → IsScalarAt k ts → rat_sum_by (term_value t) ts ≡ rat_sum_by (term_value s) ts +ℚ value (coefficient_in k ts) *ℚ moved
   unfolding moved
-  sum_moves [] rising zero = moved_none moved ∙ ap (λ y. whole (pos 0) +ℚ y *ℚ moved) (sym value-zero_frac)
+  sum_moves [] rising zero = sym (+ℚ_idl (whole (pos 0) *ℚ moved) ∙ zero-*ℚ moved) ∙ ap (λ y. whole (pos 0) +ℚ y *ℚ moved) (sym value-zero_frac)
   sum_moves (x ∷ ts) rising zero = by (x.position == k) refl (sum_moves ts rising.1 (All-tail (λ y. y.position ≡ k → y.entry ≡ 0) x ts zero))
     where
       by : (b : Bool) → (x.position == k) ≡ b → rat_sum_by (term_value t) ts ≡ rat_sum_by (term_value s) ts +ℚ value (coefficient_in k ts) *ℚ moved

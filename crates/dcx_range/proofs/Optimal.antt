@@ -9,6 +9,7 @@ use Rattle.dcx_math.proofs.Points.{wholes}
 use Rattle.dcx_math.proofs.Products.{/ℚ-*ℚ}
 use Rattle.dcx_math.proofs.Ring.{ring, reads}
 use Rattle.dcx_math.proofs.Sums.{rat_at-get_or}
+use Rattle.dcx_math.proofs.Lists.{mapped}
 use Rattle.dcx_frac.specs.Frac.{value}
 use Rattle.dcx_linear.specs.declared.row.RowKind.{RowKind}
 use Rattle.dcx_linear.specs.Rows as rows_of
@@ -37,7 +38,7 @@ use Rattle.dcx_std.specs.ScaledProgram.{IsScaledProgram}
 use Rattle.dcx_std.specs.Solutions.{form_number, row_at, linear_program, unknowns_at, HasKinds}
 use Rattle.dcx_std.specs.Answers.{IsRightForRowsAs}
 use Rattle.dcx_std.proofs.ScaledProgram.{scaled_program}
-use Rattle.dcx_std.proofs.Solutions.{RowFacts, mapped_at, unmapped_at, facts_of, moved_holds, kinds_hold, cost_is}
+use Rattle.dcx_std.proofs.Solutions.{RowFacts, mapped_at, facts_of, moved_holds, kinds_hold, cost_is}
 use Rattle.dcx_std.proofs.RightAnswers.{shown_of}
 use Rattle.dcx_range.proofs.Directions.{rate}
 use Rattle.dcx_range.proofs.OwnSums.{right_change, rate_is}
@@ -95,7 +96,7 @@ module _ (rows : GivenRows) (q : Program) (known : HasKinds rows) (made : IsMade
             (kinds_hold rows q known scaled (moved q u ended (right_change q u ended a reading c) a reading d) (moved_low q u ended (right_change q u ended a reading c) d a reading keeps));
         rows = λ i s e.
             let r = source (linear_program rows) other c b d is i s e in
-            let o = unmapped_at row_at rows.rows i r.0 r.1 in
+            let o = mapped row_at rows.rows i r.0 r.1 in
             let f = facts_of rows q known scaled i o.0 o.1 in
             let m = is.rows i r.0 s r.1 e in
             by s.kind (s.number (unknowns_at q.columns (moved q u ended (right_change q u ended a reading c) a reading d)))

@@ -1,5 +1,6 @@
 -- The nodes of a tree keep the recession law.
 use Rattle.std.proofs.Common.{◌≡◌, List, Some, subst}
+use Rattle.dcx_math.proofs.Lists.{mapped}
 use Rattle.dcx_shape.specs.declared.shape.Sides.{Sides}
 use Rattle.dcx_shape.specs.Sides.{entries_of}
 use Rattle.dcx_affine.specs.declared.pairing.Pairing.{Pairing}
@@ -12,7 +13,6 @@ use Rattle.dcx_call.specs.Atoms.{atom_meaning, atom_lawful}
 use Rattle.dcx_call.specs.Linears.{linear_meaning, linear_lawful}
 use Rattle.dcx_call.specs.Calls.{shape_of}
 use Rattle.dcx_tree.specs.Nodes.{Names, Node, pairs_of, pairing_call, head_of, arg_sides, convex_node, convex_nodes}
-use Rattle.dcx_tree.proofs.Lawful.{mapped}
 use Rattle.dcx_right.specs.Rays.{Recedes, HeadRecedes, AreReceding}
 use Rattle.dcx_right.proofs.Calls.{atom_recedes, linear_recedes, product_recedes, quotient_recedes}
 

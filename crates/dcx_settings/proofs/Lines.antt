@@ -1,5 +1,6 @@
 -- Reading lines, step by step.
 use Rattle.std.proofs.Common.{◌≡◌, ℕ, ◌<◌, Bool, true, false, List, [], ◌∷◌, ◌++◌, length, Err, Bor, cond, refl, sym, ap, ◌∙◌, subst, arith}
+use mathlib.Core.Bool.{or-false}
 use Rattle.std.specs.Prelude.{bytes_eq, ◌||◌}
 use Rattle.std.specs.List.{list_any}
 use Rattle.std.specs.Ordering.{nat_cmp}
@@ -35,11 +36,7 @@ item_unnamed n text ts (At there) a l = λ lines is. other lines is (terminals t
 
 -- ---- names
 among_more : (ms : List (List ℕ)) (m n : List ℕ) → is_among (ms ++ m ∷ []) n ≡ (is_among ms n || bytes_eq m n)
-among_more [] m n = or_false (bytes_eq m n)
-  where
-    or_false : (b : Bool) → (b || false) ≡ b
-    or_false true = refl
-    or_false false = refl
+among_more [] m n = or-false (bytes_eq m n)
 among_more (k ∷ ms) m n = by (bytes_eq k n) _ _ _ (among_more ms m n)
   where
     by : (b c d e : Bool) → c ≡ (d || e) → (b || c) ≡ ((b || d) || e)

@@ -1,6 +1,6 @@
 -- Reading a number, step by step.
-use Rattle.std.proofs.Common.{◌≡◌, ◌≢◌, ℕ, zero, suc, Bool, true, false, ℤ, pos, negsuc, ◌*ℤ◌, ◌<ℤ◌, List, [], ◌∷◌, Option, Some, None, Result, Ok, Err, refl, sym, ap, ◌∙◌, subst}
-use Rattle.std.specs.Prelude.{IfOk, IfErr, IfNone, IsSome, ◌↔◌}
+use Rattle.std.proofs.Common.{◌≡◌, ◌≢◌, ℕ, zero, suc, Bool, true, false, ℤ, pos, negsuc, ◌*ℤ◌, ◌<ℤ◌, List, [], ◌∷◌, Option, Some, None, refl, sym, ap, ◌∙◌, subst}
+use Rattle.std.specs.Prelude.{IfNone, IsSome, ◌↔◌}
 use Rattle.dcx_math.specs.Rational.{whole, ratio, ◌/ℚ◌}
 use Rattle.dcx_math.proofs.Ratios.{ratio-≡-ratio, ratio-one}
 use Rattle.dcx_frac.specs.Fits.{IsRepresentable}
@@ -92,14 +92,6 @@ decimal_read s f y rest us e v = record {
   value_is = v;
   reads = λ lines is n c. size_decimal lines is n c s f rest us e;
 }
-
-pub if_ok : {X E : Type 0} (P Q : X → Type 0) (r : Result X E) → ((x : X) → P x → Q x) → IfOk r P → IfOk r Q
-if_ok P Q (Ok x) f h = f x h
-if_ok P Q (Err e) f h = tt
-
-pub if_err : {X E : Type 0} (P Q : E → Type 0) (r : Result X E) → ((e : E) → P e → Q e) → IfErr r P → IfErr r Q
-if_err P Q (Ok x) f h = tt
-if_err P Q (Err e) f h = f e h
 
 pub none_zero : (o : Option Frac) (f g : Frac) → (IsSome o ↔ ((g.num ≢ pos 0) × IsRepresentable (whole f.num /ℚ whole g.num))) → IfNone o (g.num ≡ pos 0)
 none_zero (Some x) f g e = tt

@@ -8,6 +8,7 @@ use Rattle.dcx_math.specs.Sums.{rat_sum_below, along}
 use Rattle.dcx_math.proofs.Lists.{element_at}
 use Rattle.dcx_math.proofs.Orders.{≤ℚ_refl}
 use Rattle.dcx_math.proofs.Sums.{rat_sum_below-first, rat_sum_below-same}
+use Rattle.dcx_math.proofs.Lists.{mapped}
 use Rattle.dcx_frac.specs.Frac.{value}
 use Rattle.dcx_linear.specs.declared.row.RowKind.TheVariants.{AtMost}
 use Rattle.dcx_linear.specs.FormTerms.{Unknowns}
@@ -26,7 +27,7 @@ use Rattle.dcx_std.specs.ScaledProgram.{IsScaledProgram}
 use Rattle.dcx_std.specs.Solutions.{form_number, row_at, linear_program, unknowns_at, HasKinds}
 use Rattle.dcx_std.specs.Answers.{IsRightForRowsAs, IsRightForRows}
 use Rattle.dcx_std.proofs.Assignments.{column_value, assignment, assigned_at, value_nonnegative, assigned_unknown, unknowns-along}
-use Rattle.dcx_std.proofs.Solutions.{unmapped_at, facts_of, narrow, form_same, artificial_none, slack_none, inequality_there, solution_of, cost_is, form_of}
+use Rattle.dcx_std.proofs.Solutions.{facts_of, narrow, form_same, artificial_none, slack_none, inequality_there, solution_of, cost_is, form_of}
 
 -- the columns of an answer that is right are one-sided
 pub one_sided : (t : LpStatus) (q : Program) (a : LpAnswer) → IsRightAs t q a → IsOneSided q.columns (numbers a.columns)
@@ -72,7 +73,7 @@ module _ (rows : GivenRows) (q : Program) (known : HasKinds rows) (s : IsScaledP
 
   number_of : (y : Unknowns) → AreOfKinds rows.kinds y → (i : ℕ) (r : RowAt) → slice_get (map row_at rows.rows) i ≡ Some r → r.number y ≡ form_at q i (assignment q.columns none y)
   number_of y h i r e =
-      let o = unmapped_at row_at rows.rows i r e in
+      let o = mapped row_at rows.rows i r e in
       let f = facts_of rows q known s i o.0 o.1 in
       let is : row_at f.row ≡ r = row_same i o.0 o.1 r o.2 in
       let artificials = artificial_none rows q known s (assignment q.columns none y) i (λ j k l d. assigned_at q.columns none y j l ∙ ap (column_value none y) d) in
@@ -93,7 +94,7 @@ module _ (rows : GivenRows) (q : Program) (known : HasKinds rows) (s : IsScaledP
 
   signs_are : HasSigns q a → HaveSigns (linear_program rows) (multiplier_at q.columns a)
   signs_are h i r e k =
-      let o = unmapped_at row_at rows.rows i r e in
+      let o = mapped row_at rows.rows i r e in
       let f = facts_of rows q known s i o.0 o.1 in
       let l = slice_get_within q.rows i f.ints f.ints_is in
       h i l (inequality_there rows q known s i f (kind_same i o.0 o.1 (ap (λ (t : RowAt). t.kind) o.2 ∙ k)))

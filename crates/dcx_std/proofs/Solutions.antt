@@ -12,6 +12,7 @@ use Rattle.dcx_math.proofs.Products.{*ℚ-≤ℚ_cancel, *ℚ_cancel, /ℚ-uniqu
 use Rattle.dcx_math.proofs.Points.{wholes}
 use Rattle.dcx_math.proofs.Ring.{ring, reads}
 use Rattle.dcx_math.proofs.Sums.{rat_sum_below-zero, rat_sum_below-same, rat_sum_below-nonnegative, rat_sum_below-monotone, rat_at-get_or}
+use Rattle.dcx_math.proofs.Lists.{mapped}
 use Rattle.dcx_frac.specs.declared.fraction.Frac.{Frac}
 use Rattle.dcx_frac.specs.Frac.{value}
 use Rattle.dcx_linear.specs.declared.form.Form.{Form}
@@ -47,12 +48,6 @@ use Rattle.dcx_std.proofs.RowSums.{sparse_sum, slack_part, artificial_part, slac
 -- the item of a mapped list
 pub mapped_at : {A B : Type 0} (f : A → B) (xs : List A) (i : ℕ) (x : A) (d : B) → slice_get xs i ≡ Some x → get_or (map f xs) i d ≡ f x
 mapped_at f xs i x d e = get_or_from_slice_get (map f xs) i (f x) d (slice_get-map f xs i ∙ ap (option_map f) e)
-
--- the item of which a mapped list has the image
-pub unmapped_at : {A B : Type 0} (f : A → B) (xs : List A) (i : ℕ) (y : B) → slice_get (map f xs) i ≡ Some y → (x : A) × (slice_get xs i ≡ Some x) × (f x ≡ y)
-unmapped_at f [] i y e = cc
-unmapped_at f (x ∷ xs) zero y e = let d : f x ≡ y = cc in (x, refl, d)
-unmapped_at f (x ∷ xs) (suc i) y e = unmapped_at f xs i y e
 
 -- ---- numbers
 sign_square : (t : Bool) (a b : ℚ) → sign t *ℚ a ≡ sign t *ℚ b → a ≡ b
@@ -123,7 +118,7 @@ module _ (rows : GivenRows) (q : Program) (known : HasKinds rows) (s : IsScaledP
   facts_of i row e =
       let l = slice_get_within rows.rows i row e in
       let r = element_at q.rows i (let c = s.count in omega (arith, l, c)) in
-      let k = unmapped_at (λ (t : Start). t.kind) s.starts i row.kind (ap (λ ks. slice_get ks i) s.kinds ∙ slice_get-map (λ (t : Row Frac). t.kind) rows.rows i
+      let k = mapped (λ (t : Start). t.kind) s.starts i row.kind (ap (λ ks. slice_get ks i) s.kinds ∙ slice_get-map (λ (t : Row Frac). t.kind) rows.rows i
       ∙ ap (option_map (λ (t : Row Frac). t.kind)) e) in
       record { row = row; row_is = e; ints = r.0; ints_is = r.1; start = k.0; start_is = k.1; kind = k.2; scaled = s.each_row i row r.0 e r.1; form = q.form.each_row i r.0 r.1 }
 
@@ -312,7 +307,7 @@ module _ (rows : GivenRows) (q : Program) (known : HasKinds rows) (s : IsScaledP
   solution_of zs solution = record {
     kinds = kinds_hold zs solution.nonnegative;
     rows = λ i r e.
-        let o = unmapped_at row_at rows.rows i r e in
+        let o = mapped row_at rows.rows i r e in
         let h = facts_of i o.0 o.1 in
         subst (λ (ra : RowAt). StandsTo ra.kind (ra.number (unknowns_at q.columns zs))) (row_facts_at i o.0 o.1 r o.2) (row_holds i h zs solution);
   }

@@ -1,8 +1,8 @@
 -- The nodes of a tree keep what disciplined convex programming asks for.
-use Rattle.std.proofs.Common.{◌≡◌, ℕ, ◌<◌, List, length, map, Option, Some, None, option_map, refl, sym, subst, ◌∙◌}
-use Rattle.std.specs.List.{slice_get, All}
-use Rattle.std.proofs.lemmas.Option.{slice_get-map}
+use Rattle.std.proofs.Common.{◌≡◌, ◌<◌, List, length, Some, subst}
+use Rattle.std.specs.List.{All}
 use Rattle.std.proofs.lemmas.List.{length-map}
+use Rattle.dcx_math.proofs.Lists.{mapped}
 use Rattle.dcx_shape.specs.declared.shape.Sides.{Sides}
 use Rattle.dcx_shape.specs.Sides.{entries_of}
 use Rattle.dcx_affine.specs.declared.pairing.Pairing.{Pairing}
@@ -21,12 +21,6 @@ use Rattle.dcx_tree.specs.Nodes.{Names, Node, pairs_of, pairing_call, head_of, a
 use Rattle.dcx_tree.specs.declared.problem.Problem.{Problem}
 use Rattle.dcx_tree.specs.Meaning.{names_in}
 use Rattle.dcx_tree.specs.Laws.{IsLawful}
-
--- what stands at a place of a mapped list
-pub mapped : {A B : Type 0} (f : A → B) (xs : List A) (i : ℕ) (y : B) → slice_get (map f xs) i ≡ Some y → (x : A) × (slice_get xs i ≡ Some x) × (f x ≡ y)
-mapped {A} {B} f xs i y h =
-    let found : (o : Option A) → option_map f o ≡ Some y → (x : A) × (o ≡ Some x) × (f x ≡ y) = elim [ None ↦ λ e. absurd (cc) | Some x ↦ λ e. (x, refl, cc) ] in
-    found (slice_get xs i) (sym (slice_get-map f xs i) ∙ h)
 
 pairing_lawful : (p : Pairing) (args : List Sides) (sides : Sides) → convex_calls.IsLawful (pairing_call p args sides) (length args)
 pairing_lawful Times args sides = product_lawful (entries_of sides) (pairs_of Times args) (length args)

@@ -1,11 +1,12 @@
 -- The names of the nodes that a loop has passed.
-use Rattle.std.proofs.Common.{◌≡◌, ℕ, ◌+◌, Bool, true, false, cond, List, take, get_or, Option, Some, None, option_map, refl, sym, ap, ap₂, ◌∙◌, true≢false}
+use Rattle.std.proofs.Common.{◌≡◌, ℕ, ◌+◌, Bool, true, false, cond, List, take, get_or, Option, Some, None, option_map, refl, sym, ap, ap₂, ◌∙◌}
+use mathlib.Core.Bool.{or-false}
 use Rattle.std.specs.Prelude.{◌||◌}
 use Rattle.std.specs.List.{slice_get, list_any}
 use Rattle.std.proofs.lemmas.List.Folds.{list_any_more}
 use Rattle.std.proofs.lemmas.Option.{slice_get_within, get_or_from_slice_get, none-some, same_Some}
 use Rattle.dcx_point.specs.Pairs.{same_name}
-use Rattle.dcx_point.proofs.Puts.{same_name-refl, same_name-true}
+use Rattle.dcx_point.proofs.Puts.{same_name-sym}
 use Rattle.dcx_arena.specs.Nodes.{call_at}
 use Rattle.dcx_call.specs.declared.call.Call.{Call}
 use Rattle.dcx_call.specs.declared.call.Call.TheVariants as calls
@@ -28,15 +29,6 @@ tested_more test nodes i call e =
     let here : test (get_or nodes i n).call ≡ test call = ap (λ (x : Node). test x.call) (get_or_from_slice_get nodes i n n at) ∙ ap test is in
     more ∙ ap (λ b. list_any (λ (x : Node). test x.call) (take i nodes) || b) here
 
-same_name_sym : (a b : List ℕ) → same_name a b ≡ same_name b a
-same_name_sym a b = by (same_name a b) (same_name b a) refl refl
-  where
-    by : (s t : Bool) → same_name a b ≡ s → same_name b a ≡ t → s ≡ t
-    by true true e f = refl
-    by false false e f = refl
-    by true false e f = absurd (true≢false (sym (same_name-refl b) ∙ ap (λ z. same_name b z) (sym (same_name-true a b e)) ∙ f))
-    by false true e f = absurd (true≢false (sym (same_name-refl a) ∙ ap (λ z. same_name a z) (sym (same_name-true b a f)) ∙ e))
-
 -- a name is there after it is put: it is the new one, or was there
 put_or : (c b : Bool) → cond c true b ≡ (b || c)
 put_or true true = refl
@@ -45,13 +37,9 @@ put_or false true = refl
 put_or false false = refl
 
 pub put_name : (name q : List ℕ) (b : Bool) → cond (same_name name q) true b ≡ (b || same_name q name)
-put_name name q b = put_or (same_name name q) b ∙ ap (λ c. b || c) (same_name_sym name q)
+put_name name q b = put_or (same_name name q) b ∙ ap (λ c. b || c) (same_name-sym name q)
 
 -- another call has no such name
-pub or_false : (b : Bool) → (b || false) ≡ b
-or_false true = refl
-or_false false = refl
-
 pub no_variable : (call : Call) → ((v : Variable) → call ≡ calls.Variable v → ⊥) → (name : List ℕ) → is_variable name call ≡ false
 no_variable (calls.Variable v) h name = absurd (h v refl)
 no_variable (calls.Parameter p) h name = refl
@@ -74,4 +62,4 @@ put_step key v q old new any more t put was is test all =
     put ∙ put_name key q old ∙ ap₂ (λ b k. b || same_name q k) was is ∙ ap (λ b. any || b) (sym test) ∙ sym all
 
 pub keep_step : (old new any more t : Bool) → new ≡ old → old ≡ any → t ≡ false → more ≡ (any || t) → new ≡ more
-keep_step old new any more t same was test all = same ∙ was ∙ sym (or_false any) ∙ ap (λ b. any || b) (sym test) ∙ sym all
+keep_step old new any more t same was test all = same ∙ was ∙ sym (or-false any) ∙ ap (λ b. any || b) (sym test) ∙ sym all

@@ -28,7 +28,7 @@ one_constraint c d e l r = λ i. record {
   place = ap (λ (x : Demand). x.place) e i;
 }
 
-one_constraints : (cs ds : List Constraint) → map demand_of cs ≡ map demand_of ds → sides_in cs ≡ sides_in ds → cs ≡ ds
+pub one_constraints : (cs ds : List Constraint) → map demand_of cs ≡ map demand_of ds → sides_in cs ≡ sides_in ds → cs ≡ ds
 one_constraints [] [] e s = refl
 one_constraints [] (d ∷ ds) e s = absurd (cc)
 one_constraints (c ∷ cs) [] e s = absurd (cc)

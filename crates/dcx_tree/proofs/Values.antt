@@ -4,6 +4,7 @@ use Rattle.std.specs.Option.{unwrap_or}
 use Rattle.std.specs.List.{slice_get}
 use Rattle.std.proofs.lemmas.List.{length-map}
 use Rattle.std.proofs.lemmas.Option.{none-some, same_Some, slice_get-map, slice_get_within, get_or_from_slice_get}
+use Rattle.dcx_math.proofs.Lists.{mapped}
 use Rattle.dcx_shape.specs.declared.shape.Sides.{Sides}
 use Rattle.dcx_shape.specs.declared.shape.Sides.TheVariants.{Scalar}
 use Rattle.dcx_shape.specs.Shape.{sides_of}
@@ -22,7 +23,7 @@ use Rattle.dcx_call.specs.Values.{given_by}
 use Rattle.dcx_tree.specs.Nodes.{Names, Node, number_in, head_of, arg_sides, convex_node, convex_nodes, numbers_by}
 use Rattle.dcx_tree.specs.Values.{IsNamed}
 use Rattle.dcx_tree.proofs.Parts.{part_node}
-use Rattle.dcx_tree.proofs.Lawful.{mapped, tree_lawful}
+use Rattle.dcx_tree.proofs.Lawful.{tree_lawful}
 
 -- ---- names and their numbers
 -- a name is found at its number

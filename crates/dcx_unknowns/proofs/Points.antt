@@ -2,7 +2,7 @@
 use Rattle.std.proofs.Common.{◌≡◌, ℕ, ◌+◌, ◌<◌, Bool, true, false, if◌then◌else◌, List, Option, Some, None, option_map, refl, sym, ap, subst, ◌∙◌, zero-add, pos}
 use Rattle.std.specs.Prelude.{nat_lt, nat_le, nat_eq, slice_get}
 use Rattle.std.proofs.Math.Path.{fun_ext}
-use Rattle.std.proofs.lemmas.Bool.{lt-ltb, eqb-false}
+use Rattle.std.proofs.lemmas.Bool.{eqb-false}
 use Rattle.std.proofs.lemmas.Option.{get_or_from_slice_get, slice_get_within}
 use Rattle.dcx_math.specs.Rational.{ℚ, whole, ◌+ℚ◌, ◌*ℚ◌, ◌≤ℚ◌}
 use Rattle.dcx_math.proofs.Orders.{zero_shifted}
@@ -20,6 +20,7 @@ use Rattle.dcx_call.specs.Attributes.{counted, IsSquareFor, AreSquare}
 use Rattle.dcx_convex.specs.Nodes as convex
 use Rattle.dcx_convex.specs.Nodes.{Numbers, Point, zeros, first_of, Keeps}
 use Rattle.dcx_convex.specs.Reductions.{further}
+use Rattle.dcx_convex.proofs.Signs.{first_in}
 use Rattle.dcx_tree.specs.Nodes.{attribute_of, variable_attribute}
 use Rattle.dcx_linear.specs.declared.row.UnknownKind.{UnknownKind}
 use Rattle.dcx_linear.specs.FormTerms.{Unknowns}
@@ -32,9 +33,6 @@ use Rattle.dcx_unknowns.proofs.Sources.{Owns, source_own, source_mirror, source_
 use Rattle.dcx_unknowns.proofs.Owners.{owner_of, are_numbered, owned}
 
 -- ---- arrays
-pub below : (n : ℕ) (f : Numbers) (j : ℕ) → j < n → first_of n f j ≡ f j
-below n f j h = ap (λ b. if b then f j else whole (pos 0)) (lt-ltb j n h)
-
 -- what is demanded of a variable, in the terms of disciplined convex programming
 attribute_is : (w : Whole) (a : Attribute) → variable_attribute w a ≡ attribute_of (counted w a)
 attribute_is Not a = refl
@@ -49,20 +47,20 @@ array_of u first a s = first_of (entries_of s) (λ j. number_at u (unknown_in fi
 same_number : (u : Unknowns) (first : ℕ) (a : Attribute) (s : Sides) (j k : ℕ) → j < entries_of s → k < entries_of s → source_of a s j ≡ source_of a s k
     → array_of u first a s j ≡ array_of u first a s k
 same_number u first a s j k h h' e =
-    below (entries_of s) (λ i. number_at u (unknown_in first a s i)) j h ∙ ap (λ o. number_at u (option_map (λ i. first + own_before a s i) o)) e
-    ∙ sym (below (entries_of s) (λ i. number_at u (unknown_in first a s i)) k h')
+    first_in (entries_of s) (λ i. number_at u (unknown_in first a s i)) j h ∙ ap (λ o. number_at u (option_map (λ i. first + own_before a s i) o)) e
+    ∙ sym (first_in (entries_of s) (λ i. number_at u (unknown_in first a s i)) k h')
 
 -- ---- unknowns of their kinds make an array of the domain
 array_keeps : (u : Unknowns) (first : ℕ) (a : Attribute) (s : Sides) → IsSquareFor a s → ((j : ℕ) → Owns a s j → IsOfKind (kind_of a) (u (first + own_before a s j)))
     → Keeps (attribute_of a) s (array_of u first a s)
 array_keeps u first Free s sq of = tt
-array_keeps u first Nonneg s sq of = λ j h. subst (λ q. whole (pos 0) ≤ℚ q) (sym (below (entries_of s) (λ i. number_at u (unknown_in first Nonneg s i)) j h)) (of j (h, refl))
-array_keeps u first Nonpos s sq of = λ j h. subst (λ q. q ≤ℚ whole (pos 0)) (sym (below (entries_of s) (λ i. number_at u (unknown_in first Nonpos s i)) j h)) (of j (h, refl))
+array_keeps u first Nonneg s sq of = λ j h. subst (λ q. whole (pos 0) ≤ℚ q) (sym (first_in (entries_of s) (λ i. number_at u (unknown_in first Nonneg s i)) j h)) (of j (h, refl))
+array_keeps u first Nonpos s sq of = λ j h. subst (λ q. q ≤ℚ whole (pos 0)) (sym (first_in (entries_of s) (λ i. number_at u (unknown_in first Nonpos s i)) j h)) (of j (h, refl))
 array_keeps u first Symmetric s sq of = λ i j h.
     let mirror : HasEntry s j i = record { row = subst (λ n. j < n) (sym sq) h.column; column = subst (λ n. i < n) sq h.row } in
     same_number u first Symmetric s (row_place s i j) (row_place s j i) (place_below false s i j h) (place_below false s j i mirror) (source_mirror s i j sq h)
 array_keeps u first Diag s sq of = λ i j h ne.
-    below (entries_of s) (λ k. number_at u (unknown_in first Diag s k)) (row_place s i j) (place_below false s i j h)
+    first_in (entries_of s) (λ k. number_at u (unknown_in first Diag s k)) (row_place s i j) (place_below false s i j h)
     ∙ ap (λ o. number_at u (option_map (λ k. first + own_before Diag s k) o)) (source_off s i j h ne)
 
 -- ---- an array of the domain has at each entry what it has at the entry's source
@@ -133,7 +131,7 @@ module _ (vs : List Variable) where
         | None ↦ λ is. refl
         | Some j ↦ λ is. let own = source_own a s e j (square_at sq k v at) lt is in owner_number x k v j at (record { within = own.0; own = own.1 })
       ] in
-      ap (λ (f : Numbers). f e) (array_is (unknowns_of vs x) k v at) ∙ below (entries_of s) (λ i. number_at (unknowns_of vs x) (unknown_in first a s i)) e lt
+      ap (λ (f : Numbers). f e) (array_is (unknowns_of vs x) k v at) ∙ first_in (entries_of s) (λ i. number_at (unknowns_of vs x) (unknown_in first a s i)) e lt
       ∙ one (source_of a s e) refl ∙ kept_source a s (x k) (demand x kept k v at) (square_at sq k v at) e lt
 
   pub stand_for_points : AreSquare vs → StandForPoints vs

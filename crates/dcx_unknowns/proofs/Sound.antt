@@ -3,6 +3,7 @@ use Rattle.std.proofs.Common.{◌≡◌, ℕ, ◌+◌, ◌<◌, arith, Bool, tru
 use Rattle.std.proofs.Math.Path.{fun_ext}
 use Rattle.std.proofs.lemmas.Option.{slice_get_within}
 use Rattle.dcx_math.specs.Rational.{ℚ, whole, ◌≤ℚ◌}
+use Rattle.dcx_math.proofs.Lists.{mapped}
 use Rattle.dcx_shape.specs.Sides.{entries_of}
 use Rattle.dcx_atom.specs.declared.graph.AuxKind.{AuxKind}
 use Rattle.dcx_atom.specs.Rows.{Filling, KindsHold}
@@ -14,7 +15,6 @@ use Rattle.dcx_convex.specs.Reductions.{Unknowns, IsAssignment, RowsHold, Stands
 use Rattle.dcx_tree.specs.declared.problem.Problem.{Problem}
 use Rattle.dcx_tree.specs.Nodes.{Node, head_of, arg_sides, convex_node}
 use Rattle.dcx_tree.specs.Meaning.{names_in}
-use Rattle.dcx_tree.proofs.Lawful.{mapped}
 use Rattle.dcx_tree.proofs.AllReached.{range_at, convex_at}
 use Rattle.dcx_linear.specs.Rows.{AreOfKinds}
 use Rattle.dcx_unknowns.specs.Unknowns.{variable_unknowns, variable_kinds, point_at}

@@ -13,10 +13,10 @@ use Rattle.dcx_call.specs.declared.attribute.Variable.{Variable}
 use Rattle.dcx_call.specs.declared.attribute.Parameter.{Parameter}
 use Rattle.dcx_call.specs.declared.call.Call.{Call}
 use Rattle.dcx_call.specs.declared.call.Call.TheVariants as calls
-use Rattle.dcx_tree.specs.declared.constraint.Constraint.{Constraint}
 use Rattle.dcx_tree.specs.declared.problem.Problem.{Problem}
 use Rattle.dcx_tree.specs.Problems.{sides_in, roots_of}
-use Rattle.dcx_tree.specs.Gather.{positions_of, is_variable, is_parameter, has_variable, has_parameter, demand_of, IsProblemOf}
+use Rattle.dcx_tree.specs.Gather.{positions_of, is_variable, is_parameter, has_variable, has_parameter, IsProblemOf}
+use Rattle.dcx_tree.proofs.OneProblem.{one_constraints}
 use Rattle.dcx_script_values.specs.declared.fault.ElabFault.{ElabFault}
 use Rattle.dcx_script_values.specs.Values.{Asked, State}
 use Rattle.dcx_script_state.specs.Declarations.{standing_setting, events_or_end}
@@ -54,22 +54,6 @@ order_once nodes roots = once_all [] (flat_map (postorder nodes) roots) (λ h k 
 
 node_one : (m n : Node Call) → m.call ≡ n.call → m.args ≡ n.args → m.sides ≡ n.sides → m.place ≡ n.place → m ≡ n
 node_one m n c a s p = λ i. record { call = c i; args = a i; sides = s i; place = p i }
-
-constraint_one : (c d : Constraint) → demand_of c ≡ demand_of d → c.left.0 ≡ d.left.0 → c.right.0 ≡ d.right.0 → c ≡ d
-constraint_one c d e l r =
-    λ i. record { kind = (e i).kind; left = record { 0 = l i }; right = record { 0 = r i }; shape = (e i).shape; place = (e i).place }
-
-constraints_one : (cs ds : List Constraint) → map demand_of cs ≡ map demand_of ds → sides_in cs ≡ sides_in ds → cs ≡ ds
-constraints_one [] [] e s = refl
-constraints_one [] (d ∷ ds) e s = absurd (cc)
-constraints_one (c ∷ cs) [] e s = absurd (cc)
-constraints_one (c ∷ cs) (d ∷ ds) e s =
-    let p : demand_of c ≡ demand_of d = cc in
-    let q : map demand_of cs ≡ map demand_of ds = cc in
-    let l : c.left.0 ≡ d.left.0 = cc in
-    let r : c.right.0 ≡ d.right.0 = cc in
-    let t : sides_in cs ≡ sides_in ds = cc in
-    ap₂ (λ x xs. x ∷ xs) (constraint_one c d p l r) (constraints_one cs ds q t)
 
 -- what a script comes to is one
 meaning_one : (m : Result (State × Asked) ElabFault) (s t : State) (q r : Asked) → m ≡ Ok (s, q) → m ≡ Ok (t, r) → (s ≡ t) × (q ≡ r)
@@ -163,7 +147,7 @@ module _ {rename : List ℕ → List ℕ} (is : IsRenaming rename) where
         sense = h.sense ∙ sym g.sense;
         objective = λ i. record { 0 = first i };
         objective_place = h.objective_place ∙ sym g.objective_place;
-        constraints = constraints_one r.constraints p.constraints (h.demands ∙ sym g.demands) rest;
+        constraints = one_constraints r.constraints p.constraints (h.demands ∙ sym g.demands) rest;
       }
 
   -- ---- settings

@@ -1,7 +1,7 @@
 -- What is read of the answer of a node's rows is there, and makes what it turns out to be.
 use Rattle.std.proofs.Common.{◌≡◌, ◌⊎◌, ◌<◌, List, length, option_map, sym, ap, ◌∙◌, subst}
 use Rattle.std.specs.List.{All}
-use Rattle.std.proofs.lemmas.Result.{IfOk-weaker}
+use Rattle.std.proofs.lemmas.Result.{IfOk-weaker, IfErr-weaker}
 use Rattle.dcx_frac.specs.Frac.{value}
 use Rattle.dcx_answer.specs.declared.stop.Stop.{Stop}
 use Rattle.dcx_answer.specs.declared.stop.Stop.TheVariants as why
@@ -13,7 +13,7 @@ use Rattle.dcx_branch.specs.Run.{NodeStops}
 use Rattle.dcx_branch.specs.Taken.{HasNotes, TellsUnknowns, IsTaken, StopsJudging, TakenAs, StopsTaking}
 use Rattle.dcx_branch.proofs.Members.{places_below_all}
 use Rattle.dcx_branch.proofs.Told.{has_notes, tells}
-use Rattle.dcx_branch.proofs.Taking.{err_weaker, taken_as, stops_as, rows_stop}
+use Rattle.dcx_branch.proofs.Taking.{taken_as, stops_as, rows_stop}
 use Rattle.dcx_branch.proofs.node.take.Goals as goal
 
 pub solve_node-requires : goal.solve_node-requires
@@ -68,7 +68,7 @@ returns-in-Ok-clause-stops c =
     let node = c.in-Ok.node in
     let is = c.in-Ok.ensures.node in
     let first : length c.as_slice.result.now ≡ length q.rows = ap length (c.as_slice.ensures ∙ c.rows-rows.ensures.rows) in
-    err_weaker c.judge-taken.result (StopsJudging p (length c.as_slice.result.now) node.bounds.items best node.solved) (StopsTaking p q c.args.limit bs best)
+    IfErr-weaker c.judge-taken.result (StopsJudging p (length c.as_slice.result.now) node.bounds.items best node.solved) (StopsTaking p q c.args.limit bs best)
     (λ e h. stops_as p q c.args.limit bs best node.solved is.is (length c.as_slice.result.now) node.bounds.items first is.bounds e h) c.judge-taken.ensures.stops
 
 pub returns-in-Err-clause-stops : goal.returns-in-Err-clause-stops

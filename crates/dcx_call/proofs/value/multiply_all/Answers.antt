@@ -1,11 +1,12 @@
 -- The pairs that are listed are those of each entry.
 use Rattle.std.proofs.Common.{◌≡◌, ℕ, ◌<◌, List, [], get_or}
+use Rattle.std.proofs.lemmas.Result.{IfOk-weaker, IfErr-weaker}
 use Rattle.dcx_shape.specs.Shape.{sides_of}
 use Rattle.dcx_atom.specs.Arrays.{number_at}
 use Rattle.dcx_affine.specs.declared.pairing.Pair.{Pair}
 use Rattle.dcx_affine.specs.Pairing.{paired_sides, pairs_at}
 use Rattle.dcx_call.specs.Values.{pair_sum}
-use Rattle.dcx_call.proofs.Entries.{Forming, formed_alike, stop_alike, ok_weaker, err_weaker}
+use Rattle.dcx_call.proofs.Entries.{Forming, formed_alike, stop_alike}
 use Rattle.dcx_call.proofs.CallValues.{pairs_found, pairs_alike}
 use Rattle.dcx_call.proofs.value.multiply_all.Goals as goal
 
@@ -20,7 +21,7 @@ returns-clause-ok c =
     let same : (j : ℕ) → j < c.args.size → own j ≡ told j =
     pairs_alike c.as_slice.result.now c.in-Ok.pairs c.as_slice-2.result.now c.as_slice-3.result.now l.entries r.entries f c.args.size
     c.as_slice.ensures listed c.as_slice-2.ensures c.as_slice-3.ensures in
-    ok_weaker c.fill.result (λ xs h. formed_alike own told c.args.size xs same h) c.fill.ensures.ok
+    IfOk-weaker c.fill.result _ _ (λ xs h. formed_alike own told c.args.size xs same h) c.fill.ensures.ok
 
 pub returns-clause-stop : goal.returns-clause-stop
 returns-clause-stop c =
@@ -33,4 +34,4 @@ returns-clause-stop c =
     let same : (j : ℕ) → j < c.args.size → own j ≡ told j =
     pairs_alike c.as_slice.result.now c.in-Ok.pairs c.as_slice-2.result.now c.as_slice-3.result.now l.entries r.entries f c.args.size
     c.as_slice.ensures listed c.as_slice-2.ensures c.as_slice-3.ensures in
-    err_weaker c.fill.result (λ stop h. stop_alike own told c.args.size stop same h) c.fill.ensures.stop
+    IfErr-weaker c.fill.result _ _ (λ stop h. stop_alike own told c.args.size stop same h) c.fill.ensures.stop

@@ -1,8 +1,8 @@
 -- A value, zeros, or a kept array.
 use Rattle.std.proofs.Common.{◌∙◌, Bool, sym, subst}
 use Rattle.std.specs.Prelude.{IsTrue}
+use Rattle.std.proofs.lemmas.Result.{IfOk-weaker}
 use Rattle.dcx_atom.specs.declared.array.Array.{Array}
-use Rattle.dcx_call.proofs.Entries.{ok_weaker}
 use Rattle.dcx_right.specs.Fixed.{is_fixed}
 use Rattle.dcx_cert_rays.specs.Steepness.{IsArgument}
 use Rattle.dcx_cert_rays.proofs.Known.{value_argument}
@@ -18,7 +18,7 @@ returns-then-counts c =
     let is : IsArgument p setting ray c.args.counts i c.kept_value.result.now =
     subst (λ (b : Bool). IsArgument p setting ray b i c.kept_value.result.now) (sym c.if-counts.true)
     (value_argument p setting ray c.args.along.now.values.now c.requires.given.values i c.kept_value.result.now (c.requires.fixed c.if-counts.true) c.kept_value.ensures) in
-    ok_weaker c.copy_array.result (λ (v : Array) e. subst (IsArgument p setting ray c.args.counts i) (sym e) is) c.copy_array.ensures
+    IfOk-weaker c.copy_array.result _ _ (λ (v : Array) e. subst (IsArgument p setting ray c.args.counts i) (sym e) is) c.copy_array.ensures
 
 pub returns-then-along-node : goal.returns-then-along-node
 returns-then-along-node c =

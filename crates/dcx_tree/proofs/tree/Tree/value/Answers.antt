@@ -1,8 +1,8 @@
 -- The marked nodes before the node are formed, and then the node.
 use Rattle.std.proofs.Common.{ℕ, ◌<◌, ◌∷◌, [], ◌↔◌, Bool, List, Option, IsSome, length, sym, subst, ap, ◌∙◌}
+use Rattle.std.proofs.lemmas.Result.{IfErr-weaker}
 use Rattle.dcx_atom.specs.declared.array.Array.{Array}
 use Rattle.dcx_arena.specs.Unfold.{IsReached}
-use Rattle.dcx_call.proofs.Entries.{err_weaker}
 use Rattle.dcx_tree.specs.Values.{IsMarked, array_at, AreValues}
 use Rattle.dcx_tree.proofs.Forming.{args_there, first_stop}
 use Rattle.dcx_tree.proofs.Marks.{reached_self}
@@ -32,7 +32,7 @@ pub returns-clause-stop : goal.returns-clause-stop
 returns-clause-stop c =
     let nodes = c.args.self.now in
     let root = c.args.node.0 in
-    err_weaker c.node_value.result
+    IfErr-weaker c.node_value.result _ _
     (λ e h. first_stop nodes c.in-Ok.ensures.nodes c.args.setting.now c.args.point.now root c.in_ok-arrays.arrays.items root e c.requires.there
     (reached_self nodes root) c.in_ok-arrays.ensures.some c.in_ok-arrays.ensures.values h)
     c.node_value.ensures.stop
