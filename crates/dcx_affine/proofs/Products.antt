@@ -28,16 +28,13 @@ no_shape n l c false d e f never = refl
 no_shape n l c true false e f never = refl
 no_shape n l c true true e f never = absurd (never (eqb-true n l e, few_of c f))
 
-equal_test : (n l : ℕ) → n ≡ l → nat_eq n l ≡ true
-equal_test n l e = eq-eqb n l e
-
 -- a product whose inner sides are n and l, with the sides c
 chosen : (n l : ℕ) (c : Sides) (r : Option Shape) → (IsSome r ↔ ((x : Sides) × ((n ≡ l) × (x ≡ c)) × HasFewEntries x)) → IfSome r (λ s. (n ≡ l) × (sides_of s ≡ c)) →
     option_map sides_of r ≡ (if nat_eq n l then limited c else None)
 chosen n l c None exists is = no_shape n l c (nat_eq n l) (nat_le 1 (entries_of c) && nat_le (entries_of c) 20000) refl refl
     (λ h. let none = exists.1 (c, (h.0, refl), h.1) in cc)
 chosen n l c (Some s) exists is =
-    ap Some is.1 ∙ sym (rw (equal_test n l is.0) (limited_is c (subst HasFewEntries is.1 s.few)))
+    ap Some is.1 ∙ sym (rw (eq-eqb n l is.0) (limited_is c (subst HasFewEntries is.1 s.few)))
 
 pub product_shape : (a b : Sides) (r : Option Shape) → (IsSome r ↔ ((c : Sides) × IsProduct a b c × HasFewEntries c)) → IfSome r (λ s. IsProduct a b (sides_of s)) →
     option_map sides_of r ≡ product_sides a b

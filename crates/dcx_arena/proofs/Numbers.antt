@@ -2,6 +2,7 @@
 use Rattle.std.proofs.Common.{◌≡◌, ◌≢◌, ℕ, zero, suc, ◌+◌, ◌-◌, ◌<◌, ◌≤◌, true, false, List, [], ◌∷◌, ◌++◌, length, get_or, Option, Some, None, is_some, replicate, refl, sym, ap, subst, ◌∙◌, arith}
 use Rattle.std.specs.List.{slice_get, sum_by}
 use Rattle.std.proofs.Math.ListN.{set}
+use Rattle.std.proofs.lemmas.Bool.{cases_Bool}
 use Rattle.std.proofs.lemmas.List.{get_or-set_same, get_or-set_other, get_or_past, get_or-replicate, length-replicate}
 use Rattle.std.proofs.lemmas.List.Sums.{sum_by-append, sum_by-cons}
 use Rattle.std.proofs.lemmas.Option.{slice_get_within, slice_get_read, get_or_from_slice_get, none-some, same_Some}
@@ -9,7 +10,7 @@ use native.Mathlib.Decide.{ℕ_discrete}
 use Rattle.dcx_arena.specs.Gather.{has}
 use Rattle.dcx_arena.specs.Walk.{weigh, IsNumbering}
 use Rattle.dcx_arena.proofs.Nodes.{push_each, at_end, in_front}
-use Rattle.dcx_arena.proofs.Orders.{has_at, has_from, either}
+use Rattle.dcx_arena.proofs.Orders.{has_at, has_from}
 use mathlib.Core.Logic.{inl, inr}
 
 weigh_set : (f : ℕ → ℕ) (i j k : ℕ) (numbers : List (Option ℕ)) → j < length numbers → get_or numbers j None ≡ None → weigh f i (set numbers j (Some k)) ≡ weigh f i numbers + f (i + j)
@@ -39,7 +40,7 @@ pub numbered_has : (order : List ℕ) (numbers : List (Option ℕ)) (i k : ℕ) 
 numbered_has order numbers i k h e = has_from order k i (h.numbered i k e)
 
 pub unnumbered_has : (order : List ℕ) (numbers : List (Option ℕ)) (i : ℕ) → IsNumbering order numbers → get_or numbers i None ≡ None → has order i ≡ false
-unnumbered_has order numbers i h e = elim (either (has order i)) [
+unnumbered_has order numbers i h e = elim (cases_Bool (has order i)) [
   | inl t ↦ let (k, at) = has_at order i t in absurd (none-some k (sym e ∙ h.listed k i at))
   | inr f ↦ f
 ]

@@ -7,7 +7,7 @@ use Rattle.dcx_arena.specs.Gather.{postorder, order_of, StandFor, IsRenamed, IsG
 use Rattle.dcx_arena.proofs.Unfolds.{IsOnce, once_all}
 
 -- no two positions of the order hold one number, so numbers are named one way
-one_name : (order : List ℕ) → IsOnce order → (xs ys here : List ℕ) → StandFor order xs here → StandFor order ys here → xs ≡ ys
+pub one_name : (order : List ℕ) → IsOnce order → (xs ys here : List ℕ) → StandFor order xs here → StandFor order ys here → xs ≡ ys
 one_name order once [] [] here h k = refl
 one_name order once [] (y ∷ ys) [] h k = absurd (cc)
 one_name order once [] (y ∷ ys) (i ∷ here) h k = absurd (cc)
@@ -30,7 +30,7 @@ one_list (x ∷ xs) (y ∷ ys) e h = ap₂ (λ z zs. z ∷ zs) (h 0 x y refl ref
 
 module _ {C : Type 0} where
   -- nothing is finished twice
-  order_once : (nodes : List (Node C)) (roots : List ℕ) → IsOnce (order_of nodes roots)
+  pub order_once : (nodes : List (Node C)) (roots : List ℕ) → IsOnce (order_of nodes roots)
   order_once nodes roots = once_all [] (flat_map (postorder nodes) roots) (λ h k i e d. absurd (none-some i e))
 
   one_renaming : (order : List ℕ) → IsOnce order → (m x y : Node C) → IsRenamed order m x → IsRenamed order m y → x ≡ y

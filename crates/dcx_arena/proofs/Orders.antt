@@ -3,6 +3,7 @@ use Rattle.std.proofs.Common.{◌≡◌, ℕ, zero, suc, ◌<◌, ◌==◌, ◌�
 use Rattle.std.proofs.Common.{Some, None, option_map, refl, sym, ap, ap₂, subst, ◌∙◌, arith, All, append_assoc, append-nil}
 use Rattle.std.specs.List.{slice_get, flat_map}
 use Rattle.std.specs.Option.{unwrap_or}
+use Rattle.std.proofs.lemmas.Bool.{cases_Bool}
 use Rattle.std.proofs.lemmas.Bool.Decides.{Decides-eqb}
 use Rattle.std.proofs.lemmas.Option.{slice_get_within, none-some, same_Some, get_or_from_slice_get}
 use mathlib.Core.Logic.{inl, inr}
@@ -22,10 +23,6 @@ step_left b c e = rw e refl
 step_right : (b c : Bool) → c ≡ true → (if b then true else c) ≡ true
 step_right true c e = refl
 step_right false c e = e
-
-pub either : (b : Bool) → (b ≡ true) ⊎ (b ≡ false)
-either true = inl refl
-either false = inr refl
 
 pub has_left : (xs ys : List ℕ) (x : ℕ) → has xs x ≡ true → has (xs ++ ys) x ≡ true
 has_left [] ys x h = absurd (cc)
@@ -85,7 +82,7 @@ pub with_added : (xs : List ℕ) (y : ℕ) → has xs y ≡ false → with_new x
 with_added xs y e = rw e refl
 
 pub with_has : (xs : List ℕ) (y x : ℕ) → has (xs ++ y ∷ []) x ≡ true → has (with_new xs y) x ≡ true
-with_has xs y x h = elim (either (has xs y)) [
+with_has xs y x h = elim (cases_Bool (has xs y)) [
   | inl e ↦ elim (has_split xs (y ∷ []) x h) [ inl p ↦ rw (with_there xs y e) p | inr q ↦ rw (with_there xs y e, ← one_is y x q) e ]
   | inr e ↦ rw (with_added xs y e) h
 ]
@@ -173,7 +170,7 @@ module _ {C : Type 0} (gives : C → List Sides → Option Sides) (nodes : List 
 
   -- a node whose arguments are there
   pub closed_with : (order : List ℕ) (i : ℕ) → IsClosed nodes order → ((a : ℕ) → has (args_at nodes i) a ≡ true → has order a ≡ true) → IsClosed nodes (with_new order i)
-  closed_with order i closed args = elim (either (has order i)) [
+  closed_with order i closed args = elim (cases_Bool (has order i)) [
     | inl e ↦ rw (with_there order i e) closed
     | inr e ↦ rw (with_added order i e) (closed_push order i closed args)
   ]

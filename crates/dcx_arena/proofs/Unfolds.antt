@@ -1,6 +1,7 @@
 -- What nodes stand for, in a tree and in a part of it.
 use Rattle.std.proofs.Common.{◌≡◌, ℕ, zero, suc, ◌<◌, true, false, List, [], ◌∷◌, ◌++◌, length, Option, Some, refl, sym, ap, ap₂, subst, ◌∙◌, arith, append_assoc}
 use Rattle.std.specs.List.{slice_get, flat_map}
+use Rattle.std.proofs.lemmas.Bool.{cases_Bool}
 use Rattle.std.proofs.lemmas.Option.{slice_get_within, same_Some}
 use mathlib.Core.Logic.{inl, inr}
 use Rattle.dcx_shape.specs.declared.shape.Sides.{Sides}
@@ -8,11 +9,11 @@ use Rattle.dcx_arena.specs.Nodes.{Node, IsNode, AreNodes, args_at}
 use Rattle.dcx_arena.specs.Gather.{has, with_new, with_all, postorder, order_of, StandFor, IsRenamed, AreRenamed}
 use Rattle.dcx_arena.specs.Unfold.{Expressions, none, one, Unfold, Leads, IsReached}
 use Rattle.dcx_arena.proofs.Nodes.{push_each}
-use Rattle.dcx_arena.proofs.Orders.{either, has_left, has_split, has_more, has_one, tail_has, one_is, has_from, has_flat, flat_has}
+use Rattle.dcx_arena.proofs.Orders.{has_left, has_split, has_more, has_one, tail_has, one_is, has_from, has_flat, flat_has}
 use Rattle.dcx_arena.proofs.Orders.{with_there, with_added, with_all_has, not_true, all_has, arg_below, postorder_is, postorder_has}
 
 new_from : (xs : List ℕ) (y x : ℕ) → has (with_new xs y) x ≡ true → has (xs ++ y ∷ []) x ≡ true
-new_from xs y x h = elim (either (has xs y)) [
+new_from xs y x h = elim (cases_Bool (has xs y)) [
   | inl e ↦ has_left xs (y ∷ []) x (subst (λ zs. has zs x ≡ true) (with_there xs y e) h)
   | inr e ↦ subst (λ zs. has zs x ≡ true) (with_added xs y e) h
 ]
@@ -38,7 +39,7 @@ once_push xs y new once h k i a b =
     h i a k b
 
 once_new : (xs : List ℕ) (y : ℕ) → IsOnce xs → IsOnce (with_new xs y)
-once_new xs y once = elim (either (has xs y)) [
+once_new xs y once = elim (cases_Bool (has xs y)) [
   | inl e ↦ subst IsOnce (sym (with_there xs y e)) once
   | inr e ↦ subst IsOnce (sym (with_added xs y e)) (once_push xs y e once)
 ]

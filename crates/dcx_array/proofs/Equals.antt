@@ -31,9 +31,3 @@ list_below-is (suc n) f [] e each = absurd (omega arith)
 list_below-is (suc n) f (x ∷ xs) e each =
     ap₂ (λ y ys. y ∷ ys) (each 0 x (omega arith)) (list_below-is n (λ i. f (suc i)) xs (omega arith) (λ k d b. each (suc k) d (omega arith)))
     ∙ sym (list_below-first n f)
-
--- element k of it
-pub get_or-list_below : {A : Type 0} (n : ℕ) (f : ℕ → A) (k : ℕ) (d : A) → k < n → get_or (list_below n f) k d ≡ f k
-get_or-list_below zero f k d b = absurd (omega arith)
-get_or-list_below (suc n) f zero d b = rw (list_below-first n f) refl
-get_or-list_below (suc n) f (suc k) d b = rw (list_below-first n f) (get_or-list_below n (λ i. f (suc i)) k d (omega arith))

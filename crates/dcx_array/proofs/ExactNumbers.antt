@@ -34,6 +34,7 @@ use Rattle.dcx_atom.specs.declared.array.Array.{Array}
 use Rattle.dcx_atom.specs.Formed.{zero_frac, frac_at}
 use Rattle.dcx_atom.proofs.FormedSums.{frac_at-value, value-zero_frac}
 use Rattle.dcx_atom.proofs.Entrywise.{formed_entry, products_from-exact}
+use Rattle.dcx_atom.proofs.Lists.{get_or-list_below}
 use Rattle.dcx_affine.specs.declared.pairing.Pair.{Pair}
 use Rattle.dcx_affine.specs.declared.pairing.Pairing.TheVariants.{MatTimes}
 use Rattle.dcx_affine.specs.Pairing.{pairs_at}
@@ -47,7 +48,6 @@ use Rattle.dcx_array.specs.Shapes.{allowed_shape, broadcast_of, shared_shape, mu
 use Rattle.dcx_array.specs.Arrays.{entry, formed_array, whole_entry, whole_of}
 use Rattle.dcx_array.specs.Operators.{entry_beside, operated, entrywise, is_zero, divided, product_entry, matrix_multiplied, negated_number, negated}
 use Rattle.dcx_array.specs.Laws.{IsEntrywise, IsMatrixProduct}
-use Rattle.dcx_array.proofs.Equals.{get_or-list_below}
 use Rattle.dcx_array.proofs.AllowedShapes.{allowed_shape-back, product_is}
 use Rattle.dcx_array.proofs.Broadcasts.{broadcast_back, promoted_within}
 use Rattle.dcx_array.proofs.FormedEntries.{formed_array-Ok}
@@ -142,7 +142,7 @@ negative_representable x =
     let e : value zero_frac -ℚ value x ≡ neg_ℚ (value x) = ap (λ z. z +ℚ neg_ℚ (value x)) value-zero_frac ∙ +ℚ_idl (neg_ℚ (value x)) in
     subst IsRepresentable e (difference_representable zero_frac x (inl value-zero_frac))
 
-value-negated_number : (x : Frac) → value (negated_number x) ≡ neg_ℚ (value x)
+pub value-negated_number : (x : Frac) → value (negated_number x) ≡ neg_ℚ (value x)
 value-negated_number x =
     let own : Frac = frac_of (neg_ℚ (value x)) (negative_representable x) in
     let is : value own ≡ neg_ℚ (value x) = value-frac_of (neg_ℚ (value x)) (negative_representable x) in

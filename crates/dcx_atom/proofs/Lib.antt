@@ -16,4 +16,5 @@ pub mod Units
 pub mod Fractions
 pub mod Coefficients
 pub mod Slopes
+pub mod SignedProducts
 pub mod OneArray

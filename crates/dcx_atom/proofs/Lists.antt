@@ -52,6 +52,12 @@ rat_at-list_below zero f j h = absurd (omega arith)
 rat_at-list_below (suc n) f zero h = ap (λ xs. rat_at xs 0) (list_below-first n f)
 rat_at-list_below (suc n) f (suc j) h = ap (λ xs. rat_at xs (suc j)) (list_below-first n f) ∙ rat_at-list_below n (λ i. f (suc i)) j (omega arith)
 
+-- and item j of one
+pub get_or-list_below : {A : Type 0} (n : ℕ) (f : ℕ → A) (j : ℕ) (d : A) → j < n → get_or (list_below n f) j d ≡ f j
+get_or-list_below zero f j d b = absurd (omega arith)
+get_or-list_below (suc n) f zero d b = ap (λ xs. get_or xs 0 d) (list_below-first n f)
+get_or-list_below (suc n) f (suc j) d b = ap (λ xs. get_or xs (suc j) d) (list_below-first n f) ∙ get_or-list_below n (λ i. f (suc i)) j d (omega arith)
+
 -- number r of the list from place s on
 pub number_at-drop : (xs : List Frac) (s r : ℕ) → number_at (drop s xs) r ≡ number_at xs (s + r)
 number_at-drop xs zero r = let e : 0 + r ≡ r = omega arith in rw e refl

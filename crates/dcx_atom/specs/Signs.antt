@@ -1,5 +1,5 @@
 -- Signs of numbers, and which way the numbers of a call go.
-use Rattle.std.specs.Prelude.{◌≡◌, ◌⊎◌, ℕ, Bool, true, false, ◌&&◌, IsTrue, List, slice_index_or, pos}
+use Rattle.std.specs.Prelude.{◌≡◌, ◌⊎◌, ℕ, Bool, true, false, ◌&&◌, ◌||◌, IsTrue, List, slice_index_or, pos}
 use Rattle.std.specs.List.{list_all}
 use Rattle.dcx_math.specs.Rational.{ℚ, whole, ◌+ℚ◌, ◌*ℚ◌, ◌≤ℚ◌}
 use Rattle.dcx_atom.specs.declared.flags.Sign.{Sign}
@@ -68,6 +68,22 @@ no_trend = record { rising = false; falling = false }
 -- the sign turned round
 abbrev pub flipped : Sign → Sign
 flipped s = record { nonneg = s.nonpos; nonpos = s.nonneg }
+
+-- what has this sign is 0
+abbrev pub is_zero : Sign → Bool
+is_zero s = s.nonneg && s.nonpos
+
+-- the sign of a product or a quotient: nonneg where both sides are nonneg, or both nonpos, or one is zero; nonpos where one is
+-- nonneg and the other nonpos, or one is zero
+abbrev pub product_sign : Sign → Sign → Sign
+product_sign l r = record {
+  nonneg = (is_zero l || is_zero r) || ((l.nonneg && r.nonneg) || (l.nonpos && r.nonpos));
+  nonpos = (is_zero l || is_zero r) || ((l.nonneg && r.nonpos) || (l.nonpos && r.nonneg));
+}
+
+-- rises where the other side is nonneg, and falls where it is nonpos
+abbrev pub by_other : Sign → Trend
+by_other s = record { rising = s.nonneg; falling = s.nonpos }
 
 -- the sign of 0 where the sign is that of 0, and else nothing
 abbrev pub zero_or_unknown : Sign → Sign

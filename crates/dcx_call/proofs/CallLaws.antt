@@ -15,8 +15,9 @@ use Rattle.dcx_atom.specs.declared.flags.Sign.{Sign}
 use Rattle.dcx_atom.specs.declared.flags.Trend.{Trend}
 use Rattle.dcx_atom.specs.declared.flags.Bend.{Bend}
 use Rattle.dcx_atom.specs.Arrays.{Entries, number_at, sides_at}
-use Rattle.dcx_atom.specs.Signs.{HasSign, sign_at, HaveSigns, Follows, IsBeyond, no_trend}
+use Rattle.dcx_atom.specs.Signs.{HasSign, sign_at, HaveSigns, Follows, IsBeyond, no_trend, product_sign, by_other}
 use Rattle.dcx_atom.specs.Farthest.{beyond_refl}
+use Rattle.dcx_atom.proofs.SignedProducts.{product_has_sign, quotient_has_sign, sum_has_sign, product_beyond, left_beyond, dividend_beyond, sum_beyond}
 use Rattle.dcx_affine.specs.declared.pairing.Pairing.{Pairing}
 use Rattle.dcx_affine.specs.declared.pairing.Pairing.TheVariants.{Times, MatTimes, Over}
 use Rattle.dcx_affine.specs.declared.pairing.Pair.{Pair}
@@ -28,10 +29,9 @@ use Rattle.dcx_call.specs.declared.call.Call.TheVariants as calls
 use Rattle.dcx_call.specs.Attributes.{attribute_sign, counted, IsWithin}
 use Rattle.dcx_call.specs.Atoms.{atom_meaning, atom_lawful}
 use Rattle.dcx_call.specs.Linears.{linear_meaning, linear_lawful}
-use Rattle.dcx_call.specs.Calls.{own_sides, product_sign, by_other, pairing_trend}
+use Rattle.dcx_call.specs.Calls.{own_sides, pairing_trend}
 use Rattle.dcx_call.specs.Values.{pairing_value}
 use Rattle.dcx_call.specs.Laws.{KeepsSign, KeepsTrend, HoldsForCalls}
-use Rattle.dcx_call.proofs.SignedProducts.{product_has_sign, quotient_has_sign, sum_has_sign, product_beyond, left_beyond, dividend_beyond, sum_beyond}
 
 -- ---- leaves
 pub own_is : (own : Sides) (args : List Sides) (sides : Sides) → own_sides own args ≡ Some sides → own ≡ sides

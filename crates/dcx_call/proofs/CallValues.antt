@@ -28,7 +28,7 @@ use Rattle.dcx_affine.specs.declared.pairing.Pairing.{Pairing}
 use Rattle.dcx_affine.specs.declared.pairing.Pairing.TheVariants.{Times, MatTimes, Over}
 use Rattle.dcx_affine.specs.declared.pairing.Pair.{Pair}
 use Rattle.dcx_affine.specs.Pairing.{paired_sides, pairs_at}
-use Rattle.dcx_atom.proofs.BoundRows.{list_below-first}
+use Rattle.dcx_atom.proofs.Lists.{get_or-list_below}
 use Rattle.dcx_point.specs.Pairs.{Pairs}
 use Rattle.dcx_call.specs.declared.atoms.AtomCall.{AtomCall}
 use Rattle.dcx_call.specs.declared.linears.LinearCall.{LinearCall}
@@ -44,11 +44,6 @@ use Rattle.dcx_call.proofs.Products.{AreRepresentable, products_exact}
 use Rattle.dcx_atom.proofs.Fractions.{value-frac_at, number_fits}
 
 -- ---- lists
-get_or-list_below : {A : Type 0} (n : ℕ) (f : ℕ → A) (j : ℕ) (d : A) → j < n → get_or (list_below n f) j d ≡ f j
-get_or-list_below zero f j d b = absurd (omega arith)
-get_or-list_below (suc n) f zero d b = ap (λ xs. get_or xs 0 d) (list_below-first n f)
-get_or-list_below (suc n) f (suc j) d b = ap (λ xs. get_or xs (suc j) d) (list_below-first n f) ∙ get_or-list_below n (λ i. f (suc i)) j d (omega arith)
-
 map-get_or : {A B : Type 0} (f : List A → List B) → f [] ≡ [] → (xs : List (List A)) (j : ℕ) → f (get_or xs j []) ≡ get_or (map f xs) j []
 map-get_or f e [] j = e
 map-get_or f e (x ∷ xs) zero = refl

@@ -1,7 +1,6 @@
 -- The lemmas by which calls keep their laws, and what is formed of them is exact.
 pub mod Entries
 pub mod Products
-pub mod SignedProducts
 pub mod CallLaws
 pub mod CallValues
 pub mod Given

@@ -1,5 +1,5 @@
 -- The shape, the sign and the trend of each call.
-use Rattle.std.specs.Prelude.{ℕ, zero, suc, Bool, ◌&&◌, ◌||◌, List, [], ◌∷◌, Option, Some, None, pos}
+use Rattle.std.specs.Prelude.{ℕ, zero, suc, List, [], ◌∷◌, Option, Some, None, pos}
 use Rattle.std.specs.List.{list_all}
 use Rattle.dcx_math.specs.Rational.{whole, rat_le}
 use Rattle.dcx_frac.specs.declared.fraction.Frac.{Frac}
@@ -8,7 +8,7 @@ use Rattle.dcx_shape.specs.declared.shape.Sides.{Sides}
 use Rattle.dcx_shape.specs.Shape.{sides_of}
 use Rattle.dcx_atom.specs.declared.flags.Sign.{Sign}
 use Rattle.dcx_atom.specs.declared.flags.Trend.{Trend}
-use Rattle.dcx_atom.specs.Signs.{sign_at, no_trend}
+use Rattle.dcx_atom.specs.Signs.{sign_at, no_trend, product_sign, by_other}
 use Rattle.dcx_affine.specs.declared.pairing.Pairing.{Pairing}
 use Rattle.dcx_affine.specs.declared.pairing.Pairing.TheVariants.{Times, MatTimes, Over}
 use Rattle.dcx_affine.specs.Pairing.{paired_sides}
@@ -48,17 +48,6 @@ numbers_sign xs = record {
   nonpos = list_all (λ x. rat_le (value x) (whole (pos 0))) xs;
 }
 
--- what has this sign is 0
-abbrev pub is_zero : Sign → Bool
-is_zero s = s.nonneg && s.nonpos
-
--- the sign of a product or a quotient
-abbrev pub product_sign : Sign → Sign → Sign
-product_sign l r = record {
-  nonneg = (is_zero l || is_zero r) || ((l.nonneg && r.nonneg) || (l.nonpos && r.nonpos));
-  nonpos = (is_zero l || is_zero r) || ((l.nonneg && r.nonpos) || (l.nonpos && r.nonneg));
-}
-
 -- the sign of the value, from those of the arguments
 abbrev pub sign_of : Call → List Sign → Sign
 sign_of (calls.Variable v) signs = attribute_sign (counted v.whole v.attribute)
@@ -69,10 +58,6 @@ sign_of (calls.Linear l) signs = (linear_meaning l).sign signs
 sign_of (calls.Pairing p) signs = product_sign (sign_at signs 0) (sign_at signs 1)
 
 -- ---- trends
--- rises where the other side is nonneg, and falls where it is nonpos
-abbrev pub by_other : Sign → Trend
-by_other s = record { rising = s.nonneg; falling = s.nonpos }
-
 -- how a product or a quotient moves with a side; with a divisor it is not told
 abbrev pub pairing_trend : Pairing → List Sign → ℕ → Trend
 pairing_trend p signs zero = by_other (sign_at signs 1)

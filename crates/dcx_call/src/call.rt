@@ -5,9 +5,9 @@ ghost use Rattle.dcx_math.specs.Rational.{whole, rat_le};
 ghost use Rattle.dcx_frac.specs.Frac.{value};
 ghost use Rattle.dcx_shape.specs.Shape.{sides_of};
 ghost use Rattle.dcx_atom.specs.Arrays.{sides_list};
-ghost use Rattle.dcx_atom.specs.Signs.{sign_at, no_trend};
+ghost use Rattle.dcx_atom.specs.Signs.{sign_at, no_trend, is_zero, product_sign, by_other};
 ghost use Rattle.dcx_call.specs.Attributes.{attribute_sign};
-ghost use Rattle.dcx_call.specs.Calls.{own_sides, sides_of_two, shape_of, numbers_sign, is_zero, product_sign, sign_of, by_other, pairing_trend, trend_of};
+ghost use Rattle.dcx_call.specs.Calls.{own_sides, sides_of_two, shape_of, numbers_sign, sign_of, pairing_trend, trend_of};
 
 use crate::atoms::AtomCall;
 use crate::attribute::{Attribute, Parameter, Variable};

@@ -21,13 +21,11 @@ use Rattle.dcx_atom.specs.Meaning.{Meaning}
 use Rattle.dcx_atom.specs.Steps.{earlier, entry_stop, weights_of, AreSlopesOf, IsFirstStop, IsSlopeStop}
 use Rattle.dcx_atom.proofs.FormedSums.{frac_at-value, frac_at-zero}
 use Rattle.dcx_atom.proofs.BoundRows.{below_or_last, length-list_below}
-use Rattle.dcx_atom.proofs.Lists.{list_below-same}
+use Rattle.dcx_atom.proofs.Lists.{list_below-same, get_or-list_below}
 use Rattle.dcx_affine.specs.declared.pairing.Pairing.{Pairing}
 use Rattle.dcx_affine.specs.declared.pairing.Pair.{Pair}
 use Rattle.dcx_affine.specs.Pairing.{paired_sides, pairs_at}
 use Rattle.dcx_call.specs.Calls.{sides_of_two}
-use Rattle.dcx_arena.specs.declared.node.NodeId.{NodeId}
-use Rattle.dcx_arena.specs.Nodes.{positions}
 use Rattle.dcx_atom.specs.declared.array.Array.{Array}
 use Rattle.dcx_tree.specs.Nodes.{Node}
 use Rattle.dcx_cert_collect.specs.declared.pairs.Scaling.{Scaling}
@@ -37,7 +35,6 @@ use Rattle.dcx_cert_collect.specs.Calls.{share_to, term_share, linear_shares, fi
 use Rattle.dcx_cert_collect.specs.Calls.{scaling_of, scaling_numbers, pair_share, pairing_shares}
 use Rattle.dcx_cert_collect.specs.Pass.{or_passes, IsOrMemory, handed, pairing_hands}
 use Rattle.dcx_atom.specs.Fractions.{AreFractionSlopes}
-use Rattle.dcx_cert_collect.proofs.Starting.{listed}
 
 -- ---- shares that are told in two ways
 pub joined-same : {A : Type 0} (n : ℕ) (f g : ℕ → List A) → ((j : ℕ) → j < n → f j ≡ g j) → joined_below n f ≡ joined_below n g
@@ -65,7 +62,7 @@ terms_count m ss n ts are = sym (length-map ts (map linear_term)) ∙ ap length 
 
 terms_of : (m : LinearMeaning) (ss : List Sides) (n : ℕ) (ts : List (List Triple)) (j : ℕ) → AreTermsOf m ss n ts → j < n → map linear_term (get_or ts j []) ≡ m.terms ss j
 terms_of m ss n ts j are b =
-    sym (get_or-map (map linear_term) ts j []) ∙ ap (λ xs. get_or xs j []) are ∙ listed n (m.terms ss) j [] b
+    sym (get_or-map (map linear_term) ts j []) ∙ ap (λ xs. get_or xs j []) are ∙ get_or-list_below n (m.terms ss) j [] b
 
 pub linear_told : (nodes : List Node) (args : List ℕ) (m : LinearMeaning) (ss : List Sides) (cs : List Frac) (ts shown : List (List Triple)) → shown ≡ ts → AreTermsOf m ss (length cs) ts →
     linear_shares nodes args cs (λ j. map linear_term (get_or shown j [])) ≡ linear_shares nodes args cs (m.terms ss)
@@ -168,17 +165,9 @@ pub pairing_told : (nodes : List Node) (args : List ℕ) (p : Pairing) (ss : Lis
 pairing_told nodes args p ss cs left right scaling numbers ts shown is are how which =
     joined-same (length cs) (λ j. map (pair_share nodes args scaling numbers (frac_in cs j)) (get_or shown j [])) (λ j. map (pair_share nodes args scaling numbers (frac_in cs j))
     (pairs_at p (sides_at ss 0) (sides_at ss 1) j))
-    (λ j b. ap (map (pair_share nodes args scaling numbers (frac_in cs j))) (ap (λ xs. get_or xs j []) (is ∙ are) ∙ listed (length cs) (pairs_at p (sides_at ss 0) (sides_at ss 1)) j [] b))
+    (λ j b. ap (map (pair_share nodes args scaling numbers (frac_in cs j))) (ap (λ xs. get_or xs j []) (is ∙ are) ∙ get_or-list_below (length cs) (pairs_at p (sides_at ss 0) (sides_at ss 1)) j [] b))
     ∙ ap (λ xs. pairing_shares nodes args scaling xs cs (pairs_at p (sides_at ss 0) (sides_at ss 1))) which
     ∙ ap (λ h. pairing_shares nodes args h (scaling_numbers h left right) cs (pairs_at p (sides_at ss 0) (sides_at ss 1))) how
-
--- the number of an argument
-first : NodeId
-first = record { 0 = 0 }
-
-pub argument_number : (ids : List NodeId) (k : ℕ) → get_or (positions ids) k 0 ≡ (get_or ids k (record { 0 = 0 })).0
-unfolding first
-argument_number ids k = get_or-map (λ (i : NodeId). i.0) ids k first
 
 -- ---- listed slopes are fractions
 pub slopes_fit : (m : Meaning) (ss : List Sides) (size : ℕ) (cs ws gs : List Frac) → AreSlopesOf m ss size cs ws gs → AreFractionSlopes m ss ws

@@ -6,8 +6,8 @@ use Rattle.std.proofs.lemmas.List.Sums.{sum_by_more, sum_by-take-le}
 use Rattle.dcx_shape.specs.Sides.{entries_of}
 use Rattle.dcx_arena.specs.Nodes.{entries_in, sides_at}
 use Rattle.dcx_atom.specs.Arrays.{list_below}
-use Rattle.dcx_atom.proofs.BoundRows.{list_below-first, length-list_below}
-use Rattle.dcx_atom.proofs.Lists.{list_below-next}
+use Rattle.dcx_atom.proofs.BoundRows.{length-list_below}
+use Rattle.dcx_atom.proofs.Lists.{list_below-next, get_or-list_below}
 use Rattle.dcx_tree.specs.Nodes.{Node}
 use Rattle.dcx_cert_collect.specs.Starts.{start_of, AreStarts, place_of}
 
@@ -36,17 +36,11 @@ pub start_all : (nodes : List Node) → start_of nodes (length nodes) ≡ entrie
 start_all nodes = ap entries_in (take-length nodes)
 
 -- ---- the list of starts
--- entry k of a list that is made so
-pub listed : {A : Type 0} (n : ℕ) (f : ℕ → A) (k : ℕ) (d : A) → k < n → get_or (list_below n f) k d ≡ f k
-listed zero f k d b = absurd (omega arith)
-listed (suc n) f zero d b = ap (λ xs. get_or xs 0 d) (list_below-first n f)
-listed (suc n) f (suc k) d b = ap (λ xs. get_or xs (suc k) d) (list_below-first n f) ∙ listed n (λ j. f (suc j)) k d (omega arith)
-
 pub start_there : (nodes : List Node) (starts : List ℕ) (i : ℕ) → AreStarts nodes starts → i < length nodes → i < length starts
 start_there nodes starts i are b = omega (arith, ap length are ∙ length-list_below (length nodes) (start_of nodes), b)
 
 pub start_is : (nodes : List Node) (starts : List ℕ) (i : ℕ) → AreStarts nodes starts → i < length nodes → get_or starts i 0 ≡ start_of nodes i
-start_is nodes starts i are b = ap (λ xs. get_or xs i 0) are ∙ listed (length nodes) (start_of nodes) i 0 b
+start_is nodes starts i are b = ap (λ xs. get_or xs i 0) are ∙ get_or-list_below (length nodes) (start_of nodes) i 0 b
 
 -- where an entry stands
 pub place_there : (nodes : List Node) (starts : List ℕ) (i e size : ℕ) → AreStarts nodes starts → i < length nodes → size ≡ entries_of (sides_at nodes i) → e < size →

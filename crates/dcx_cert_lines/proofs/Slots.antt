@@ -1,11 +1,12 @@
 -- Arrays that are read one after another under the names of a list.
-use Rattle.std.proofs.Common.{◌≡◌, ℕ, zero, suc, ◌+◌, ◌<◌, Bool, true, false, cond, List, [], ◌∷◌, ◌++◌, Some, None, length, map, take, get_or, refl, sym, ap, ◌∙◌, subst, arith}
+use Rattle.std.proofs.Common.{◌≡◌, ℕ, zero, suc, ◌+◌, ◌<◌, false, cond, List, [], ◌∷◌, ◌++◌, Some, None, length, map, take, get_or, refl, sym, ap, ◌∙◌, subst, arith}
 use Rattle.std.proofs.lemmas.List.{take_more, map-append, get_or-map, length-map}
 use Rattle.std.specs.List.{AllByRecursion, IsDistinct}
 use Rattle.dcx_shape.specs.declared.shape.Shape.{Shape}
 use Rattle.dcx_atom.specs.declared.array.Array.{Array}
 use Rattle.dcx_point.specs.Pairs.{Pairs, same_name, array_of, with_array}
-use Rattle.dcx_point.proofs.Puts.{same_name-true, same_name-refl, absent}
+use Rattle.dcx_point.proofs.Names.{unlike}
+use Rattle.dcx_point.proofs.Puts.{absent}
 use Rattle.dcx_lines.specs.Lines.{named_line}
 use Rattle.dcx_lines.specs.Shown.{variables_of}
 use Rattle.dcx_cert_lines.specs.CertText.{named_lines}
@@ -25,13 +26,6 @@ pub read_at : {A B : Type 0} (f : A → B) (xs : List A) (i : ℕ) (d : A) → i
 read_at f xs i d l = (omega (arith, l, length-map xs f), sym (get_or-map f xs i d (f (get_or xs i d)) l))
 
 -- ---- names
-other_way : (a b : List ℕ) → same_name a b ≡ false → same_name b a ≡ false
-other_way a b e = by (same_name b a) refl
-  where
-    by : (t : Bool) → same_name b a ≡ t → t ≡ false
-    by true h = let same : b ≡ a = same_name-true b a h in sym (same_name-refl b) ∙ ap (λ x. same_name x b) same ∙ e
-    by false h = refl
-
 unlike_at : (name : List ℕ) (names : List (List ℕ)) (i : ℕ) (x : List ℕ) → i < length names → x ≡ get_or names i x → AllByRecursion (λ y. same_name name y ≡ false) names → same_name name x ≡ false
 unlike_at name [] i x l at h = absurd (omega (arith, l))
 unlike_at name (y ∷ ys) zero x l at h = ap (same_name name) at ∙ h.0
@@ -51,8 +45,8 @@ absent_among (s ∷ ss) (suc i) x (p ∷ ps) l at d e =
     let names : List (List ℕ) = map (λ q. q.0) ss in
     let within : i < length names = omega (arith, l, length-map ss (λ (q : Slot). q.0)) in
     let here : x.0 ≡ get_or names i x.0 = ap (λ q. q.0) at ∙ sym (get_or-map (λ (q : Slot). q.0) ss i x x.0 (omega (arith, l))) in
-    let unlike : same_name s.0 x.0 ≡ false = unlike_at s.0 names i x.0 within here d.0 in
-    let other : same_name x.0 p.0 ≡ false = other_way p.0 x.0 (ap (λ q. same_name q.0 x.0) head ∙ unlike) in
+    let apart : same_name s.0 x.0 ≡ false = unlike_at s.0 names i x.0 within here d.0 in
+    let other : same_name x.0 p.0 ≡ false = unlike p.0 x.0 (ap (λ q. same_name q.0 x.0) head ∙ apart) in
     ap (λ t. cond t (Some p.1) (array_of ps x.0)) other ∙ deeper
 
 -- ---- one more array

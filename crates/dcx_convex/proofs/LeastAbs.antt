@@ -11,9 +11,8 @@ use Rattle.dcx_math.proofs.Bounds.{rat_abs-≤ℚ, ≤ℚ-rat_abs, neg_ℚ-≤�
 use Rattle.dcx_atom.specs.declared.flags.Sign.{Sign}
 use Rattle.dcx_atom.specs.declared.flags.Bend.{Bend}
 use Rattle.dcx_atom.specs.declared.flags.Bend.TheVariants.{Convex}
-use Rattle.dcx_atom.specs.Signs.{HasSign, IsBeyond, Follows, sign_at}
+use Rattle.dcx_atom.specs.Signs.{HasSign, IsBeyond, Follows, sign_at, by_other}
 use Rattle.dcx_convex.specs.Calls.{IsLawful}
-use Rattle.dcx_convex.specs.Pairs.{trend_beside}
 use Rattle.dcx_convex.specs.Nodes.{Node, Numbers, Point, Setting, IsNode, first_of, IsLawfulHead, AreLawful, ParameterKeeps, VariableKeeps, HasNoZeroDivisor, Fits, IsInDomain, value_at}
 use Rattle.dcx_convex.specs.Rules.{Plain, judgement_at}
 use Rattle.dcx_convex.specs.Reductions.{StandsFor, StandForNodes, Unknowns, RowsHold, IsReduction, IsWellFormed, IsRightOptimal}
@@ -27,7 +26,7 @@ use Rattle.dcx_convex.proofs.MapBack.{optimal}
 
 -- ---- the call
 -- away from 0 the size grows
-abs_follows : (s : Sign) (x y : ℚ) → HasSign s x → Follows Convex (trend_beside s) x y → rat_abs x ≤ℚ rat_abs y
+abs_follows : (s : Sign) (x y : ℚ) → HasSign s x → Follows Convex (by_other s) x y → rat_abs x ≤ℚ rat_abs y
 abs_follows s x y h (inl e) = ≤ℚ-from_≡ (ap rat_abs e)
 abs_follows s x y h (inr (inl p)) =
     rat_abs-≤ℚ (≤ℚ_trans p.1 (≤ℚ-rat_abs y)) (≤ℚ_trans (linear (x ∷ []) (h.nonneg p.0) (search reads depth 30) tt) (rat_abs-nonnegative y))
@@ -38,7 +37,7 @@ absolute_lawful = record {
   sign_law = λ signs a n h j b. record { nonneg = λ _. rat_abs-nonnegative (a 0 0); nonpos = λ t. absurd (false≢true t) };
   monotonicity = λ bend signs a b e h f j l.
       subst (λ c. IsBeyond c (rat_abs (a 0 0)) (rat_abs (b 0 0))) e
-      (abs_follows (sign_at signs 0) (a 0 0) (b 0 0) (h 0 0) (subst (λ c. Follows c (trend_beside (sign_at signs 0)) (a 0 0) (b 0 0)) (sym e) (f 0 0)));
+      (abs_follows (sign_at signs 0) (a 0 0) (b 0 0) (h 0 0) (subst (λ c. Follows c (by_other (sign_at signs 0)) (a 0 0) (b 0 0)) (sym e) (f 0 0)));
   curvature = λ bend t r a b e p q one j l.
       subst (λ c. IsBeyond c (rat_abs (t *ℚ a 0 0 +ℚ r *ℚ b 0 0)) (t *ℚ rat_abs (a 0 0) +ℚ r *ℚ rat_abs (b 0 0))) e (rat_abs-convex (a 0 0) (b 0 0) p q);
 }

@@ -1,107 +1,38 @@
 -- Products and quotients keep the laws of calls.
-use Rattle.std.proofs.Common.{◌≡◌, inl, inr, ℕ, IsTrue, List, [], ◌∷◌, map, refl, sym, ap, ap₂, ◌∙◌, subst, pos}
-use Rattle.std.specs.Prelude.{◌⊎◌, ◌&&◌, ◌||◌}
-use Rattle.std.proofs.lemmas.Bool.{and_parts, or_cases}
-use Rattle.dcx_math.specs.Rational.{ℚ, whole, ◌+ℚ◌, ◌*ℚ◌, inverse, ◌≤ℚ◌}
+use Rattle.std.proofs.Common.{◌≡◌, inl, inr, ℕ, List, [], ◌∷◌, map, refl, sym, ap, ap₂, ◌∙◌, subst, pos}
+use Rattle.std.specs.Prelude.{◌⊎◌}
+use Rattle.dcx_math.specs.Rational.{ℚ, whole, ◌+ℚ◌, ◌*ℚ◌, inverse}
 use Rattle.dcx_math.specs.Sums.{rat_sum_by}
 use Rattle.dcx_math.proofs.Ring.{/ℚ-is}
-use Rattle.dcx_math.proofs.FieldLaws.{*ℚ-inverse, inverse-zero}
-use Rattle.dcx_math.proofs.Orders.{≤ℚ_antisym, ≤ℚ-from_≡, ≤ℚ_trans, +ℚ-≤ℚ, +ℚ-nonnegative, +ℚ-nonpositive, *ℚ-≤ℚ, *ℚ_comm, zero-*ℚ, *ℚ-zero, ℚ_discrete, ≤ℚ-≢, <ℚ-≤ℚ, <ℚ-from_not, <ℚ-not}
-use Rattle.dcx_math.proofs.Products.{*ℚ-≤ℚ_turned, *ℚ-nonnegative, *ℚ-nonpositive, *ℚ-nonnegative_both_negative, inverse-positive, zero-<ℚ-one}
+use Rattle.dcx_math.proofs.Orders.{*ℚ_comm}
 use Rattle.dcx_atom.specs.declared.flags.Sign.{Sign}
 use Rattle.dcx_atom.specs.declared.flags.Bend.{Bend}
-use Rattle.dcx_atom.specs.declared.flags.Bend.TheVariants.{Convex, Concave}
 use Rattle.dcx_atom.specs.Arrays.{Entries}
-use Rattle.dcx_atom.specs.Signs.{HasSign, sign_at, HaveSigns, IsBeyond, Follows, combination}
+use Rattle.dcx_atom.specs.Signs.{HasSign, sign_at, HaveSigns, IsBeyond, Follows, combination, product_sign, by_other}
 use Rattle.dcx_atom.proofs.RowSums.{zero_combination, term_combination}
+use Rattle.dcx_atom.proofs.SignedProducts.{product_has_sign, inverse_has_sign, sum_has_sign, product_beyond as factor_beyond, sum_beyond}
 use Rattle.dcx_convex.specs.Calls.{IsLawful}
-use Rattle.dcx_convex.specs.Pairs.{Pair, products_at, quotients_at, is_zero, paired_sign, trend_beside, product_trend, quotient_trend, product_call, quotient_call}
+use Rattle.dcx_convex.specs.Pairs.{Pair, products_at, quotients_at, product_trend, quotient_trend, product_call, quotient_call}
 use Rattle.dcx_convex.specs.Nodes.{Numbers}
-use Rattle.dcx_convex.proofs.Arguments.{zero_signed}
 use Rattle.dcx_convex.proofs.Beyond.{beyond_same}
 use Rattle.dcx_convex.proofs.Convexity.{same_mixed}
-use Rattle.dcx_atom.specs.Farthest.{beyond_refl}
 
 -- the sum of the products of the pairs
 abbrev paired : List Pair → Numbers → Numbers → ℚ
 paired pairs l r = rat_sum_by (λ x. l x.left *ℚ r x.right) pairs
 
 -- ---- signs
-zero_is : (s : Sign) (x : ℚ) → HasSign s x → IsTrue (is_zero s) → x ≡ whole (pos 0)
-zero_is s x h t = let b = and_parts s.nonneg s.nonpos t in ≤ℚ_antisym (h.nonpos b.1) (h.nonneg b.0)
-
-zero_factor : (l r : Sign) (x y : ℚ) → HasSign l x → HasSign r y → IsTrue (is_zero l || is_zero r) → x *ℚ y ≡ whole (pos 0)
-zero_factor l r x y h k t =
-    elim (or_cases (is_zero l) (is_zero r) t) [
-      | inl p ↦ ap (λ w. w *ℚ y) (zero_is l x h p) ∙ zero-*ℚ y
-      | inr p ↦ ap (λ w. x *ℚ w) (zero_is r y k p) ∙ *ℚ-zero x
-    ]
-
-product_signed : (l r : Sign) (x y : ℚ) → HasSign l x → HasSign r y → HasSign (paired_sign l r) (x *ℚ y)
-product_signed l r x y h k = record {
-  nonneg = λ t. up (or_cases (is_zero l || is_zero r) ((l.nonneg && r.nonneg) || (l.nonpos && r.nonpos)) t);
-  nonpos = λ t. down (or_cases (is_zero l || is_zero r) ((l.nonneg && r.nonpos) || (l.nonpos && r.nonneg)) t);
-}
-  where
-    alike : IsTrue (l.nonneg && r.nonneg) ⊎ IsTrue (l.nonpos && r.nonpos) → whole (pos 0) ≤ℚ x *ℚ y
-    alike (inl p) = let b = and_parts l.nonneg r.nonneg p in *ℚ-nonnegative (h.nonneg b.0) (k.nonneg b.1)
-    alike (inr p) = let b = and_parts l.nonpos r.nonpos p in *ℚ-nonnegative_both_negative (h.nonpos b.0) (k.nonpos b.1)
-
-    up : IsTrue (is_zero l || is_zero r) ⊎ IsTrue ((l.nonneg && r.nonneg) || (l.nonpos && r.nonpos)) → whole (pos 0) ≤ℚ x *ℚ y
-    up (inl p) = ≤ℚ-from_≡ (sym (zero_factor l r x y h k p))
-    up (inr p) = alike (or_cases (l.nonneg && r.nonneg) (l.nonpos && r.nonpos) p)
-
-    unlike : IsTrue (l.nonneg && r.nonpos) ⊎ IsTrue (l.nonpos && r.nonneg) → x *ℚ y ≤ℚ whole (pos 0)
-    unlike (inl p) = let b = and_parts l.nonneg r.nonpos p in *ℚ-nonpositive (h.nonneg b.0) (k.nonpos b.1)
-    unlike (inr p) = let b = and_parts l.nonpos r.nonneg p in subst (λ w. w ≤ℚ whole (pos 0)) (*ℚ_comm y x) (*ℚ-nonpositive (k.nonneg b.1) (h.nonpos b.0))
-
-    down : IsTrue (is_zero l || is_zero r) ⊎ IsTrue ((l.nonneg && r.nonpos) || (l.nonpos && r.nonneg)) → x *ℚ y ≤ℚ whole (pos 0)
-    down (inl p) = ≤ℚ-from_≡ (zero_factor l r x y h k p)
-    down (inr p) = unlike (or_cases (l.nonneg && r.nonpos) (l.nonpos && r.nonneg) p)
-
-sum_signed : (s : Sign) (x y : ℚ) → HasSign s x → HasSign s y → HasSign s (x +ℚ y)
-sum_signed s x y h k = record { nonneg = λ t. +ℚ-nonnegative (h.nonneg t) (k.nonneg t); nonpos = λ t. +ℚ-nonpositive (h.nonpos t) (k.nonpos t) }
-
-pairs_signed : (s q : Sign) (pairs : List Pair) (l r : Numbers) → ((e : ℕ) → HasSign s (l e)) → ((e : ℕ) → HasSign q (r e)) → HasSign (paired_sign s q) (paired pairs l r)
-pairs_signed s q [] l r h k = zero_signed (paired_sign s q)
-pairs_signed s q (x ∷ pairs) l r h k = sum_signed (paired_sign s q) _ _ (product_signed s q (l x.left) (r x.right) (h x.left) (k x.right)) (pairs_signed s q pairs l r h k)
-
--- a number turned over keeps its sign
-inverse-nonneg : (y : ℚ) → whole (pos 0) ≤ℚ y → whole (pos 0) ≤ℚ inverse y
-inverse-nonneg y h =
-    elim (ℚ_discrete (whole (pos 0)) y) [
-      | inl e ↦ ≤ℚ-from_≡ (sym inverse-zero ∙ ap inverse e)
-      | inr d ↦ <ℚ-≤ℚ (inverse-positive (≤ℚ-≢ h d))
-    ]
-
-inverse-nonpos : (y : ℚ) → y ≤ℚ whole (pos 0) → inverse y ≤ℚ whole (pos 0)
-inverse-nonpos y h =
-    elim (ℚ_discrete y (whole (pos 0))) [
-      | inl e ↦ ≤ℚ-from_≡ (ap inverse e ∙ inverse-zero)
-      | inr d ↦ <ℚ-≤ℚ (<ℚ-from_not (inverse y) (whole (pos 0)) (λ up. <ℚ-not zero-<ℚ-one (≤ℚ_trans (≤ℚ-from_≡ (sym (*ℚ-inverse y d) ∙ *ℚ_comm y (inverse y))) (*ℚ-nonpositive up h))))
-    ]
-
-inverse_signed : (s : Sign) (y : ℚ) → HasSign s y → HasSign s (inverse y)
-inverse_signed s y h = record { nonneg = λ t. inverse-nonneg y (h.nonneg t); nonpos = λ t. inverse-nonpos y (h.nonpos t) }
+pairs_signed : (s q : Sign) (pairs : List Pair) (l r : Numbers) → ((e : ℕ) → HasSign s (l e)) → ((e : ℕ) → HasSign q (r e)) → HasSign (product_sign s q) (paired pairs l r)
+pairs_signed s q pairs l r h k =
+    sum_has_sign (product_sign s q) (λ (x : Pair). l x.left *ℚ r x.right) pairs (λ x. product_has_sign s q (l x.left) (r x.right) (h x.left) (k x.right))
 
 -- ---- monotonicity
--- a factor of a sign keeps what follows by that sign
-factor_beyond : (bend : Bend) (s : Sign) (x y z : ℚ) → HasSign s x → Follows bend (trend_beside s) y z → IsBeyond bend (x *ℚ y) (x *ℚ z)
-factor_beyond bend s x y z h (inl e) = beyond_same bend (ap (λ u. x *ℚ u) e)
-factor_beyond Convex s x y z h (inr (inl p)) = *ℚ-≤ℚ (h.nonneg p.0) p.1
-factor_beyond Concave s x y z h (inr (inl p)) = *ℚ-≤ℚ (h.nonneg p.0) p.1
-factor_beyond Convex s x y z h (inr (inr p)) = *ℚ-≤ℚ_turned (h.nonpos p.0) p.1
-factor_beyond Concave s x y z h (inr (inr p)) = *ℚ-≤ℚ_turned (h.nonpos p.0) p.1
-
-sum_beyond : (bend : Bend) (x y z w : ℚ) → IsBeyond bend x y → IsBeyond bend z w → IsBeyond bend (x +ℚ z) (y +ℚ w)
-sum_beyond Convex x y z w h k = +ℚ-≤ℚ h k
-sum_beyond Concave x y z w h k = +ℚ-≤ℚ h k
-
 -- with the left side fixed
-left_beyond : (bend : Bend) (s : Sign) (pairs : List Pair) (l r q : Numbers) → ((e : ℕ) → HasSign s (l e)) → ((e : ℕ) → Follows bend (trend_beside s) (r e) (q e)) →
+left_beyond : (bend : Bend) (s : Sign) (pairs : List Pair) (l r q : Numbers) → ((e : ℕ) → HasSign s (l e)) → ((e : ℕ) → Follows bend (by_other s) (r e) (q e)) →
     IsBeyond bend (paired pairs l r) (paired pairs l q)
-left_beyond bend s [] l r q h f = beyond_refl bend _
-left_beyond bend s (x ∷ pairs) l r q h f = sum_beyond bend _ _ _ _ (factor_beyond bend s (l x.left) (r x.right) (q x.right) (h x.left) (f x.right)) (left_beyond bend s pairs l r q h f)
+left_beyond bend s pairs l r q h f =
+    sum_beyond bend (λ (x : Pair). l x.left *ℚ r x.right) (λ (x : Pair). l x.left *ℚ q x.right) pairs
+    (λ x. factor_beyond bend s (l x.left) (r x.right) (q x.right) (h x.left) (f x.right))
 
 -- the sides change places
 abbrev turned_all : List Pair → List Pair
@@ -112,7 +43,7 @@ paired_turned [] l r = refl
 paired_turned (x ∷ pairs) l r = ap₂ ◌+ℚ◌ (*ℚ_comm (l x.left) (r x.right)) (paired_turned pairs l r)
 
 -- with the right side fixed
-right_beyond : (bend : Bend) (s : Sign) (pairs : List Pair) (l m r : Numbers) → ((e : ℕ) → HasSign s (r e)) → ((e : ℕ) → Follows bend (trend_beside s) (l e) (m e)) →
+right_beyond : (bend : Bend) (s : Sign) (pairs : List Pair) (l m r : Numbers) → ((e : ℕ) → HasSign s (r e)) → ((e : ℕ) → Follows bend (by_other s) (l e) (m e)) →
     IsBeyond bend (paired pairs l r) (paired pairs m r)
 right_beyond bend s pairs l m r h f =
     subst (λ u. IsBeyond bend u (paired pairs m r)) (sym (paired_turned pairs l r))
@@ -170,17 +101,17 @@ module _ (size : ℕ) (pairs : ℕ → List Pair) where
   quotients_are [] a = refl
   quotients_are (x ∷ ps) a = ap₂ ◌+ℚ◌ (/ℚ-is (a 0 x.left) (a 1 x.right)) (quotients_are ps a)
 
-  quotient_signed : (signs : List Sign) (a : Entries) → HaveSigns signs a → (j : ℕ) → HasSign (paired_sign (sign_at signs 0) (sign_at signs 1)) (quotients_at (pairs j) a)
+  quotient_signed : (signs : List Sign) (a : Entries) → HaveSigns signs a → (j : ℕ) → HasSign (product_sign (sign_at signs 0) (sign_at signs 1)) (quotients_at (pairs j) a)
   quotient_signed signs a h j =
-      subst (λ u. HasSign (paired_sign (sign_at signs 0) (sign_at signs 1)) u) (sym (quotients_are (pairs j) a))
-      (pairs_signed (sign_at signs 0) (sign_at signs 1) (pairs j) (a 0) (λ e. inverse (a 1 e)) (h 0) (λ e. inverse_signed (sign_at signs 1) (a 1 e) (h 1 e)))
+      subst (λ u. HasSign (product_sign (sign_at signs 0) (sign_at signs 1)) u) (sym (quotients_are (pairs j) a))
+      (pairs_signed (sign_at signs 0) (sign_at signs 1) (pairs j) (a 0) (λ e. inverse (a 1 e)) (h 0) (λ e. inverse_has_sign (sign_at signs 1) (a 1 e) (h 1 e)))
 
   quotient_beyond : (bend : Bend) (signs : List Sign) (a b : Entries) → a 1 ≡ b 1 → HaveSigns signs a → ((i k : ℕ) → Follows bend (quotient_trend signs i) (a i k) (b i k)) →
       (j : ℕ) → IsBeyond bend (quotients_at (pairs j) a) (quotients_at (pairs j) b)
   quotient_beyond bend signs a b e h f j =
       subst (λ u. IsBeyond bend u (quotients_at (pairs j) b)) (sym (quotients_are (pairs j) a))
       (subst (λ u. IsBeyond bend (paired (pairs j) (a 0) (λ e. inverse (a 1 e))) u) (ap (λ r. paired (pairs j) (b 0) (λ e. inverse (r e))) e ∙ sym (quotients_are (pairs j) b))
-      (right_beyond bend (sign_at signs 1) (pairs j) (a 0) (b 0) (λ e. inverse (a 1 e)) (λ e. inverse_signed (sign_at signs 1) (a 1 e) (h 1 e)) (f 0)))
+      (right_beyond bend (sign_at signs 1) (pairs j) (a 0) (b 0) (λ e. inverse (a 1 e)) (λ e. inverse_has_sign (sign_at signs 1) (a 1 e) (h 1 e)) (f 0)))
 
   quotient_between : (t r : ℚ) (a b : Entries) → a 1 ≡ b 1 → t +ℚ r ≡ whole (pos 1) → (j : ℕ) →
       quotients_at (pairs j) (combination t r a b) ≡ t *ℚ quotients_at (pairs j) a +ℚ r *ℚ quotients_at (pairs j) b

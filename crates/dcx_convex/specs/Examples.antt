@@ -3,9 +3,9 @@ use Rattle.std.specs.Prelude.{nat_eq, if◌then◌else◌, ◌≡◌, ℕ, true,
 use Rattle.dcx_math.specs.Rational.{ℚ, whole, ◌+ℚ◌, ◌-ℚ◌, neg_ℚ, rat_abs, rat_max, ◌≤ℚ◌}
 use Rattle.dcx_shape.specs.declared.shape.Sides.TheVariants.{Scalar, Vector}
 use Rattle.dcx_atom.specs.declared.flags.Bend.TheVariants.{Convex}
-use Rattle.dcx_atom.specs.Signs.{sign_at, rises, falls, common_sign, flipped}
+use Rattle.dcx_atom.specs.Signs.{sign_at, rises, falls, common_sign, flipped, by_other}
 use Rattle.dcx_convex.specs.Calls.{Call, Nonlinear, Linear}
-use Rattle.dcx_convex.specs.Pairs.{product_call, quotient_call, trend_beside}
+use Rattle.dcx_convex.specs.Pairs.{product_call, quotient_call}
 use Rattle.dcx_convex.specs.Nodes.{Setting, first_of, AreLawful, Fits, Attribute, Free, Nonneg, Node, Variable, Parameter, Constant, Apply}
 use Rattle.dcx_convex.specs.Rules.{Plain, Parametrized}
 use Rattle.dcx_convex.specs.Problems.{Sense, Minimize, Maximize, AtMost, Equal, Problem, accepted_by, IsAccepted}
@@ -15,7 +15,7 @@ use Rattle.dcx_convex.specs.Reductions.{Reduced, IsWellFormed, IsReduction, IsRi
 
 -- ---- calls on numbers, and the larger of two entries
 abbrev pub absolute : Call
-absolute = record { kind = Nonlinear Convex; size = 1; sign = λ signs. record { nonneg = true; nonpos = false }; trend = λ signs i. trend_beside (sign_at signs 0); value = λ a j. rat_abs (a 0 0) }
+absolute = record { kind = Nonlinear Convex; size = 1; sign = λ signs. record { nonneg = true; nonpos = false }; trend = λ signs i. by_other (sign_at signs 0); value = λ a j. rat_abs (a 0 0) }
 
 abbrev pub larger : Call
 larger = record { kind = Nonlinear Convex; size = 1; sign = λ signs. sign_at signs 0; trend = λ signs i. rises; value = λ a j. rat_max (a 0 0) (a 0 1) }

@@ -1,11 +1,11 @@
 -- Products and quotients: each entry is a sum over pairs of an entry of argument 0 and one of argument 1.
-use Rattle.std.specs.Prelude.{ℕ, zero, suc, Bool, ◌&&◌, ◌||◌, List}
+use Rattle.std.specs.Prelude.{ℕ, zero, suc, List}
 use Rattle.dcx_math.specs.Rational.{ℚ, ◌*ℚ◌, ◌/ℚ◌}
 use Rattle.dcx_math.specs.Sums.{rat_sum_by}
 use Rattle.dcx_atom.specs.declared.flags.Sign.{Sign}
 use Rattle.dcx_atom.specs.declared.flags.Trend.{Trend}
 use Rattle.dcx_atom.specs.Arrays.{Entries}
-use Rattle.dcx_atom.specs.Signs.{sign_at, no_trend}
+use Rattle.dcx_atom.specs.Signs.{sign_at, no_trend, product_sign, by_other}
 use Rattle.dcx_convex.specs.Calls.{Call, Product, Quotient}
 
 -- entry `left` of argument 0 with entry `right` of argument 1
@@ -20,27 +20,12 @@ products_at pairs a = rat_sum_by (λ x. a 0 x.left *ℚ a 1 x.right) pairs
 abbrev pub quotients_at : List Pair → Entries → ℚ
 quotients_at pairs a = rat_sum_by (λ x. a 0 x.left /ℚ a 1 x.right) pairs
 
--- 0 alone has this sign
-abbrev pub is_zero : Sign → Bool
-is_zero s = s.nonneg && s.nonpos
-
--- nonneg where both sides are nonneg, or both nonpos, or one is zero; nonpos where one is nonneg and the other nonpos, or one is zero
-abbrev pub paired_sign : Sign → Sign → Sign
-paired_sign l r = record {
-  nonneg = (is_zero l || is_zero r) || ((l.nonneg && r.nonneg) || (l.nonpos && r.nonpos));
-  nonpos = (is_zero l || is_zero r) || ((l.nonneg && r.nonpos) || (l.nonpos && r.nonneg));
-}
-
--- rises where the other side is nonneg, and falls where it is nonpos
-abbrev pub trend_beside : Sign → Trend
-trend_beside other = record { rising = other.nonneg; falling = other.nonpos }
-
 abbrev pub product_trend : List Sign → ℕ → Trend
-product_trend signs zero = trend_beside (sign_at signs 1)
-product_trend signs (suc i) = trend_beside (sign_at signs 0)
+product_trend signs zero = by_other (sign_at signs 1)
+product_trend signs (suc i) = by_other (sign_at signs 0)
 
 abbrev pub quotient_trend : List Sign → ℕ → Trend
-quotient_trend signs zero = trend_beside (sign_at signs 1)
+quotient_trend signs zero = by_other (sign_at signs 1)
 quotient_trend signs (suc i) = no_trend
 
 -- a product of so many entries, by the pairs of each
@@ -48,7 +33,7 @@ abbrev pub product_call : ℕ → (ℕ → List Pair) → Call
 product_call size pairs = record {
   kind = Product;
   size = size;
-  sign = λ signs. paired_sign (sign_at signs 0) (sign_at signs 1);
+  sign = λ signs. product_sign (sign_at signs 0) (sign_at signs 1);
   trend = product_trend;
   value = λ a j. products_at (pairs j) a;
 }
@@ -58,7 +43,7 @@ abbrev pub quotient_call : ℕ → (ℕ → List Pair) → Call
 quotient_call size pairs = record {
   kind = Quotient;
   size = size;
-  sign = λ signs. paired_sign (sign_at signs 0) (sign_at signs 1);
+  sign = λ signs. product_sign (sign_at signs 0) (sign_at signs 1);
   trend = quotient_trend;
   value = λ a j. quotients_at (pairs j) a;
 }

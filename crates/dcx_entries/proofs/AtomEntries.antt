@@ -10,6 +10,7 @@ use Rattle.dcx_atom.specs.declared.graph.AuxTerm.{AuxTerm}
 use Rattle.dcx_atom.specs.declared.stops.ValueStop.{ValueStop}
 use Rattle.dcx_atom.specs.Graph.{form_term, row_term, IsGraphOf}
 use Rattle.dcx_atom.specs.Meaning.{Meaning}
+use Rattle.dcx_atom.proofs.Lists.{get_or-list_below}
 use Rattle.dcx_linear.specs.declared.change.Change.{Change}
 use Rattle.dcx_linear.specs.declared.stop.CoefStop.{CoefStop}
 use Rattle.dcx_linear.specs.Stops.{OnPass, OnPass-weaker}
@@ -18,7 +19,7 @@ use Rattle.dcx_entries.specs.Forming.{FormsEach, AtEntry, OnStop, stop_at}
 use Rattle.dcx_entries.specs.Parts.{Arguments, aux_part, row_part}
 use Rattle.dcx_entries.specs.Entries.{AtomEntry}
 use Rattle.dcx_entries.proofs.Each.{each_more, each_stops, at_entry_stops, OnStop-weaker}
-use Rattle.dcx_entries.proofs.OwnRows.{AreLeft, own_count, own_then_left, made_of_own, list_below_at}
+use Rattle.dcx_entries.proofs.OwnRows.{AreLeft, own_count, own_then_left, made_of_own}
 use Rattle.dcx_entries.proofs.Places.{parts_of_row}
 
 module _ {C : Type 0} (of_number : Frac → C) (number_of : C → Option Frac) (Sums : C → C → Result C Passes → Type 0) (Changes : Change → C → Result C Passes → Type 0) (args : Arguments C)
@@ -38,7 +39,7 @@ module _ {C : Type 0} (of_number : Frac → C) (number_of : C → Option Frac) (
     result_is : map form_term terms ≡ m.result sides j
     result_is =
         ap (λ ts. map form_term ts) (sym at) ∙ sym (get_or-map (λ ts. map form_term ts) graph.results j [] [] (rw many lt))
-        ∙ ap (λ l. get_or l j []) is.results ∙ list_below_at size (m.result sides) j [] lt
+        ∙ ap (λ l. get_or l j []) is.results ∙ get_or-list_below size (m.result sides) j [] lt
 
     rows_are : map (parts_of_row of_number args first) own ≡ map (λ row. map (row_part of_number args first) row) (m.rows sides j)
     rows_are =

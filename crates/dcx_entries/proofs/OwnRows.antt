@@ -6,8 +6,6 @@ use Rattle.std.proofs.lemmas.List.{append-nil, append_cancel_left}
 use Rattle.std.proofs.lemmas.List.Sums.{prefix_len-le-length}
 use Rattle.std.proofs.lemmas.Bool.{eq-eqb, ne_eqb}
 use Rattle.dcx_atom.specs.declared.graph.GraphRow.{GraphRow}
-use Rattle.dcx_atom.specs.Arrays.{list_below}
-use Rattle.dcx_atom.proofs.BoundRows.{list_below-first}
 use Rattle.dcx_atom.specs.Rows.{Row}
 use Rattle.dcx_atom.specs.Graph.{row_term, PlacedRow, placed_row, rows_below}
 
@@ -131,12 +129,6 @@ all_left rows n all e = record { are = sym e }
 pub made_of_own : {B : Type 0} (f : Row → B) (rs : List GraphRow) → map (λ r. f (map row_term r.terms)) rs ≡ map f (map (λ r. map row_term r.terms) rs)
 made_of_own f [] = refl
 made_of_own f (r ∷ rs) = ap (λ l. f (map row_term r.terms) ∷ l) (made_of_own f rs)
-
--- what stands in a list that is made place by place
-pub list_below_at : {A : Type 0} (n : ℕ) (f : ℕ → A) (j : ℕ) (d : A) → j < n → get_or (list_below n f) j d ≡ f j
-list_below_at zero f j d h = absurd (omega arith)
-list_below_at (suc n) f zero d h = ap (λ xs. get_or xs 0 d) (list_below-first n f)
-list_below_at (suc n) f (suc j) d h = ap (λ xs. get_or xs (suc j) d) (list_below-first n f) ∙ list_below_at n (λ i. f (suc i)) j d (omega arith)
 
 -- there are no more of them than rows
 pub own_count_le : (j : ℕ) (rest : List GraphRow) → own_count j rest ≤ length rest

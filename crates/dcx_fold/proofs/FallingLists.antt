@@ -1,12 +1,12 @@
 -- A list that is sorted from the farthest number on is the falling order of its numbers, as the call counts them.
-use Rattle.std.proofs.Common.{◌≡◌, ◌↔◌, ◌⊎◌, inl, inr, ℕ, zero, suc, ◌+◌, ◌<◌, arith, Bool, true, false, if◌then◌else◌, List, [], ◌∷◌, map, length, take, get_or, All, refl, sym, ap, ap₂, ◌∙◌, subst}
+use Rattle.std.proofs.Common.{◌≡◌, ◌↔◌, ◌⊎◌, inl, inr, ℕ, suc, ◌+◌, ◌<◌, arith, Bool, true, false, if◌then◌else◌, List, [], ◌∷◌, map, length, take, get_or, All, refl, sym, ap, ap₂, ◌∙◌, subst}
 use Rattle.std.specs.declared.cmp.Ordering.{Ordering}
 use Rattle.std.specs.declared.cmp.Ordering.TheVariants.{Less, Equal, Greater}
 use Rattle.std.specs.Ordering.{is_lt}
 use Rattle.std.specs.Cmp.{IsStrictWeakOrder}
 use Rattle.std.specs.List.{sum_by}
 use Rattle.std.specs.List.Sorted.{IsPermutation, IsSortedBy}
-use Rattle.std.proofs.lemmas.List.{length-map}
+use Rattle.std.proofs.lemmas.List.{length-map, take-map}
 use Rattle.std.proofs.lemmas.List.Sums.{sum_by-cons}
 use Rattle.std.proofs.lemmas.List.Sorted.{sum_by-IsPermutation, IsPermutation-map}
 use Rattle.std.proofs.lemmas.List.Elements.{All-head, All-tail, All-cons, All-nil, All-weaker}
@@ -183,11 +183,6 @@ sorted_is bend xs ys p s =
     sym (map-map f (outward bend) ys ∙ map-same (λ x. outward bend (f x)) value ys (λ x. turned_twice bend (value x)))
     ∙ ap (map (outward bend)) (falling_is (map f xs) (map f ys) (IsPermutation-map f xs ys p) falls)
 
-map-take : {A B : Type 0} (f : A → B) (k : ℕ) (xs : List A) → map f (take k xs) ≡ take k (map f xs)
-map-take f zero xs = refl
-map-take f (suc k) [] = refl
-map-take f (suc k) (x ∷ xs) = ap (λ ys. f x ∷ ys) (map-take f k xs)
-
 numbers_turned : (bend : Bend) (xs : List Frac) → map (λ x. outward bend (value x)) xs ≡ list_below (length xs) (λ i. outward bend (number_at xs i))
 numbers_turned bend xs = sym (map-map value (outward bend) xs) ∙ ap (map (outward bend)) (sym (list_below-numbers xs)) ∙ map-list_below (length xs) (number_at xs) (outward bend)
 
@@ -195,7 +190,7 @@ numbers_turned bend xs = sym (map-map value (outward bend) xs) ∙ ap (map (outw
 pub first_chosen : (bend : Bend) (k : ℕ) (xs ys zs : List Frac) → map value ys ≡ map (outward bend) (falling (map (λ x. outward bend (value x)) xs)) → zs ≡ take k ys
     → map value zs ≡ chosen bend k (length xs) (number_at xs)
 first_chosen bend k xs ys zs e t =
-    ap (map value) t ∙ map-take value k ys ∙ ap (take k) e ∙ sym (map-take (outward bend) k (falling (map (λ x. outward bend (value x)) xs)))
+    ap (map value) t ∙ sym (take-map value k ys) ∙ ap (take k) e ∙ take-map (outward bend) k (falling (map (λ x. outward bend (value x)) xs))
     ∙ ap (λ ws. map (outward bend) (take k (falling ws))) (numbers_turned bend xs)
 
 pub sorted_length : (bend : Bend) (xs ys : List Frac) → map value ys ≡ map (outward bend) (falling (map (λ x. outward bend (value x)) xs)) → length ys ≡ length xs

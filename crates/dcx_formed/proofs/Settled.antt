@@ -5,10 +5,10 @@ use Rattle.std.proofs.lemmas.Bool.{and_parts, false≢true}
 use Rattle.dcx_math.specs.Rational.{whole}
 use Rattle.dcx_math.proofs.Orders.{≤ℚ_refl, ≤ℚ_antisym}
 use Rattle.dcx_shape.specs.declared.shape.Sides.{Sides}
+use Rattle.dcx_atom.specs.Signs.{is_zero}
 use Rattle.dcx_convex.specs.Nodes.{Attribute, Free, Nonneg, Nonpos, Symmetric, Diag, Head, Variable, Parameter, Constant, Apply, Node, Numbers, Point, Setting, told}
 use Rattle.dcx_convex.specs.Nodes.{told_within, zeros, first_of, arguments, value_by, value_at, Keeps, VariableKeeps, ParameterKeeps, AreLawful}
 use Rattle.dcx_convex.specs.Rules.{Rules, Plain, Judgement, no_argument, judgement_by, judgement_at}
-use Rattle.dcx_convex.specs.Pairs.{is_zero}
 use Rattle.dcx_convex.proofs.Arguments.{args_same, tests_same}
 use Rattle.dcx_convex.proofs.Signs.{value_signed}
 use Rattle.dcx_convex.proofs.LawsHold.{constants_are_fixed}

@@ -16,6 +16,7 @@ use Rattle.dcx_atom.specs.declared.flags.Bend.{Bend}
 use Rattle.dcx_atom.specs.declared.flags.Bend.TheVariants.{Convex, Concave}
 use Rattle.dcx_atom.specs.Arrays.{sides_at}
 use Rattle.dcx_atom.specs.Linear.{terms_at}
+use Rattle.dcx_atom.specs.Signs.{is_zero}
 use Rattle.dcx_affine.specs.declared.pairing.Pairing.{Pairing}
 use Rattle.dcx_affine.specs.declared.pairing.Pairing.TheVariants.{Times, MatTimes, Over}
 use Rattle.dcx_affine.specs.declared.pairing.Pair.{Pair}
@@ -26,7 +27,7 @@ use Rattle.dcx_convex.specs.Atoms.{atom_call, linear_call}
 use Rattle.dcx_convex.specs.Calls as convex_calls
 use Rattle.dcx_convex.specs.Nodes.{Numbers, Setting, zeros, first_of, arguments}
 use Rattle.dcx_convex.specs.Rules.{Rules, Parametrized, Judgement, is_constant, is_affine, scales, bends, suits, all_suit, is_bent_call, judgement_by, judgement_at}
-use Rattle.dcx_convex.specs.Pairs.{is_zero, product_trend, quotient_trend}
+use Rattle.dcx_convex.specs.Pairs.{product_trend, quotient_trend}
 use Rattle.dcx_convex.specs.Reductions.{Unknowns}
 use Rattle.dcx_convex.proofs.Told.{judgement_tells}
 use Rattle.dcx_convex.proofs.Convexity.{same_bend_is}

@@ -1,7 +1,7 @@
 -- Lists of the items of a set, and the rows of its constraints.
 use Rattle.std.proofs.Common.{◌≡◌, ◌⊎◌, ℕ, zero, suc, ◌+◌, ◌<◌, ◌≤◌, arith, Bool, true, false, if◌then◌else◌, IsTrue, List, [], ◌∷◌, ◌++◌, length}
 use Rattle.std.proofs.Common.{map, take, drop, Some, slice_get, inl, inr, refl, sym, ap, ap₂, ◌∙◌, add-zero, append_assoc}
-use Rattle.std.proofs.lemmas.List.{map-append, take_at, drop_at}
+use Rattle.std.proofs.lemmas.List.{map-append, take_at, drop_at, take-map, drop-map}
 use Rattle.std.proofs.lemmas.Option.{none-some, same_Some}
 use Rattle.dcx_atom.specs.Arrays.{list_below}
 use Rattle.dcx_atom.proofs.BoundRows.{length-list_below}
@@ -72,16 +72,6 @@ kept_same a b i (x ∷ xs) h =
     ap₂ (λ (t : Bool) rest. one_if t x rest) (h i (omega arith) (omega arith)) (kept_same a b (suc i) xs (λ k l m. h k (omega (arith, l)) (omega (arith, m))))
 
 -- ---- rows
-map-take : {A B : Type 0} (f : A → B) (n : ℕ) (xs : List A) → map f (take n xs) ≡ take n (map f xs)
-map-take f zero xs = refl
-map-take f (suc n) [] = refl
-map-take f (suc n) (x ∷ xs) = ap (λ rest. f x ∷ rest) (map-take f n xs)
-
-map-drop : {A B : Type 0} (f : A → B) (n : ℕ) (xs : List A) → map f (drop n xs) ≡ drop n (map f xs)
-map-drop f zero xs = refl
-map-drop f (suc n) [] = refl
-map-drop f (suc n) (x ∷ xs) = map-drop f n xs
-
 map-if : {A B : Type 0} (f : A → B) (b : Bool) (xs : List A) → map f (if b then xs else []) ≡ (if b then map f xs else [])
 map-if f true xs = refl
 map-if f false xs = refl
@@ -93,8 +83,8 @@ module _ (set : ConstraintSet) where
       let n = constraint_rows c in
       map-append f (if set i then take n rows else []) (rows_from set (suc i) cs (drop n rows))
       ∙ ap₂ (λ xs ys. xs ++ ys)
-      (map-if f (set i) (take n rows) ∙ ap (λ xs. if set i then xs else []) (map-take f n rows))
-      (map-rows f (suc i) cs (drop n rows) ∙ ap (rows_from set (suc i) cs) (map-drop f n rows))
+      (map-if f (set i) (take n rows) ∙ ap (λ xs. if set i then xs else []) (sym (take-map f n rows)))
+      (map-rows f (suc i) cs (drop n rows) ∙ ap (rows_from set (suc i) cs) (sym (drop-map f n rows)))
 
   -- the rows of the constraints of the set are those of the constraints that are kept
   module _ (forms : Unknowns → ℕ → Numbers) where

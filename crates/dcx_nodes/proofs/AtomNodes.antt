@@ -17,6 +17,7 @@ use Rattle.dcx_atom.specs.declared.stops.ValueStop.{ValueStop}
 use Rattle.dcx_atom.specs.Graph.{row_term, form_term, PlacedRow, placed_row, IsGraphOf}
 use Rattle.dcx_atom.specs.Rows.{Row}
 use Rattle.dcx_atom.proofs.BoundRows.{length-list_below}
+use Rattle.dcx_atom.proofs.Lists.{get_or-list_below}
 use Rattle.dcx_point.specs.Pairs.{Pairs}
 use Rattle.dcx_arena.specs.Nodes.{IsNode, call_at, args_at, sides_at}
 use Rattle.dcx_call.specs.declared.atoms.AtomCall.{AtomCall}
@@ -35,7 +36,6 @@ use Rattle.dcx_entries.specs.Forming.{FormsEach, AtEntry}
 use Rattle.dcx_entries.specs.Parts.{aux_part, row_part}
 use Rattle.dcx_entries.specs.Entries.{AtomEntry}
 use Rattle.dcx_entries.specs.Standing.{args_among, IsOperand}
-use Rattle.dcx_entries.proofs.OwnRows.{list_below_at}
 use Rattle.dcx_entries.proofs.Places.{RowIsThere, AuxFits}
 use Rattle.dcx_nodes.specs.Given.{HasFewUnknowns, first_marked}
 use Rattle.dcx_nodes.specs.Formed.{ReducedGives}
@@ -93,7 +93,7 @@ module _ (p : Problem) (i : ℕ) (m : AtomCall) (c : call_at p.tree i ≡ Some (
           let below : k < entries_of n.sides = omega (arith, lt, results_counted) in
           let result : map form_term (get_or g.results k d) ≡ (atom_meaning m).result (arg_sides p.tree n) k =
           sym (get_or-map (map form_term) g.results k d [] lt) ∙ ap (λ fs. get_or fs k []) is_graph.results
-          ∙ list_below_at (entries_of n.sides) ((atom_meaning m).result (arg_sides p.tree n)) k [] below in
+          ∙ get_or-list_below (entries_of n.sides) ((atom_meaning m).result (arg_sides p.tree n)) k [] below in
           terms_fit (length ((atom_meaning m).kinds (arg_sides p.tree n))) first few_own (get_or g.results k d)
           (subst (IsOwnForm (length ((atom_meaning m).kinds (arg_sides p.tree n)))) (sym result) (own.results k below))
 

@@ -12,6 +12,7 @@ use Rattle.dcx_atom.specs.declared.terms.Triple.{Triple}
 use Rattle.dcx_atom.specs.Arrays.{sides_list, list_below}
 use Rattle.dcx_atom.specs.Linear.{linear_term, AreTermsOf}
 use Rattle.dcx_atom.proofs.BoundRows.{length-list_below}
+use Rattle.dcx_atom.proofs.Lists.{get_or-list_below}
 use Rattle.dcx_point.specs.Pairs.{Pairs}
 use Rattle.dcx_arena.specs.Nodes.{IsNode, call_at, args_at, sides_at}
 use Rattle.dcx_call.specs.declared.linears.LinearCall.{LinearCall}
@@ -28,7 +29,6 @@ use Rattle.dcx_entries.specs.Forming.{FormsEach, AtEntry}
 use Rattle.dcx_entries.specs.Parts.{term_part}
 use Rattle.dcx_entries.specs.Entries.{LinearEntry}
 use Rattle.dcx_entries.specs.Standing.{args_among}
-use Rattle.dcx_entries.proofs.OwnRows.{list_below_at}
 use Rattle.dcx_nodes.specs.Formed.{ReducedGives}
 use Rattle.dcx_nodes.proofs.AtNode.{shape_given}
 use Rattle.dcx_nodes.proofs.Gives.{each_alike, reduced_by}
@@ -57,7 +57,7 @@ module _ (p : Problem) (i : ℕ) (l : LinearCall) (c : call_at p.tree i ≡ Some
 
     terms_at : (j : ℕ) → j < entries_of n.sides → map linear_term (slice_index_or terms j []) ≡ (linear_meaning l).terms (arg_sides p.tree n) j
     terms_at j b =
-        made_at (map linear_term) refl terms j ∙ ap (λ ts. slice_index_or ts j []) terms_are ∙ list_below_at (entries_of n.sides) ((linear_meaning l).terms (arg_sides p.tree n)) j [] b
+        made_at (map linear_term) refl terms j ∙ ap (λ ts. slice_index_or ts j []) terms_are ∙ get_or-list_below (entries_of n.sides) ((linear_meaning l).terms (arg_sides p.tree n)) j [] b
 
     module _ {C : Type 0} (of_number : Frac → C) (number_of : C → Option Frac) (Sums : C → C → Result C Passes → Type 0) (Changes : Change → C → Result C Passes → Type 0)
         (Reads : ℕ → List ℕ → ℕ → Pairs → C → Type 0) (setting : Pairs) (reduced fixed : List Bool) (forms : List (List (Form C))) (ids : List ℕ) (ids_are : ids ≡ args_at p.tree i) where

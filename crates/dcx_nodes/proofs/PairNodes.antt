@@ -15,6 +15,7 @@ use Rattle.dcx_atom.specs.Arrays.{list_below}
 use Rattle.dcx_atom.specs.Arrays as arrays
 use Rattle.dcx_atom.specs.Formed.{zero_frac}
 use Rattle.dcx_atom.proofs.BoundRows.{length-list_below}
+use Rattle.dcx_atom.proofs.Lists.{get_or-list_below}
 use Rattle.dcx_affine.specs.declared.pairing.Pairing.{Pairing}
 use Rattle.dcx_affine.specs.declared.pairing.Pairing.TheVariants.{Times, MatTimes, Over}
 use Rattle.dcx_affine.specs.declared.pairing.Pair.{Pair}
@@ -43,7 +44,6 @@ use Rattle.dcx_entries.specs.Forming.{FormsEach}
 use Rattle.dcx_entries.specs.Entries.{PairEntry}
 use Rattle.dcx_entries.specs.Standing.{args_among, HasNumbersFor}
 use Rattle.dcx_entries.specs.Nodes.{is_told, has_numbers, pairing_scaling, side_of, scaling_of}
-use Rattle.dcx_entries.proofs.OwnRows.{list_below_at}
 use Rattle.dcx_nodes.specs.Marks.{AreMarks, side_marked}
 use Rattle.dcx_nodes.specs.Formed.{ReducedGives}
 use Rattle.dcx_nodes.proofs.AtNode.{the_node, shape_given}
@@ -152,7 +152,7 @@ module _ (p : Problem) (i : ℕ) (q : Pairing) (c : call_at p.tree i ≡ Some (c
     pairs_told : (j : ℕ) → j < entries_of n.sides → slice_index_or pairs j [] ≡ pairs_at q (arrays.sides_at (map (sides_at p.tree) ids) 0) (arrays.sides_at (map (sides_at p.tree) ids) 1) j
     pairs_told j b =
         let t = two_sides q (sides_at p.tree) ids n.sides d two in
-        ap (λ ps. slice_index_or ps j []) pairs_are ∙ list_below_at (entries_of n.sides) (pairs_at q (sides_at p.tree (get_or ids 0 d)) (sides_at p.tree (get_or ids 1 d))) j [] b
+        ap (λ ps. slice_index_or ps j []) pairs_are ∙ get_or-list_below (entries_of n.sides) (pairs_at q (sides_at p.tree (get_or ids 0 d)) (sides_at p.tree (get_or ids 1 d))) j [] b
         ∙ ap₂ (λ x y. pairs_at q x y j) (sym t.1) (sym t.2)
 
     module _ {C : Type 0} (of_number : Frac → C) (number_of : C → Option Frac) (Sums : C → C → Result C Passes → Type 0) (Changes : Change → C → Result C Passes → Type 0)

@@ -1,18 +1,10 @@
 -- The position of a name among names.
-use Rattle.std.proofs.Common.{◌≡◌, ℕ, suc, ◌+◌, ◌<◌, ◌≤◌, arith, Bool, true, false, if◌then◌else◌, List, ◌∷◌, length, map, drop, get_or, refl, sym, ap, ◌∙◌}
+use Rattle.std.proofs.Common.{◌≡◌, ℕ, suc, ◌+◌, ◌<◌, ◌≤◌, arith, Bool, if◌then◌else◌, List, ◌∷◌, length, map, drop, get_or, sym, ap, ◌∙◌}
 use Rattle.std.proofs.Math.Seq.{drop-cons}
 use Rattle.std.proofs.lemmas.List.{drop_all}
 use Rattle.dcx_point.specs.Pairs.{same_name}
-use Rattle.dcx_point.proofs.Puts.{same_name-refl, same_name-true}
+use Rattle.dcx_point.proofs.Puts.{same_name-refl, same_name-false}
 use Rattle.dcx_tree.specs.Nodes.{number_in}
-
--- two names that aren't the same
-differs : (a b : List ℕ) → (a ≡ b → ⊥) → same_name a b ≡ false
-differs a b h = by (same_name a b) refl
-  where
-    by : (t : Bool) → same_name a b ≡ t → t ≡ false
-    by true e = absurd (h (same_name-true a b e))
-    by false e = refl
 
 module _ {A : Type 0} (name_of : A → List ℕ) (xs : List A) (name : List ℕ) where
   -- how many names are passed, when those from place k on are left
@@ -36,7 +28,7 @@ module _ {A : Type 0} (name_of : A → List ℕ) (xs : List A) (name : List ℕ)
     passed_more passed other =
         let here : number_in (map name_of (drop k xs)) name ≡ suc (number_in (map name_of (drop (suc k) xs)) name) =
         ap (λ ys. number_in (map name_of ys) name) left
-        ∙ ap (λ (b : Bool). if b then 0 else suc (number_in (map name_of (drop (suc k) xs)) name)) (differs (name_of x) name other) in
+        ∙ ap (λ (b : Bool). if b then 0 else suc (number_in (map name_of (drop (suc k) xs)) name)) (same_name-false (name_of x) name other) in
         let next : suc k ≡ k + 1 = omega arith in
         let there : number_in (map name_of (drop (suc k) xs)) name ≡ number_in (map name_of (drop (k + 1) xs)) name = ap (λ i. number_in (map name_of (drop i xs)) name) next in
         omega (arith, passed, here, there)

@@ -18,6 +18,7 @@ use Rattle.dcx_shape.specs.Sides.{entries_of}
 use Rattle.dcx_atom.specs.declared.array.Array.{Array}
 use Rattle.dcx_atom.specs.Arrays.{number_at}
 use Rattle.dcx_point.specs.Pairs.{Pairs, names_of, array_of, same_name}
+use Rattle.dcx_arena.proofs.OneGathering.{one_list}
 use Rattle.dcx_call.specs.declared.attribute.Parameter.{Parameter}
 use Rattle.dcx_call.specs.declared.attribute.Variable.{Variable}
 use Rattle.dcx_call.specs.Values.{given_by, HasArray}
@@ -43,12 +44,6 @@ same_numbers : (a b : Array) → sides_of a.shape ≡ sides_of b.shape → ((j :
 same_numbers a b s h = array_from_parts a b (shape_from_sides a.shape b.shape s) (same_entries a.entries b.entries (a.full ∙ ap entries_of s ∙ sym b.full) h)
 
 -- ---- pairs
-same_places : {A : Type 0} (xs ys : List A) → length xs ≡ length ys → ((k : ℕ) (x y : A) → slice_get xs k ≡ Some x → slice_get ys k ≡ Some y → x ≡ y) → xs ≡ ys
-same_places [] [] e h = refl
-same_places [] (y ∷ ys) e h = absurd (omega (arith, e))
-same_places (x ∷ xs) [] e h = absurd (omega (arith, e))
-same_places (x ∷ xs) (y ∷ ys) e h = ap₂ ◌∷◌ (h 0 x y refl refl) (same_places xs ys (omega (arith, e)) (λ k. h (suc k)))
-
 pairs_count : (ps : Pairs) → length (names_of ps) ≡ length ps
 pairs_count [] = refl
 pairs_count (p ∷ ps) = ap suc (pairs_count ps)
@@ -75,7 +70,7 @@ module _ (x y : Pairs) (names : names_of x ≡ names_of y) (distinct : IsDistinc
       λ i. (called i, arrays i)
 
   pub same_pairs : x ≡ y
-  same_pairs = same_places x y (sym (pairs_count x) ∙ ap length names ∙ pairs_count y) same_at
+  same_pairs = one_list x y (sym (pairs_count x) ∙ ap length names ∙ pairs_count y) same_at
 
 -- ---- points
 all_at : {A : Type 0} (P : A → Type 0) (xs : List A) (k : ℕ) (x : A) → AllByRecursion P xs → slice_get xs k ≡ Some x → P x

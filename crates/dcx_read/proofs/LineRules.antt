@@ -1,5 +1,6 @@
 -- The rules of lines, as the code takes them.
 use Rattle.std.proofs.Common.{◌≡◌, ◌⊎◌, inl, inr, ℕ, Bool, true, false, List, [], ◌∷◌, ◌++◌, Option, Some, None, refl, sym, ap, subst, ◌∙◌}
+use Rattle.std.proofs.lemmas.Bool.{cases_Bool}
 use Rattle.dcx_shape.specs.declared.place.Place.{Place}
 use Rattle.dcx_tokens.specs.declared.token.Token.{Token}
 use Rattle.dcx_read.specs.declared.role.Role.{Role}
@@ -230,10 +231,6 @@ is-dot : (r : Role) → (r ≡ roles.Dot) ⊎ (r ≡ roles.Dot → ⊥)
 is-dot roles.Dot = inl refl
 is-dot r = inr (λ h. absurd cc)
 
-is-true : (b : Bool) → (b ≡ true) ⊎ (b ≡ false)
-is-true true = inl refl
-is-true false = inr refl
-
 -- a dot and a name at the front of the rest of an expression
 rest-dot : (us : List Terminal) → Progress rest_s (plain dot ∷ us) us (name_s ∷ trailers_s ∷ raised_s ∷ scaled_s ∷ added_s ∷ compared_s ∷ []) (λ ss f. front rest_s ss
     (attribute f.0 f.1.0, (f.1.1.0, (f.1.1.1.0, (f.1.1.1.1.0, f.1.1.1.1.1.0)))) f.1.1.1.1.1.1)
@@ -293,7 +290,7 @@ first-word source w rest n r (inr v) = first-attribute source (w ∷ rest) rest 
 
 first-named : (source : List ℕ) (w : Token) (rest : List Token) → NoValue source (w ∷ rest) → (role_of w.kind ≡ roles.Name) ⊎ (role_of w.kind ≡ roles.Name → ⊥)
     → Loop after_first_s rest_s (plain dot ∷ terminals source (w ∷ rest)) (plain dot ∷ terminals source (w ∷ rest)) moves.begins
-first-named source w rest n (inl r) = first-word source w rest n r (is-true (is_value_word (spelled source w)))
+first-named source w rest n (inl r) = first-word source w rest n r (cases_Bool (is_value_word (spelled source w)))
 first-named source w rest n (inr r) = first-nameless source (w ∷ rest) (λ t more e h. let same : t ≡ w = cc in r (ap (λ (x : Token). role_of x.kind) (sym same) ∙ h))
 
 first-dotted : (source : List ℕ) (ts : List Token) → NoValue source ts → Loop after_first_s rest_s (plain dot ∷ terminals source ts) (plain dot ∷ terminals source ts) moves.begins

@@ -26,6 +26,7 @@ use Rattle.std.specs.Option.{ok_or}
 use Rattle.std.proofs.lemmas.List.{get_or_past}
 use native.Mathlib.Decide.{dec_lt}
 use Rattle.dcx_atom.proofs.BoundRows.{map-list_below}
+use Rattle.dcx_atom.proofs.Lists.{get_or-list_below}
 use Rattle.dcx_affine.specs.Places.{promoted_place}
 use Rattle.dcx_array.specs.declared.fault.ArrayFault.TheVariants.{Clash}
 use Rattle.dcx_atom.specs.declared.array.Array.{Array}
@@ -37,7 +38,6 @@ use Rattle.dcx_array.specs.Answers.{and_then}
 use Rattle.dcx_array.specs.Shapes.{shape_with, size_fault, allowed_shape, broadcast_of, shared_shape}
 use Rattle.dcx_array.specs.Operators.{entry_beside, negated_number, negated, added, subtracted}
 use Rattle.dcx_array.specs.Arrays.{entry, filled, first_stop, formed_number, formed_unless, formed_array}
-use Rattle.dcx_array.proofs.Equals.{get_or-list_below}
 use Rattle.dcx_script_laws.specs.Differences.{difference_passes, difference_fault, of_difference}
 
 -- ---- the negative of a number
@@ -58,9 +58,6 @@ value-opposite x = sym (ratio-neg_ℚ x.den x.positive x.num)
 
 negated_number-is : (x : Frac) → negated_number x ≡ opposite x
 negated_number-is x = ap frac_at (sym (value-opposite x)) ∙ frac_at-value (opposite x)
-
-pub value-negated : (x : Frac) → value (negated_number x) ≡ neg_ℚ (value x)
-value-negated x = ap value (negated_number-is x) ∙ value-opposite x
 
 opposite-twice : (x : Frac) → opposite (opposite x) ≡ x
 opposite-twice x = value_injective (opposite (opposite x)) x (value-opposite (opposite x) ∙ ap neg_ℚ (value-opposite x) ∙ neg_ℚ-neg_ℚ (value x))

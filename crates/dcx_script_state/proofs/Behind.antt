@@ -2,11 +2,12 @@
 use Rattle.std.proofs.Common.{◌≡◌, ℕ, zero, suc, ◌<◌, ◌⊎◌, Bool, true, List, [], ◌∷◌, ◌++◌, length, Option, option_map, refl, ap, subst, ◌∙◌, arith, All, inl, inr}
 use Rattle.std.specs.List.{flat_map, list_any}
 use Rattle.std.specs.Option.{unwrap_or}
+use Rattle.std.proofs.lemmas.Bool.{cases_Bool}
 use Rattle.dcx_shape.specs.declared.shape.Sides.{Sides}
 use Rattle.dcx_arena.specs.Nodes.{Node, AreNodes, args_at, call_at}
 use Rattle.dcx_arena.specs.Gather.{has, with_new, with_all, postorder_below, postorder, order_of}
 use Rattle.dcx_arena.proofs.Nodes.{in_front}
-use Rattle.dcx_arena.proofs.Orders.{either, has_split, has_one, one_is, tail_has, all_has, with_there, with_added, has_flat, arg_below, flat_same}
+use Rattle.dcx_arena.proofs.Orders.{has_split, has_one, one_is, tail_has, all_has, with_there, with_added, has_flat, arg_below, flat_same}
 
 any_same : (f g : ℕ → Bool) (xs : List ℕ) → ((a : ℕ) → has xs a ≡ true → f a ≡ g a) → list_any f xs ≡ list_any g xs
 any_same f g [] h = refl
@@ -16,7 +17,7 @@ any_same f g (x ∷ xs) h =
     rw (e, r) refl
 
 new_split : (xs : List ℕ) (y x : ℕ) → has (with_new xs y) x ≡ true → (has xs x ≡ true) ⊎ (y ≡ x)
-new_split xs y x h = elim (either (has xs y)) [
+new_split xs y x h = elim (cases_Bool (has xs y)) [
   | inl e ↦ inl (subst (λ zs. has zs x ≡ true) (with_there xs y e) h)
   | inr e ↦ elim (has_split xs (y ∷ []) x (subst (λ zs. has zs x ≡ true) (with_added xs y e) h)) [ inl p ↦ inl p | inr q ↦ inr (one_is y x q) ]
 ]

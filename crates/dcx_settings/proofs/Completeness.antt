@@ -1,7 +1,7 @@
 -- Good settings are read from their spelling.
 use Rattle.std.proofs.Common.{◌≡◌, ◌≢◌, ℕ, suc, ◌+◌, ◌*◌, ◌<◌, ◌≤◌, Bool, true, false, List, [], ◌∷◌, ◌++◌, map, length, Ok, refl, sym, ap, ◌∙◌, subst, arith, append_assoc, ℤ, pos}
-use Rattle.std.specs.Prelude.{nat_le, nat_eq, not, ◌&&◌}
-use Rattle.std.proofs.lemmas.Bool.{le-leb}
+use Rattle.std.specs.Prelude.{nat_le, not, ◌&&◌}
+use Rattle.std.proofs.lemmas.Bool.{le-leb, eq-eqb}
 use Rattle.std.proofs.lemmas.Bool.Decides.{nat_tests}
 use Rattle.std.proofs.lemmas.List.{append-nil, map-append, length-append}
 use Rattle.dcx_settings.specs.Terminal.{Terminal, name, digits, decimal, minus, slash, equal, comma, semicolon, open_square, close_square, newline}
@@ -115,10 +115,7 @@ row_limit w (r ∷ rs) more h = let e = h.widths.0 in omega (arith, e)
 
 row_may_end : (w : ℕ) (rows : List (List Number)) → Every (λ r. length r ≡ w) rows → may_end (rows_before rows) w ≡ true
 row_may_end w [] h = refl
-row_may_end w (r ∷ rs) h = same w (length r) (sym h.0)
-  where
-    same : (a b : ℕ) → a ≡ b → nat_eq a b ≡ true
-    same a b e = grind (arith, nat_tests)
+row_may_end w (r ∷ rs) h = eq-eqb w (length r) (sym h.0)
 
 width_is : (w : ℕ) (rows : List (List Number)) → 0 < length rows → Every (λ r. length r ≡ w) rows → width rows ≡ w
 width_is w [] l h = absurd (omega arith)

@@ -1,9 +1,9 @@
 -- Every good state leads to good settings, so the first token that may not follow is the first that is unexpected.
 use Rattle.std.proofs.Common.{◌≡◌, ◌≢◌, ℕ, zero, suc, ◌+◌, ◌-◌, ◌<◌, ◌≤◌, Bool, true, false, List, [], ◌∷◌, ◌++◌, map}
 use Rattle.std.proofs.Common.{length, replicate, None, Result, Ok, Err, refl, sym, ap, ◌∙◌, subst, arith, append_assoc, pos}
-use Rattle.std.specs.Prelude.{nat_eq, bytes_eq}
+use Rattle.std.specs.Prelude.{bytes_eq}
 use Rattle.std.proofs.lemmas.Slice.Eq.{bytes_eq-Decides}
-use Rattle.std.proofs.lemmas.Bool.Decides.{nat_tests}
+use Rattle.std.proofs.lemmas.Bool.{eq-eqb}
 use Rattle.std.proofs.lemmas.List.{append-nil, length-append, length-replicate}
 use Rattle.dcx_settings.specs.Terminal.{Terminal, name, digits, slash, equal, comma, open_square, close_square, close_curly, newline}
 use Rattle.dcx_settings.specs.Grammar.{integer, quotient, Number, number_text, Value, one, row, matrix, preceded, Item, Line}
@@ -56,10 +56,7 @@ module _ (lines : List Line) (is : List Item) (n : List ℕ) where
       let k = length r - (length xs + 1) in
       let e = length-append xs (x ∷ replicate k some_number) in
       let f = length-replicate k some_number in
-      (omega (arith, h), same (length (xs ++ x ∷ replicate k some_number)) (length r) (omega (arith, e, f, h)))
-    where
-      same : (a b : ℕ) → a ≡ b → nat_eq a b ≡ true
-      same a b e = grind (arith, nat_tests)
+      (omega (arith, h), eq-eqb (length (xs ++ x ∷ replicate k some_number)) (length r) (omega (arith, e, f, h)))
 
   number_completes : (c : Context) (x : Number) (part : Part) → Ends lines is n c part x → IsGoodContext c → Completes (at lines (number is n c part))
   number_completes alone x part e g = record {

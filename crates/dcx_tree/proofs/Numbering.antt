@@ -1,46 +1,20 @@
 -- A part that is gathered is numbered in the order in which its own nodes are first finished.
-use Rattle.std.proofs.Common.{◌≡◌, ℕ, zero, suc, ◌+◌, ◌<◌, ◌==◌, true, false, if◌then◌else◌, List, [], ◌∷◌, ◌++◌, length, Some, option_map, refl, sym, ap, ap₂, subst, ◌∙◌, arith}
+use Rattle.std.proofs.Common.{◌≡◌, ℕ, zero, suc, ◌+◌, ◌<◌, ◌==◌, true, if◌then◌else◌, List, [], ◌∷◌, ◌++◌, length, Some, option_map, refl, sym, ap, ap₂, subst, ◌∙◌, arith}
 use Rattle.std.specs.Option.{unwrap_or}
 use Rattle.std.specs.List.{slice_get, flat_map, range_with_len}
 use Rattle.std.proofs.lemmas.List.{map-append}
+use Rattle.std.proofs.lemmas.Bool.{cases_Bool}
 use Rattle.std.proofs.lemmas.Bool.Decides.{Decides-eqb}
-use Rattle.std.proofs.lemmas.Option.{none-some, same_Some}
+use Rattle.std.proofs.lemmas.Option.{same_Some}
 use mathlib.Core.Logic.{inl, inr}
 use Rattle.dcx_arena.specs.Nodes.{AreNodes, args_at}
 use Rattle.dcx_arena.specs.Gather.{has, with_new, with_all, postorder, order_of, StandFor, IsGathered}
-use Rattle.dcx_arena.proofs.Nodes.{push_each}
-use Rattle.dcx_arena.proofs.Orders.{either, not_true, has_from, with_there, with_added, arg_below, postorder_is}
+use Rattle.dcx_arena.proofs.Orders.{not_true, has_from, with_there, with_added, arg_below, postorder_is}
+use Rattle.dcx_arena.proofs.Unfolds.{IsOnce}
+use Rattle.dcx_arena.proofs.OneGathering.{order_once}
 use Rattle.dcx_call.specs.Calls.{shape_of}
 use Rattle.dcx_tree.specs.Nodes.{Node}
 use Rattle.dcx_tree.proofs.Parts.{part_node}
-
--- no number stands twice
-abbrev IsOnce : List ℕ → Type 0
-IsOnce xs = (i j x : ℕ) → slice_get xs i ≡ Some x → slice_get xs j ≡ Some x → i ≡ j
-
-once_push : (xs : List ℕ) (y : ℕ) → IsOnce xs → has xs y ≡ false → IsOnce (xs ++ y ∷ [])
-once_push xs y once new i j x at at' =
-    push_each (λ h z. (k w : ℕ) → slice_get (xs ++ y ∷ []) k ≡ Some w → z ≡ w → h ≡ k) xs y
-    (λ h z e. push_each (λ k w. z ≡ w → h ≡ k) xs y
-    (λ k w f s. once h k w (e ∙ ap Some s) f)
-    (λ s. absurd (not_true (has xs y) new (has_from xs h y (e ∙ ap Some s)))))
-    (push_each (λ k w. y ≡ w → length xs ≡ k) xs y
-    (λ k w f s. absurd (not_true (has xs y) new (has_from xs k y (f ∙ ap Some (sym s)))))
-    (λ s. refl))
-    i x at j x at' refl
-
-once_new : (xs : List ℕ) (y : ℕ) → IsOnce xs → IsOnce (with_new xs y)
-once_new xs y once = elim (either (has xs y)) [
-  | inl t ↦ subst IsOnce (sym (with_there xs y t)) once
-  | inr f ↦ subst IsOnce (sym (with_added xs y f)) (once_push xs y once f)
-]
-
-once_all : (ys xs : List ℕ) → IsOnce xs → IsOnce (with_all xs ys)
-once_all [] xs once = once
-once_all (y ∷ ys) xs once = once_all ys (with_new xs y) (once_new xs y once)
-
-once_none : IsOnce []
-once_none i j x at at' = absurd (none-some x at)
 
 -- ---- renamed lists
 module _ (order : List ℕ) where
@@ -59,12 +33,12 @@ module _ (order : List ℕ) where
 
   module _ (once : IsOnce order) where
     test_same : (x' y' x y : ℕ) → slice_get order x' ≡ Some x → slice_get order y' ≡ Some y → (x' == y') ≡ (x == y)
-    test_same x' y' x y e f = elim (either (x' == y')) [
+    test_same x' y' x y e f = elim (cases_Bool (x' == y')) [
       | inl t ↦
           let s : x' ≡ y' = (Decides-eqb x' y').0 t in
           let r : x ≡ y = same_Some x y (sym e ∙ ap (slice_get order) s ∙ f) in
           t ∙ sym ((Decides-eqb x y).1 r)
-      | inr n ↦ elim (either (x == y)) [
+      | inr n ↦ elim (cases_Bool (x == y)) [
         | inl t ↦ let s : x ≡ y = (Decides-eqb x y).0 t in absurd (not_true (x' == y') n ((Decides-eqb x' y').1 (once x' y' y (e ∙ ap Some s) f)))
         | inr m ↦ n ∙ sym m
       ]
@@ -82,7 +56,7 @@ module _ (order : List ℕ) where
     stand_new : (xs' xs : List ℕ) (y' y : ℕ) → StandFor order xs' xs → slice_get order y' ≡ Some y → StandFor order (with_new xs' y') (with_new xs y)
     stand_new xs' xs y' y e f =
         let same = has_same xs' xs y' y e f in
-        elim (either (has xs y)) [
+        elim (cases_Bool (has xs y)) [
           | inl t ↦ subst (λ z. StandFor order (with_new xs' y') z) (sym (with_there xs y t)) (subst (λ z. StandFor order z xs) (sym (with_there xs' y' (same ∙ t))) e)
           | inr n ↦
               subst (λ z. StandFor order (with_new xs' y') z) (sym (with_added xs y n)) (subst (λ z. StandFor order z (xs ++ y ∷ [])) (sym (with_added xs' y' (same ∙ n)))
@@ -131,7 +105,7 @@ module _ (nodes : List Node) (roots : List ℕ) (part : List Node) (ends : List 
       (subst (λ z. StandFor (order_of nodes roots) z (flat_map (postorder nodes) (args_at nodes i) ++ i ∷ [])) (sym (postorder_is shape_of part are' k)) both)
 
   once : IsOnce (order_of nodes roots)
-  once = once_all (flat_map (postorder nodes) roots) [] once_none
+  once = order_once nodes roots
 
   pub numbered : order_of part ends ≡ range_with_len 0 (length part)
   numbered =

@@ -1,13 +1,12 @@
 -- What is handed out of a script under other names.
 use Rattle.std.proofs.Common.{◌≡◌, ℕ, List, [], ◌∷◌, map, length, Option, Some, None, option_map, Result, Ok, refl, sym, ap, ap₂, subst, ◌∙◌}
 use Rattle.std.specs.Prelude.{filter}
-use Rattle.std.specs.List.{slice_get, flat_map}
+use Rattle.std.specs.List.{slice_get}
 use Rattle.std.proofs.lemmas.List.{length-map}
 use Rattle.std.proofs.lemmas.Option.{slice_get-map, same_Some}
 use Rattle.dcx_arena.specs.Nodes.{Node}
-use Rattle.dcx_arena.specs.Gather.{postorder, order_of, StandFor, IsRenamed, IsGathered}
-use Rattle.dcx_arena.proofs.OneGathering.{one_list}
-use Rattle.dcx_arena.proofs.Unfolds.{IsOnce, once_all}
+use Rattle.dcx_arena.specs.Gather.{order_of, StandFor, IsRenamed, IsGathered}
+use Rattle.dcx_arena.proofs.OneGathering.{one_name, one_list, order_once}
 use Rattle.dcx_point.specs.Pairs.{Pairs}
 use Rattle.dcx_call.specs.declared.attribute.Variable.{Variable}
 use Rattle.dcx_call.specs.declared.attribute.Parameter.{Parameter}
@@ -34,24 +33,6 @@ use Rattle.dcx_script_laws.proofs.Renamed.Declarations.{standing_renamed}
 use Rattle.dcx_script_laws.proofs.Renamed.Lines.{meaning_follows}
 
 -- ---- what is the same
--- what stands for the same in an order that has each once
-stand_one : (order there other here : List ℕ) → IsOnce order → StandFor order there here → StandFor order other here → there ≡ other
-stand_one order [] [] here once a b = refl
-stand_one order [] (o ∷ os) [] once a b = absurd (cc)
-stand_one order [] (o ∷ os) (h ∷ hs) once a b = absurd (cc)
-stand_one order (t ∷ ts) [] [] once a b = absurd (cc)
-stand_one order (t ∷ ts) [] (h ∷ hs) once a b = absurd (cc)
-stand_one order (t ∷ ts) (o ∷ os) [] once a b = absurd (cc)
-stand_one order (t ∷ ts) (o ∷ os) (h ∷ hs) once a b =
-    let p : slice_get order t ≡ Some h = cc in
-    let q : slice_get order o ≡ Some h = cc in
-    let v : map (slice_get order) ts ≡ map Some hs = cc in
-    let w : map (slice_get order) os ≡ map Some hs = cc in
-    ap₂ (λ x l. x ∷ l) (once t o h p q) (stand_one order ts os hs once v w)
-
-order_once : (nodes : List (Node Call)) (roots : List ℕ) → IsOnce (order_of nodes roots)
-order_once nodes roots = once_all [] (flat_map (postorder nodes) roots) (λ h k i e f. absurd (cc))
-
 node_one : (m n : Node Call) → m.call ≡ n.call → m.args ≡ n.args → m.sides ≡ n.sides → m.place ≡ n.place → m ≡ n
 node_one m n c a s p = λ i. record { call = c i; args = a i; sides = s i; place = p i }
 
@@ -71,7 +52,7 @@ module _ (rename : List ℕ → List ℕ) (nodes : List (Node Call)) (roots : Li
   node_renamed_at m n l x a b e =
       node_one x (node_renamed rename n)
       (b.same_call ∙ ap (λ (z : Node Call). z.call) e ∙ ap (call_renamed rename) (sym a.same_call))
-      (stand_one (order_of nodes roots) x.args n.args m.args (order_once nodes roots) (subst (λ o. StandFor o x.args m.args) same_order
+      (one_name (order_of nodes roots) (order_once nodes roots) x.args n.args m.args (subst (λ o. StandFor o x.args m.args) same_order
       (subst (λ (z : Node Call). StandFor (order_of (map (node_renamed rename) nodes) roots) x.args z.args) e b.same_args)) a.same_args)
       (b.same_sides ∙ ap (λ (z : Node Call). z.sides) e ∙ sym a.same_sides)
       (b.same_place ∙ ap (λ (z : Node Call). z.place) e ∙ sym a.same_place)
@@ -96,7 +77,7 @@ module _ (rename : List ℕ → List ℕ) (nodes : List (Node Call)) (roots : Li
       at k x y p q = by k x y (slice_get here k) refl p (sym (slice_get-map (node_renamed rename) here k) ∙ q)
 
   pub ends_same : others ≡ ends
-  ends_same = stand_one (order_of nodes roots) others ends roots (order_once nodes roots) (subst (λ o. StandFor o others roots) same_order h.roots_stand) g.roots_stand
+  ends_same = one_name (order_of nodes roots) (order_once nodes roots) others ends roots (subst (λ o. StandFor o others roots) same_order h.roots_stand) g.roots_stand
 
 -- ---- what is declared of a problem
 module _ {rename : List ℕ → List ℕ} (is : IsRenaming rename) where

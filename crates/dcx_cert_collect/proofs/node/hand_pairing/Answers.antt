@@ -5,10 +5,11 @@ use Rattle.dcx_shape.specs.Sides.{entries_of}
 use Rattle.dcx_atom.specs.Arrays.{sides_list, sides_at}
 use Rattle.dcx_affine.specs.Pairing.{paired_sides}
 use Rattle.dcx_arena.specs.Nodes.{positions}
+use Rattle.dcx_arena.proofs.Positions.{position_at}
 use Rattle.dcx_tree.specs.Values.{array_at}
 use Rattle.dcx_cert_collect.specs.Calls.{scaling_of, scaling_numbers}
 use Rattle.dcx_cert_collect.proofs.Arguments.{shape_sides}
-use Rattle.dcx_cert_collect.proofs.Handing.{two_shapes, paired_of, some_of, pairs_listed, pairs_count, pairing_told, argument_number, told_ok, told_stop}
+use Rattle.dcx_cert_collect.proofs.Handing.{two_shapes, paired_of, some_of, pairs_listed, pairs_count, pairing_told, told_ok, told_stop}
 use Rattle.dcx_cert_collect.proofs.node.hand_pairing.Goals as goal
 
 pub pairs-requires : goal.pairs-requires
@@ -47,8 +48,8 @@ returns-in-Ok-clause-ok c =
     let values = c.args.values.now in
     let left = array_at values (get_or (positions ids) 0 0) in
     let right = array_at values (get_or (positions ids) 1 0) in
-    let first = ap (array_at values) (argument_number ids 0) in
-    let second = ap (array_at values) (argument_number ids 1) in
+    let first = ap (array_at values) (position_at ids 0) in
+    let second = ap (array_at values) (position_at ids 1) in
     let two = two_shapes p shapes (λ s. length cs ≡ entries_of s) c.requires.shape in
     let zero_in : 0 < length shapes = omega (arith, two) in
     let one_in : 1 < length shapes = omega (arith, two) in
@@ -70,8 +71,8 @@ returns-in-Ok-clause-stop c =
     let values = c.args.values.now in
     let left = array_at values (get_or (positions ids) 0 0) in
     let right = array_at values (get_or (positions ids) 1 0) in
-    let first = ap (array_at values) (argument_number ids 0) in
-    let second = ap (array_at values) (argument_number ids 1) in
+    let first = ap (array_at values) (position_at ids 0) in
+    let second = ap (array_at values) (position_at ids 1) in
     let two = two_shapes p shapes (λ s. length cs ≡ entries_of s) c.requires.shape in
     let zero_in : 0 < length shapes = omega (arith, two) in
     let one_in : 1 < length shapes = omega (arith, two) in

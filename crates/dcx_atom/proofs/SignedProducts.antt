@@ -1,20 +1,17 @@
 -- Signs and moves of products, quotients and their sums.
-use Rattle.std.proofs.Common.{◌≡◌, ◌≢◌, ◌⊎◌, inl, inr, ◌&&◌, ◌||◌, IsTrue, List, [], ◌∷◌, sym, ap, ◌∙◌, subst, pos}
+use Rattle.std.proofs.Common.{◌≡◌, ◌⊎◌, inl, inr, ◌&&◌, ◌||◌, IsTrue, List, [], ◌∷◌, sym, ap, ◌∙◌, subst, pos}
 use Rattle.std.proofs.lemmas.Bool.{and_parts, or_cases}
 use Rattle.dcx_math.specs.Rational.{ℚ, whole, ◌+ℚ◌, ◌*ℚ◌, ◌/ℚ◌, inverse, ◌≤ℚ◌}
 use Rattle.dcx_math.specs.Sums.{rat_sum_by}
-use Rattle.dcx_math.proofs.FieldLaws.{*ℚ-inverse, inverse-zero}
 use Rattle.dcx_math.proofs.Ring.{/ℚ-is}
-use Rattle.dcx_math.proofs.Orders.{≤ℚ_refl, ≤ℚ_antisym, ≤ℚ_total, ≤ℚ-from_≡, <ℚ-not, *ℚ_comm, *ℚ-zero, zero-*ℚ, *ℚ-≤ℚ, +ℚ-≤ℚ, +ℚ-nonnegative, +ℚ-nonpositive, ℚ_discrete}
-use Rattle.dcx_math.proofs.Products.{*ℚ-≤ℚ_turned, *ℚ-nonnegative, *ℚ-nonpositive, *ℚ-nonnegative_both_negative, zero-<ℚ-one}
+use Rattle.dcx_math.proofs.Orders.{≤ℚ_refl, ≤ℚ_antisym, ≤ℚ-from_≡, *ℚ_comm, *ℚ-zero, zero-*ℚ, *ℚ-≤ℚ, +ℚ-≤ℚ, +ℚ-nonnegative, +ℚ-nonpositive}
+use Rattle.dcx_math.proofs.Products.{*ℚ-≤ℚ_turned, *ℚ-nonnegative, *ℚ-nonpositive, *ℚ-nonnegative_both_negative, inverse-nonnegative, inverse-nonpositive}
 use Rattle.dcx_atom.specs.declared.flags.Sign.{Sign}
 use Rattle.dcx_atom.specs.declared.flags.Bend.{Bend}
 use Rattle.dcx_atom.specs.declared.flags.Bend.TheVariants.{Convex, Concave}
-use Rattle.dcx_atom.specs.Signs.{HasSign, IsBeyond, Follows}
+use Rattle.dcx_atom.specs.Signs.{HasSign, IsBeyond, Follows, is_zero, product_sign, by_other}
 use Rattle.dcx_atom.specs.Farthest.{beyond_refl}
-use Rattle.dcx_call.specs.Calls.{is_zero, product_sign, by_other}
 
--- ---- tests
 -- ---- signs
 zero_of : (s : Sign) (x : ℚ) → HasSign s x → IsTrue (is_zero s) → x ≡ whole (pos 0)
 zero_of s x h z = let t = and_parts s.nonneg s.nonpos z in ≤ℚ_antisym (h.nonpos t.1) (h.nonneg t.0)
@@ -53,34 +50,9 @@ product_nonpos l r x y h k t = by (or_cases (is_zero l || is_zero r) _ t)
 pub product_has_sign : (l r : Sign) (x y : ℚ) → HasSign l x → HasSign r y → HasSign (product_sign l r) (x *ℚ y)
 product_has_sign l r x y h k = record { nonneg = product_nonneg l r x y h k; nonpos = product_nonpos l r x y h k }
 
-never : ¬ (whole (pos 1) ≤ℚ whole (pos 0))
-never h = <ℚ-not zero-<ℚ-one h
-
-inverse_nonneg : (y : ℚ) → whole (pos 0) ≤ℚ y → whole (pos 0) ≤ℚ inverse y
-inverse_nonneg y h = by (ℚ_discrete y (whole (pos 0)))
-  where
-    side : y ≢ whole (pos 0) → (whole (pos 0) ≤ℚ inverse y) ⊎ (inverse y ≤ℚ whole (pos 0)) → whole (pos 0) ≤ℚ inverse y
-    side ne (inl k) = k
-    side ne (inr k) = absurd (never (subst (λ u. u ≤ℚ whole (pos 0)) (*ℚ-inverse y ne) (*ℚ-nonpositive h k)))
-
-    by : (y ≡ whole (pos 0)) ⊎ (y ≢ whole (pos 0)) → whole (pos 0) ≤ℚ inverse y
-    by (inl e) = ≤ℚ-from_≡ (sym (ap inverse e ∙ inverse-zero))
-    by (inr ne) = side ne (≤ℚ_total (whole (pos 0)) (inverse y))
-
-inverse_nonpos : (y : ℚ) → y ≤ℚ whole (pos 0) → inverse y ≤ℚ whole (pos 0)
-inverse_nonpos y h = by (ℚ_discrete y (whole (pos 0)))
-  where
-    side : y ≢ whole (pos 0) → (inverse y ≤ℚ whole (pos 0)) ⊎ (whole (pos 0) ≤ℚ inverse y) → inverse y ≤ℚ whole (pos 0)
-    side ne (inl k) = k
-    side ne (inr k) = absurd (never (subst (λ u. u ≤ℚ whole (pos 0)) (*ℚ_comm (inverse y) y ∙ *ℚ-inverse y ne) (*ℚ-nonpositive k h)))
-
-    by : (y ≡ whole (pos 0)) ⊎ (y ≢ whole (pos 0)) → inverse y ≤ℚ whole (pos 0)
-    by (inl e) = ≤ℚ-from_≡ (ap inverse e ∙ inverse-zero)
-    by (inr ne) = side ne (≤ℚ_total (inverse y) (whole (pos 0)))
-
 -- the reciprocal has the sign of the number
 pub inverse_has_sign : (s : Sign) (y : ℚ) → HasSign s y → HasSign s (inverse y)
-inverse_has_sign s y h = record { nonneg = λ t. inverse_nonneg y (h.nonneg t); nonpos = λ t. inverse_nonpos y (h.nonpos t) }
+inverse_has_sign s y h = record { nonneg = λ t. inverse-nonnegative y (h.nonneg t); nonpos = λ t. inverse-nonpositive y (h.nonpos t) }
 
 pub quotient_has_sign : (l r : Sign) (x y : ℚ) → HasSign l x → HasSign r y → HasSign (product_sign l r) (x /ℚ y)
 quotient_has_sign l r x y h k = subst (HasSign (product_sign l r)) (sym (/ℚ-is x y)) (product_has_sign l r x (inverse y) h (inverse_has_sign r y k))
