@@ -1,7 +1,6 @@
 -- What has the same numbers is the same: points and multipliers have the arrays of the problem, no name of a variable stands twice, and
 -- an array has as many entries as its shape.
 use Rattle.std.proofs.Common.{◌≡◌, ℕ, zero, suc, List, [], ◌∷◌, map, length, Option, Some, refl, sym, ap, ap₂, subst, ◌∙◌, arith}
-use Rattle.std.proofs.Props.{props}
 use Rattle.std.specs.Prelude.{slice_get, option_map}
 use Rattle.std.specs.Option.{unwrap_or}
 use Rattle.std.specs.List.{AllByRecursion, AllZip, IsDistinct}
@@ -11,15 +10,11 @@ use Rattle.std.proofs.lemmas.Option.{none-some, same_Some}
 use Rattle.std.proofs.lemmas.List.Elements.{recursion_from_All}
 use Rattle.std.proofs.lemmas.Map.Keys.{IsDistinct-prop}
 use Rattle.std.proofs.lemmas.Map.Entries.{lookup_from_place}
-use mathlib.Core.HLevel.{is_prop→PathP}
-use Rattle.dcx_frac.specs.declared.fraction.Frac.{Frac}
-use Rattle.dcx_frac.proofs.Parts.{value_injective}
-use Rattle.dcx_shape.specs.declared.shape.Shape.{Shape}
 use Rattle.dcx_shape.specs.declared.shape.Sides.{Sides}
 use Rattle.dcx_shape.specs.Shape.{sides_of}
-use Rattle.dcx_shape.specs.Sides.{HasFewEntries, entries_of}
 use Rattle.dcx_atom.specs.declared.array.Array.{Array}
 use Rattle.dcx_atom.specs.Arrays.{number_at}
+use Rattle.dcx_atom.proofs.OneArray.{array_from_parts, array_from_numbers}
 use Rattle.dcx_point.specs.Pairs.{Pairs, names_of, array_of, same_name}
 use Rattle.dcx_call.specs.declared.attribute.Parameter.{Parameter}
 use Rattle.dcx_call.specs.declared.attribute.Variable.{Variable}
@@ -32,27 +27,7 @@ use Rattle.dcx_answer.specs.declared.answer.Answer.TheVariants.{Optimal, Infeasi
 use Rattle.dcx_right.specs.Answers.{multipliers_in, IsPointFor, SpeaksOf}
 use Rattle.dcx_right.specs.Filters.{HasShapeOf}
 use Rattle.dcx_graph.specs.Answers.{IsSamePoint, IsSameAnswer}
-use Rattle.dcx_shape.proofs.OneShape.{few_prop}
-
-one_shape : (a b : Shape) → sides_of a ≡ sides_of b → a ≡ b
-one_shape a b p = λ i. record { sides = p i; few = is_prop→PathP (λ j. HasFewEntries (p j)) (λ j. few_prop (p j)) a.few b.few i }
-
-pub same_array : (a b : Array) → a.shape ≡ b.shape → a.entries ≡ b.entries → a ≡ b
-same_array a b s e = λ i. record {
-  shape = s i;
-  entries = e i;
-  full = is_prop→PathP (λ j. length (e j) ≡ entries_of (sides_of (s j))) (λ j. hlevel props) a.full b.full i;
-}
-
-same_entries : (xs ys : List Frac) → length xs ≡ length ys → ((j : ℕ) → number_at xs j ≡ number_at ys j) → xs ≡ ys
-same_entries [] [] e h = refl
-same_entries [] (y ∷ ys) e h = absurd (omega (arith, e))
-same_entries (x ∷ xs) [] e h = absurd (omega (arith, e))
-same_entries (x ∷ xs) (y ∷ ys) e h = ap₂ ◌∷◌ (value_injective x y (h 0)) (same_entries xs ys (omega (arith, e)) (λ j. h (suc j)))
-
--- arrays of the same sides with the same numbers
-same_numbers : (a b : Array) → sides_of a.shape ≡ sides_of b.shape → ((j : ℕ) → number_at a.entries j ≡ number_at b.entries j) → a ≡ b
-same_numbers a b s h = same_array a b (one_shape a.shape b.shape s) (same_entries a.entries b.entries (a.full ∙ ap entries_of s ∙ sym b.full) h)
+use Rattle.dcx_shape.proofs.OneShape.{shape_from_sides}
 
 -- ---- pairs
 same_places : {A : Type 0} (xs ys : List A) → length xs ≡ length ys → ((k : ℕ) (x y : A) → slice_get xs k ≡ Some x → slice_get ys k ≡ Some y → x ≡ y) → xs ≡ ys
@@ -83,7 +58,7 @@ module _ (x y : Pairs) (names : names_of x ≡ names_of y) (distinct : IsDistinc
       let second : array_of y m ≡ Some b = lookup_from_place nat_list_eq_equiv y k m b (subst (IsDistinct same_name) names distinct) l in
       let of_y : array_of y n ≡ Some b = subst (λ z. array_of y z ≡ Some b) (sym called) second in
       let number = λ (o : Option Array) (j : ℕ). number_at (unwrap_or (option_map (λ (z : Array). z.entries) o) []) j in
-      let arrays : a ≡ b = same_numbers a b (sides k (n, a) (m, b) h l) (λ j. sym (ap (λ o. number o j) first) ∙ numbers k n here j ∙ ap (λ o. number o j) of_y) in
+      let arrays : a ≡ b = array_from_numbers a b (sides k (n, a) (m, b) h l) (λ j. sym (ap (λ o. number o j) first) ∙ numbers k n here j ∙ ap (λ o. number o j) of_y) in
       λ i. (called i, arrays i)
 
   pub same_pairs : x ≡ y
@@ -144,7 +119,7 @@ same_duals (d ∷ ds) (y ∷ es) s e =
     let entries : d.entries ≡ y.entries = cc in
     let rest : map (λ (a : Array). sides_of a.shape) ds ≡ map (λ (a : Array). sides_of a.shape) es = cc in
     let others : map (λ (a : Array). a.entries) ds ≡ map (λ (a : Array). a.entries) es = cc in
-    ap₂ ◌∷◌ (same_array d y (one_shape d.shape y.shape sides) entries) (same_duals ds es rest others)
+    ap₂ ◌∷◌ (array_from_parts d y (shape_from_sides d.shape y.shape sides) entries) (same_duals ds es rest others)
 
 pub same_multipliers : (cs : List Constraint) (ds es : List Array) → AllZip HasShapeOf cs ds → AllZip HasShapeOf cs es → ((k j : ℕ) → multipliers_in ds k j ≡ multipliers_in es k j) → ds ≡ es
 same_multipliers [] [] [] h k e = refl
@@ -152,7 +127,7 @@ same_multipliers [] [] (y ∷ es) h k e = absurd k
 same_multipliers [] (d ∷ ds) es h k e = absurd h
 same_multipliers (c ∷ cs) [] es h k e = absurd h
 same_multipliers (c ∷ cs) (d ∷ ds) [] h k e = absurd k
-same_multipliers (c ∷ cs) (d ∷ ds) (y ∷ es) h k e = ap₂ ◌∷◌ (same_numbers d y (h.0 ∙ sym k.0) (λ j. e 0 j)) (same_multipliers cs ds es h.1 k.1 (λ i. e (suc i)))
+same_multipliers (c ∷ cs) (d ∷ ds) (y ∷ es) h k e = ap₂ ◌∷◌ (array_from_numbers d y (h.0 ∙ sym k.0) (λ j. e 0 j)) (same_multipliers cs ds es h.1 k.1 (λ i. e (suc i)))
 
 -- ---- answers
 pub same_answer : (p : Problem) (a b : Answer) → SpeaksOf p a → SpeaksOf p b → IsSameAnswer p a b → a ≡ b

@@ -7,6 +7,7 @@ use Rattle.std.proofs.lemmas.List.Elements.{recursion_from_All}
 use Rattle.dcx_shape.specs.declared.shape.Shape.{Shape}
 use Rattle.dcx_shape.specs.Shape.{sides_of}
 use Rattle.dcx_atom.specs.declared.array.Array.{Array}
+use Rattle.dcx_atom.proofs.OneArray.{array_from_parts}
 use Rattle.dcx_point.specs.Pairs.{Pairs, names_of, same_name}
 use Rattle.dcx_call.specs.declared.attribute.Variable.{Variable}
 use Rattle.dcx_tree.specs.declared.problem.Problem.{Problem}
@@ -24,7 +25,7 @@ use Rattle.dcx_cert_runs.specs.Sections.{IsCertificateAt}
 use Rattle.dcx_cert_runs.specs.Laws.{IsSameCert, IsAlike, AreAlike}
 use Rattle.dcx_cert_runs.proofs.Shown.{certificates_are_of}
 use Rattle.dcx_cert_runs.proofs.OneCertificate.{certificates_are_one}
-use Rattle.dcx_outcomes.proofs.Same.{same_array, same_pairs, variables_distinct, by_names}
+use Rattle.dcx_outcomes.proofs.Same.{same_pairs, variables_distinct, by_names}
 
 -- ---- points
 shown_at : (ps : Pairs) (k : ℕ) (p : List ℕ × Array) → slice_get ps k ≡ Some p → slice_get (variables_of ps) k ≡ Some (p.0, p.1.shape)
@@ -64,7 +65,7 @@ one_list (d ∷ ds) (y ∷ es) s e =
     let entries : d.entries ≡ y.entries = cc in
     let rest : constraints_of ds ≡ constraints_of es = cc in
     let others : map (λ (a : Array). a.entries) ds ≡ map (λ (a : Array). a.entries) es = cc in
-    ap₂ ◌∷◌ (same_array d y shape entries) (one_list ds es rest others)
+    ap₂ ◌∷◌ (array_from_parts d y shape entries) (one_list ds es rest others)
 
 module _ (p : Problem) where
   one_cert : (c d : Cert) → IsCertOf (problem_outline p) c → IsCertOf (problem_outline p) d → IsSameCert p c d → c ≡ d
