@@ -1,5 +1,6 @@
 -- Entries that are formed one after the other, and sums of products in order: what comes with one more.
-use Rattle.std.proofs.Common.{◌≡◌, ℕ, zero, suc, ◌+◌, ◌<◌, arith, List, [], ◌∷◌, ◌++◌, map, length, take, drop, get_or, refl, sym, ap, ◌∙◌, Result, Ok, Err, IsOk, IfOk}
+use Rattle.std.proofs.Common.{◌≡◌, ℕ, zero, suc, ◌+◌, ◌<◌, arith, List, [], ◌∷◌, ◌++◌, map, length, take, drop, get_or, refl, sym, ap, ◌∙◌, subst, Result, Ok, Err, IsOk, IfOk}
+use native.Mathlib.Decide.{dec_lt}
 use Rattle.std.proofs.lemmas.List.{take-append-drop}
 use Rattle.dcx_math.specs.Rational.{◌+ℚ◌, ◌*ℚ◌}
 use Rattle.dcx_math.specs.Sums.{rat_sum_by}
@@ -11,7 +12,7 @@ use Rattle.dcx_frac.specs.Results.{sum_of, product_of}
 use Rattle.dcx_frac.proofs.Results.{sum_of_is, product_of_is}
 use Rattle.dcx_atom.specs.Arrays.{list_below}
 use Rattle.dcx_atom.specs.Formed.{zero_frac, and_then}
-use Rattle.dcx_atom.specs.Entrywise.{added_product, products_from, AreFormed}
+use Rattle.dcx_atom.specs.Entrywise.{added_product, products_from, AreFormed, IsFirst}
 use Rattle.dcx_atom.proofs.BoundRows.{list_below-first}
 use Rattle.dcx_atom.proofs.FormedSums.{take-next}
 use Rattle.dcx_atom.proofs.Lists.{list_below-same}
@@ -106,3 +107,22 @@ formed_before f n xs e j b = rw (formed_entry f n xs e j b) refl
 -- entries that are formed alike
 pub formed_alike : {E : Type 0} (f g : ℕ → Result Frac E) (n : ℕ) (xs : List Frac) → ((j : ℕ) → j < n → f j ≡ g j) → AreFormed f n xs → AreFormed g n xs
 formed_alike f g n xs same e = e ∙ list_below-same n f g same
+
+-- ---- the first entry that isn't formed
+pub err_not_ok : {A B : Type 0} (r : Result A B) (e : B) → r ≡ Err e → IsOk r → ⊥
+err_not_ok (Ok x) e is ok = cc
+err_not_ok (Err f) e is ok = cc
+
+same_err : {A B : Type 0} (r : Result A B) (e f : B) → r ≡ Err e → r ≡ Err f → e ≡ f
+same_err r e f h k = cc
+
+-- it has one stop
+pub one_stop : {E : Type 0} (formed : ℕ → Result Frac E) (size : ℕ) (s t : E) → IsFirst formed size s → IsFirst formed size t → s ≡ t
+one_stop formed size s t a b = by (dec_lt a.entry b.entry) (dec_lt b.entry a.entry)
+  where
+    by : Dec (a.entry < b.entry) → Dec (b.entry < a.entry) → s ≡ t
+    by (yes lt) d = absurd (err_not_ok (formed a.entry) s a.here (b.before a.entry lt))
+    by (no n) (yes lt) = absurd (err_not_ok (formed b.entry) t b.here (a.before b.entry lt))
+    by (no n) (no m) =
+        let same : a.entry ≡ b.entry = omega (arith, n, m) in
+        same_err (formed b.entry) s t (subst (λ j. formed j ≡ Err s) same a.here) b.here

@@ -3,7 +3,7 @@
 use Rattle.std.proofs.Common.{◌≡◌, subst, ◌∙◌, ap, ap₂, pos}
 use Rattle.dcx_math.specs.Rational.{ℚ, whole, ◌+ℚ◌, ◌*ℚ◌}
 use Rattle.dcx_math.specs.Sums.{IsNonnegative}
-use Rattle.dcx_math.proofs.Orders.{*ℚ_idl, whole-≤ℤ}
+use Rattle.dcx_math.proofs.Orders.{*ℚ_idl, whole-≤ℤ, +ℚ_idr, zero-*ℚ}
 use Rattle.dcx_shape.specs.Sides.{entries_of}
 use Rattle.dcx_atom.specs.Arrays.{Entries}
 use Rattle.dcx_atom.specs.Signs.{IsBeyond, combination, shifted}
@@ -39,6 +39,13 @@ curvature_of m sound tight args sides is j below p q a b hp hq one = sublinear m
 -- 1 a + k b is a + k b
 pub one_combination : (a : Entries) (k : ℚ) (b : Entries) → combination (whole (pos 1)) k a b ≡ shifted a k b
 one_combination a k b = λ t i j. *ℚ_idl (a i j) t +ℚ k *ℚ b i j
+
+-- a + 0 b is a
+none_added : (x y : ℚ) → x +ℚ whole (pos 0) *ℚ y ≡ x
+none_added x y = ap (λ z. x +ℚ z) (zero-*ℚ y) ∙ +ℚ_idr x
+
+pub none_shifted : (a b : Entries) → shifted a (whole (pos 0)) b ≡ a
+none_shifted a b = λ t i j. none_added (a i j) (b i j) t
 
 -- the recession law of a call with a sound and tight graph
 pub recession_of : (m : Meaning) → IsSoundGraph m → IsTightGraph m → Recedes m

@@ -2,7 +2,7 @@
 use Rattle.std.specs.Prelude.{pos, List, [], ◌∷◌, map, Result, Ok, Err}
 use Rattle.std.proofs.Common.{lit<}
 use native.Mathlib.Nat.{eq-one_of_dvd-one}
-use Rattle.dcx_math.specs.Rational.{ℚ, ◌-ℚ◌, ◌*ℚ◌}
+use Rattle.dcx_math.specs.Rational.{ℚ, whole, ◌-ℚ◌, ◌*ℚ◌}
 use Rattle.dcx_math.specs.Sums.{rat_sum}
 use Rattle.dcx_frac.specs.declared.fraction.Frac.{Frac}
 use Rattle.dcx_frac.specs.declared.fraction.Passes.{Passes}
@@ -20,6 +20,10 @@ frac_at x = by (dec_fits x)
     by : Dec (IsRepresentable x) → Frac
     by (yes fits) = frac_of x fits
     by (no wide) = zero_frac
+
+-- the fraction 1
+abbrev pub one_frac : Frac
+one_frac = frac_at (whole (pos 1))
 
 -- goes on with what was formed
 abbrev pub and_then : {A B : Type 0} → Result A Passes → (A → Result B Passes) → Result B Passes

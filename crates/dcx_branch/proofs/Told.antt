@@ -1,14 +1,11 @@
 -- What the answer of a node's rows has: notes of its rows, and numbers of columns that tell those of the unknowns.
-use Rattle.std.proofs.Common.{◌≡◌, ℕ, ◌+◌, ◌≤◌, arith, List, length, map, sym, ap, ◌∙◌, length-append}
+use Rattle.std.proofs.Common.{◌≡◌, ℕ, ◌+◌, ◌≤◌, arith, List, length, map, ap, ◌∙◌, length-append}
 use Rattle.std.specs.Prelude.{sum_by}
 use Rattle.std.proofs.lemmas.List.{length-map}
 use Rattle.dcx_frac.specs.declared.fraction.Frac.{Frac}
 use Rattle.dcx_frac.specs.Frac.{value}
-use Rattle.dcx_convex.specs.Nodes.{Setting}
 use Rattle.dcx_tree.specs.declared.problem.Problem.{Problem}
-use Rattle.dcx_tree.specs.Meaning.{convex_constraint}
 use Rattle.dcx_chained.specs.Tables.{table_of}
-use Rattle.dcx_std.specs.Solutions.{row_at}
 use Rattle.dcx_std.proofs.ScaledProgram.{scaled_program}
 use Rattle.dcx_std.proofs.RightAnswers.{one_sided}
 use Rattle.dcx_lp_solve.specs.declared.solving.Solved.{Solved}
@@ -16,24 +13,12 @@ use Rattle.dcx_lp_solve.specs.Solved.{IsSolved}
 use Rattle.dcx_lp_solve.proofs.Counts.{HasCounts, counts_of}
 use Rattle.dcx_lp_solve.proofs.Right.{answers_are_right}
 use Rattle.dcx_unknowns.specs.Layout.{constraint_rows}
-use Rattle.dcx_postsolve.specs.Programs.{gap_rows, bound_row}
 use Rattle.dcx_postsolve.proofs.ColumnParts.{columns_tell}
 use Rattle.dcx_graph.specs.Program.{Program}
-use Rattle.dcx_graph.specs.Answers.{IsReducedAt}
-use Rattle.dcx_graph.proofs.Slacks.{gaps_length}
 use Rattle.dcx_branch.specs.declared.bound.BoundAt.{BoundAt}
 use Rattle.dcx_branch.specs.Rows.{bound_rows, node_rows}
 use Rattle.dcx_branch.specs.Taken.{HasNotes, TellsUnknowns}
 use Rattle.dcx_branch.proofs.Shown.{rows_counted}
-
--- the rows of constraints are among those of the program
-pub rows_there : (p : Problem) (s : Setting) (q : Program Frac) → IsReducedAt p s q → sum_by constraint_rows p.constraints ≤ length q.rows
-rows_there p s q given =
-    let gaps = gap_rows given.reduction.reduced.forms (map convex_constraint p.constraints) in
-    let rest = map bound_row given.reduction.reduced.rows in
-    let all : length q.rows ≡ sum_by constraint_rows p.constraints + length rest =
-    sym (length-map q.rows row_at) ∙ ap length given.reduction.program.rows ∙ length-append gaps rest ∙ ap (λ n. n + length rest) (gaps_length given.reduction.reduced.forms p.constraints) in
-    omega (arith, all)
 
 module _ (q : Program Frac) (limit : ℕ) (bs : List BoundAt) (s : Solved) (is : IsSolved limit (node_rows q bs) s) where
   counts : HasCounts s.program s.answer

@@ -1,57 +1,26 @@
 -- A problem has one list of the values of the nodes without a variable below them.
-use Rattle.std.proofs.Common.{◌≡◌, ℕ, zero, suc, ◌<◌, arith, Bool, true, false, List, [], ◌∷◌, length, get_or, Option, Some, None, option_map, refl, sym, ap, ap₂, ◌∙◌, subst}
-use Rattle.std.proofs.Math.Logic.{∥∥₁_elim}
-use Rattle.std.proofs.lemmas.Option.{none-some, same_Some, slice_get-map}
-use Rattle.dcx_math.proofs.Orders.{≡ℚ_prop}
-use Rattle.dcx_frac.specs.declared.fraction.Frac.{Frac}
-use Rattle.dcx_frac.proofs.Parts.{value_injective}
-use Rattle.dcx_shape.specs.Sides.{entries_of}
+use Rattle.std.proofs.Common.{◌≡◌, ℕ, zero, suc, ◌<◌, arith, Bool, true, false, List, [], ◌∷◌, length, get_or, Option, Some, None, refl, sym, ap, ap₂, ◌∙◌, subst}
+use Rattle.std.proofs.lemmas.Option.{none-some, same_Some}
 use Rattle.dcx_atom.specs.declared.array.Array.{Array}
 use Rattle.dcx_atom.specs.Arrays.{number_at}
-use Rattle.dcx_atom.proofs.OneArray.{array_from_parts}
+use Rattle.dcx_atom.proofs.OneArray.{array_from_numbers}
 use Rattle.dcx_point.specs.Pairs.{Pairs}
 use Rattle.dcx_convex.specs.Certificates.{is_fixed}
-use Rattle.dcx_call.specs.declared.attribute.Variable.{Variable}
-use Rattle.dcx_call.specs.declared.attribute.Parameter.{Parameter}
-use Rattle.dcx_call.specs.declared.call.Call.{Call}
-use Rattle.dcx_call.specs.declared.call.Call.TheVariants as calls
 use Rattle.dcx_tree.specs.declared.problem.Problem.{Problem}
-use Rattle.dcx_tree.specs.Problems.{IsListed, AreDeclared}
 use Rattle.dcx_tree.specs.Meaning.{names_in, convex_problem, value_at, setting_of, point_of}
-use Rattle.dcx_tree.specs.Values.{IsNamed, AreNamed, IsValueOf, array_at}
-use Rattle.dcx_tree.proofs.Sublists.{contains_at}
+use Rattle.dcx_tree.specs.Values.{IsValueOf, array_at}
+use Rattle.dcx_cert_values.proofs.Known.{all_named}
 use Rattle.dcx_cert_bound.specs.Fixed.{AreFixedValues}
-use Rattle.dcx_shape.proofs.OneShape.{shape_from_sides}
 
 -- ---- a value's numbers are those of its node
-call_named : (p : Problem) (call : Call) → IsListed p.variables p.parameters call → IsNamed (names_in p) call
-call_named p (calls.Variable v) l = let (k, at) = contains_at p.variables v l in (k, slice_get-map (λ (w : Variable). w.name) p.variables k ∙ ap (option_map (λ (w : Variable). w.name)) at)
-call_named p (calls.Parameter q) l = let (k, at) = contains_at p.parameters q l in (k, slice_get-map (λ (w : Parameter). w.name) p.parameters k ∙ ap (option_map (λ (w : Parameter). w.name)) at)
-call_named p (calls.Constant x) l = tt
-call_named p (calls.Atom m) l = tt
-call_named p (calls.Linear m) l = tt
-call_named p (calls.Pairing m) l = tt
-
-all_named : (p : Problem) → AreDeclared p.tree p.variables p.parameters → (i : ℕ) → AreNamed p.tree (names_in p) i
-all_named p d i j n reached there = call_named p n.call (d.listed j n there)
-
 pub number_is_value : (p : Problem) (setting point : Pairs) (i : ℕ) (v : Array) → IsValueOf p.tree setting point i v → (j : ℕ)
     → number_at v.entries j ≡ value_at p (setting_of p setting) (point_of p point) i j
-number_is_value p setting point i v is j =
-    ∥∥₁_elim p.declared (≡ℚ_prop (number_at v.entries j) (value_at p (setting_of p setting) (point_of p point) i j)) (λ d. is.numbers (names_in p) (all_named p d i) j)
+number_is_value p setting point i v is j = is.numbers (names_in p) (all_named p i) j
 
 -- ---- so a node has one value
-same_entries : (xs ys : List Frac) → length xs ≡ length ys → ((j : ℕ) → number_at xs j ≡ number_at ys j) → xs ≡ ys
-same_entries [] [] n e = refl
-same_entries [] (y ∷ ys) n e = absurd (omega (arith, n))
-same_entries (x ∷ xs) [] n e = absurd (omega (arith, n))
-same_entries (x ∷ xs) (y ∷ ys) n e = ap₂ ◌∷◌ (value_injective x y (e 0)) (same_entries xs ys (omega (arith, n)) (λ j. e (suc j)))
-
 one_value : (p : Problem) (setting : Pairs) (i : ℕ) (x y : Array) → IsValueOf p.tree setting [] i x → IsValueOf p.tree setting [] i y → x ≡ y
 one_value p setting i x y v w =
-    let shape = shape_from_sides x.shape y.shape (v.shape ∙ sym w.shape) in
-    array_from_parts x y shape
-    (same_entries x.entries y.entries (x.full ∙ ap entries_of (v.shape ∙ sym w.shape) ∙ sym y.full) (λ j. number_is_value p setting [] i x v j ∙ sym (number_is_value p setting [] i y w j)))
+    array_from_numbers x y (v.shape ∙ sym w.shape) (λ j. number_is_value p setting [] i x v j ∙ sym (number_is_value p setting [] i y w j))
 
 -- ---- and all have
 same_list : (xs ys : List (Option Array)) → length xs ≡ length ys → ((i : ℕ) → i < length xs → get_or xs i None ≡ get_or ys i None) → xs ≡ ys

@@ -38,7 +38,8 @@ refused_settled : (fault : CertFault) → IsSettled (refused fault)
 refused_settled fault = record { apart = λ f p e. p; one = λ f g e h. e ∙ sym h }
 
 -- ---- what reaches a variable
-clash : (a : Attribute) (x : ℚ) → MayReachEntry a x → MayNotReachEntry a x → ⊥
+-- what may doesn't not
+pub clash : (a : Attribute) (x : ℚ) → MayReachEntry a x → MayNotReachEntry a x → ⊥
 clash Free x p n = n p
 clash Nonneg x p n = <ℚ-not n p
 clash Nonpos x p n = <ℚ-not n p

@@ -3,7 +3,6 @@ use Rattle.std.proofs.Common.{◌≡◌, ◌⊎◌, inl, inr, IsSome, ℕ, ◌<�
 use Rattle.std.specs.Prelude.{◌&&◌, ◌||◌, slice_index}
 use Rattle.std.specs.List.{list_all}
 use Rattle.std.proofs.lemmas.Bool.{false≢true, and_parts, or_cases}
-use Rattle.std.proofs.lemmas.List.{length-map}
 use Rattle.std.proofs.lemmas.Option.{none-some, slice_get-map, slice_get_within}
 use Rattle.dcx_shape.specs.declared.shape.Sides.{Sides}
 use Rattle.dcx_atom.specs.declared.array.Array.{Array}
@@ -13,7 +12,7 @@ use Rattle.dcx_atom.specs.declared.flags.Bend.TheVariants.{Convex, Concave}
 use Rattle.dcx_affine.specs.declared.pairing.Pairing.{Pairing}
 use Rattle.dcx_affine.specs.declared.pairing.Pairing.TheVariants.{Times, MatTimes, Over}
 use Rattle.dcx_point.specs.Pairs.{Pairs}
-use Rattle.dcx_arena.specs.Nodes.{IsNode, sides_at}
+use Rattle.dcx_arena.specs.Nodes.{IsNode}
 use Rattle.dcx_convex.specs.Calls as convex_calls
 use Rattle.dcx_convex.specs.Certificates.{is_fixed}
 use Rattle.dcx_convex.specs.Nodes as convex
@@ -24,7 +23,6 @@ use Rattle.dcx_convex.proofs.Signs.{value_fixed}
 use Rattle.dcx_convex.proofs.Told.{judgement_tells}
 use Rattle.dcx_call.specs.declared.call.Call.{Call}
 use Rattle.dcx_call.specs.declared.call.Call.TheVariants as calls
-use Rattle.dcx_call.specs.Calls.{shape_of, sides_of_two}
 use Rattle.dcx_tree.specs.declared.problem.Problem.{Problem}
 use Rattle.dcx_tree.specs.Nodes.{Node, arg_sides, head_of, convex_node, pairing_call}
 use Rattle.dcx_tree.specs.Meaning.{names_in, convex_problem, setting_of, point_of, IsAccepted}
@@ -32,16 +30,11 @@ use Rattle.dcx_tree.specs.Values.{array_at}
 use Rattle.dcx_tree.proofs.Lawful.{tree_lawful}
 use Rattle.dcx_rules.proofs.Reaching.{each_bent}
 use Rattle.dcx_cert_collect.specs.Laws.{HasKnownSide, MayHandOn, AreKnown}
+use Rattle.dcx_cert_collect.proofs.ArgSides.{two_args}
 use Rattle.dcx_cert_bound.specs.Fixed.{AreFixedValues}
 use Rattle.dcx_cert_bound.proofs.OneTable.{number_is_value, value_of_fixed}
 
 -- ---- two sides
-two_sides : (p : Pairing) (xs : List Sides) (s : Sides) → sides_of_two p xs ≡ Some s → length xs ≡ 2
-two_sides p [] s e = absurd (none-some s e)
-two_sides p (a ∷ []) s e = absurd (none-some s e)
-two_sides p (a ∷ b ∷ []) s e = refl
-two_sides p (a ∷ b ∷ c ∷ rest) s e = absurd (none-some s e)
-
 -- a call that bends, and whose arguments aren't all constant
 bent_call : (c : convex_calls.Call) (bend : Bend) (gs : List Judgement) → IsTrue (is_bent_call Plain c bend gs) → list_all (is_constant Plain) gs ≡ false → IsTrue (bends Plain c.kind bend gs)
 bent_call c bend gs h not_all = elim (or_cases (list_all (is_constant Plain) gs) (bends Plain c.kind bend gs && all_suit bend (c.trend (map (λ g. g.sign) gs)) gs) h) [
@@ -104,9 +97,6 @@ module _ (p : Problem) (setting : Pairs) (values : List (Option Array)) (v : Are
       never : (call : Call) → n.call ≡ call → fixed_by (head_of (names_in p) call (arg_sides p.tree n) n.sides) (map judged n.args) ≡ true → ⊥
       never call is t = false≢true (sym (free i lt none) ∙ ap (λ (g : Judgement). g.fixed) (told call is) ∙ t)
 
-      two : (q : Pairing) → n.call ≡ calls.Pairing q → length n.args ≡ 2
-      two q is = sym (length-map n.args (sides_at p.tree)) ∙ two_sides q (map (sides_at p.tree) n.args) n.sides (ap (λ c. shape_of c (map (sides_at p.tree) n.args)) (sym is) ∙ p.nodes.shaped i n at)
-
       pair : (q : Pairing) (args : List ℕ) → length args ≡ 2 → ((k : ℕ) (d : ℕ) → k < length args → get_or args k d < i) →
           IsBent (judgement_by Plain (head_of (names_in p) (calls.Pairing q) (arg_sides p.tree n) n.sides) (map judged args)) →
           fixed_by (head_of (names_in p) (calls.Pairing q) (arg_sides p.tree n) n.sides) (map judged args) ≡ false →
@@ -137,7 +127,7 @@ module _ (p : Problem) (setting : Pairs) (values : List (Option Array)) (v : Are
       by (calls.Atom m) is = tt
       by (calls.Linear l) is = tt
       by (calls.Pairing q) is =
-          pair q n.args (two q is) (p.nodes.earlier i n at) (subst IsBent (told (calls.Pairing q) is) (each_bent p ok i lt))
+          pair q n.args (two_args p.tree p.nodes i lt n at q is) (p.nodes.earlier i n at) (subst IsBent (told (calls.Pairing q) is) (each_bent p ok i lt))
           (sym (ap (λ (g : Judgement). g.fixed) (told (calls.Pairing q) is)) ∙ free i lt none)
 
   pub are_known : IsAccepted p → AreKnown (names_in p) p.tree (setting_of p setting) values

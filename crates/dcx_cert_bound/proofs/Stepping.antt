@@ -1,8 +1,6 @@
 -- One check after the other, while they are made.
-use Rattle.std.proofs.Common.{◌≡◌, ◌⊎◌, inl, inr, ℕ, ◌+◌, ◌<◌, arith, Bool, true, false, List, Some, refl, sym, subst}
-use Rattle.std.specs.Prelude.{nat_lt}
+use Rattle.std.proofs.Common.{◌≡◌, ◌⊎◌, ℕ, List, Some, sym, subst}
 use Rattle.std.specs.List.{slice_get}
-use Rattle.std.proofs.lemmas.Bool.Decides.{nat_tests}
 use Rattle.dcx_frac.specs.declared.fraction.Frac.{Frac}
 use Rattle.dcx_shape.specs.Sides.{entries_of}
 use Rattle.dcx_call.specs.declared.attribute.Variable.{Variable}
@@ -17,20 +15,6 @@ use Rattle.dcx_cert_bound.specs.Variables.{reaching, entry_check, variable_check
 -- the fault is told, or memory ran out
 abbrev pub Fails : Check → CertFault → Type 0
 Fails check f = (f ≡ Memory) ⊎ check.fails f
-
-module _ (count : ℕ) (check : ℕ → Check) (k : ℕ) (before : (m : ℕ) → m < k → (check m).passes) where
-  -- the first check that fails
-  pub first_fails : (f : CertFault) → k < count → Fails (check k) f → Fails (each_below count check) f
-  first_fails f b (inl memory) = inl memory
-  first_fails f b (inr h) = inr (record { position = k; there = b; before = before; here = h })
-
-  -- one more passes
-  pub one_more : (check k).passes → (m : ℕ) → m < k + 1 → (check m).passes
-  one_more here m b = by (nat_lt m k) refl
-    where
-      by : (t : Bool) → nat_lt m k ≡ t → (check m).passes
-      by true t = before m (grind (arith, nat_tests))
-      by false t = let same : k ≡ m = grind (arith, nat_tests) in subst (λ n. (check n).passes) same here
 
 -- the check of a variable, where its coefficients are told
 module _ (p : Problem) (reached : List Reached) (k : ℕ) (v : Variable) (coefficients : List Frac) (at : slice_get p.variables k ≡ Some v) (told : coefficients ≡ reaching p.tree reached v.name) where

@@ -1,7 +1,6 @@
 -- Checks one after the other, and the demands of which they are made.
-use Rattle.std.proofs.Common.{◌≡◌, ◌≢◌, ◌⊎◌, inl, inr, ℕ, ◌+◌, ◌<◌, ◌≤◌, List, length, Option, Some, None, Result, Ok, Err, OnOk, refl, sym, ◌∙◌, subst, arith}
+use Rattle.std.proofs.Common.{◌≡◌, ◌≢◌, ◌⊎◌, inl, inr, ℕ, ◌<◌, ◌≤◌, List, length, Option, Some, None, Result, Ok, Err, OnOk, refl, sym, ◌∙◌, subst, arith}
 use Rattle.std.specs.List.{slice_get}
-use native.Mathlib.Decide.{dec_lt}
 use Rattle.std.proofs.lemmas.Option.{slice_get_within}
 use Rattle.dcx_point.specs.Pairs.{Pairs}
 use Rattle.dcx_tree.specs.declared.problem.Problem.{Problem}
@@ -10,7 +9,7 @@ use Rattle.dcx_answer.specs.declared.stop.Stop.TheVariants as stops
 use Rattle.dcx_fit.specs.Fit.{IsFirstMisfit}
 use Rattle.dcx_answer.specs.declared.cert_fault.CertFault.{CertFault}
 use Rattle.dcx_answer.specs.declared.cert_fault.CertFault.TheVariants.{Fit, Memory}
-use Rattle.dcx_cert_sections.specs.Checks.{Check, Checked, in_turn, each_below}
+use Rattle.dcx_cert_sections.specs.Checks.{Check, each_below}
 use Rattle.dcx_cert_sections.specs.Laws.{IsSettled}
 use Rattle.dcx_cert_sections.proofs.Settled.{settled_together}
 use Rattle.dcx_cert_check.specs.Demands.{demand, check_if, each_in}
@@ -30,13 +29,6 @@ if_settled check settled (Some x) = settled x
 pub in_settled : {X : Type 0} (xs : List X) (check : ℕ → X → Check) → ((k : ℕ) (x : X) → IsSettled (check k x)) → IsSettled (each_in xs check)
 in_settled xs check settled = settled_together.many (length xs) (λ k. check_if (check k) (slice_get xs k)) (λ k. if_settled (check k) (settled k) (slice_get xs k))
 
--- ---- one check and then another
--- it passes, and the second one counts
-pub second_counts : (a b : Check) {T : Type 0} (r : Result T CertFault) → a.passes → Checked b r → Checked (in_turn a b) r
-second_counts a b (Ok x) p h = (p, h)
-second_counts a b (Err f) p (inl e) = inl e
-second_counts a b (Err f) p (inr h) = inr (inr (p, h))
-
 -- what holds in any case holds on success
 pub on_ok : {T E : Type 0} {P : Type 0} (r : Result T E) → P → OnOk r P
 on_ok (Ok x) p = p
@@ -48,22 +40,9 @@ abbrev pub PassBelow : (ℕ → Check) → ℕ → Type 0
 PassBelow check n = (k : ℕ) → k < n → (check k).passes
 
 module _ (check : ℕ → Check) where
-  -- one more
-  pub one_more : (n : ℕ) → (check n).passes → PassBelow check n → PassBelow check (n + 1)
-  one_more n p below k lt = by (dec_lt k n)
-    where
-      by : Dec (k < n) → (check k).passes
-      by (yes less) = below k less
-      by (no not) = subst (λ m. (check m).passes) (omega (arith, lt, not)) p
-
   -- all of them
   pub all_passed : (count n : ℕ) → count ≤ n → PassBelow check n → (each_below count check).passes
   all_passed count n le below k lt = below k (omega (arith, le, lt))
-
-  -- the first that fails
-  pub first_fails : (count n : ℕ) (f : CertFault) → n < count → PassBelow check n → (f ≡ Memory) ⊎ (check n).fails f → (f ≡ Memory) ⊎ (each_below count check).fails f
-  first_fails count n f lt below (inl e) = inl e
-  first_fails count n f lt below (inr e) = inr (record { position = n; there = lt; before = below; here = e })
 
 module _ {X : Type 0} (xs : List X) (check : ℕ → X → Check) where
   -- the check at a place

@@ -3,7 +3,6 @@ use Rattle.std.proofs.Common.{◌≡◌, ◌⊎◌, ℕ, zero, suc, ◌+◌, ◌
 use Rattle.std.proofs.Common.{ap, ap₂, ◌∙◌, subst, inl, inr, Option, Some, None, IsSome, Result, Ok, Err, IfOk, slice_get, pos}
 use Rattle.std.specs.Prelude.{option_map, unwrap_or}
 use Rattle.std.proofs.lemmas.List.{length-take-le, take-append-drop, get_or-map}
-use Rattle.std.proofs.lemmas.Option.{slice_get-get_or}
 use Rattle.dcx_math.specs.Rational.{ℚ, whole, ◌+ℚ◌, ◌*ℚ◌, ◌/ℚ◌, ◌≤ℚ◌}
 use Rattle.dcx_math.specs.Sums.{rat_sum_below, rat_sum_by}
 use Rattle.dcx_math.proofs.Ring.{ring, reads}
@@ -26,6 +25,7 @@ use Rattle.dcx_affine.specs.declared.pairing.Pairing.TheVariants.{Times, MatTime
 use Rattle.dcx_affine.specs.declared.pairing.Pair.{Pair}
 use Rattle.dcx_affine.specs.Pairing.{pairs_at}
 use Rattle.dcx_arena.specs.Nodes.{AreNodes, IsNode, call_at, args_at, entries_in, sides_at as sides_of_node}
+use Rattle.dcx_arena.proofs.Unfolds.{node_there}
 use Rattle.dcx_convex.specs.Nodes.{Numbers, Setting, Point, arguments, zeros, value_by}
 use Rattle.dcx_convex.specs.Pairs.{products_at, quotients_at, Pair as CallPair}
 use Rattle.dcx_convex.proofs.Signs.{first_in}
@@ -52,8 +52,8 @@ use Rattle.dcx_cert_collect.proofs.Starting.{start_all}
 use Rattle.dcx_cert_collect.proofs.Passing.{same_Ok, own_count, start_inside, passed_count}
 use Rattle.dcx_cert_collect.proofs.Flat.{frac_value, dot, dot-nil, dot-append, dot-sum, dot-table, flat, flat-place}
 use Rattle.dcx_cert_collect.proofs.Bound.{number_of, IsBefore}
-use Rattle.dcx_cert_collect.proofs.Points.{at_point, node_value, place_number, some_item}
-use Rattle.dcx_cert_collect.proofs.ArgSides.{two_sides, as_many, args_before, args_there, few_sides}
+use Rattle.dcx_cert_collect.proofs.Points.{at_point, node_value, place_number}
+use Rattle.dcx_cert_collect.proofs.ArgSides.{as_many, args_before, args_there, few_sides, two_args}
 use Rattle.dcx_cert_collect.proofs.Worth.{linear_worth, products_worth_right, products_worth_left, quotients_worth, slopes_worth}
 
 -- ---- sums
@@ -182,7 +182,7 @@ module _ (names : Names) (nodes : List Node) (are : AreNodes shape_of nodes) (s 
 
     -- both arguments are there
     two : (p : Pairing) → n.call ≡ calls.Pairing p → length n.args ≡ 2
-    two p same = many ∙ two_sides p ss n.sides (subst (λ c. shape_of c ss ≡ Some n.sides) same shaped)
+    two = two_args nodes are i b n at
 
     times_bound : (o r : Option Array) → array_at values (get_or n.args 0 0) ≡ o → array_at values (get_or n.args 1 0) ≡ r → n.call ≡ calls.Pairing Times → HasKnownSide Times o r →
         handed t (Ok (pairing_hands nodes n.args Times ss o r cs)) ≡ Ok u → dot u F +ℚ whole (pos 0) ≤ℚ dot t F +ℚ own_times i cs
@@ -301,10 +301,7 @@ module _ (names : Names) (nodes : List Node) (are : AreNodes shape_of nodes) (s 
           (call_bound i b n at cs ws kept.below u size start n.call refl (known.others i n at none) fit is))
       by (Err stop) is h = cc
 
-  -- the node, and what is told of it
-  node_there : (i : ℕ) → i < length nodes → (n : Node) × IsNode nodes i n
-  node_there i b = (get_or nodes i (some_item nodes i b), slice_get-get_or nodes i (some_item nodes i b) b)
-
+  -- what is told of a node
   own_fractions : (weights : ℕ → List Frac) → HasOwnFractions weights → (i : ℕ) → i < length nodes → array_at values i ≡ None → (n : Node) → IsNode nodes i n → (m : AtomCall) → n.call ≡ calls.Atom m →
       AreFractionSlopes (atom_meaning m) (arg_sides nodes n) (weights i)
   own_fractions weights fractions i b none n at m same =
@@ -320,7 +317,7 @@ module _ (names : Names) (nodes : List Node) (are : AreNodes shape_of nodes) (s 
       (dot kept.below F +ℚ own_times i cs)
   passed_bound weights fractions i b (Some x) at cs kept after size start e = ≤ℚ-from_≡ (counted_bound i x cs kept.below kept after at refl e)
   passed_bound weights fractions i b None none cs kept after size start e =
-      let (n, at) = node_there i b in
+      let (n, at) = node_there nodes i b in
       handed_bound i b n at none cs (weights i) kept after (size ∙ ap entries_of (own_sides i n at)) start (own_fractions weights fractions i b none n at) e
 
   -- the coefficients of the nodes before node i, and those of its own

@@ -1,5 +1,5 @@
 -- The values of nodes at a point: what stands at the place of an argument's entry.
-use Rattle.std.proofs.Common.{◌≡◌, ℕ, zero, suc, ◌+◌, ◌-◌, ◌<◌, ◌≤◌, arith, Bool, true, false, nat_lt, if◌then◌else◌, List, [], ◌∷◌}
+use Rattle.std.proofs.Common.{◌≡◌, ℕ, zero, suc, ◌+◌, ◌-◌, ◌<◌, ◌≤◌, arith, Bool, true, false, nat_lt, if◌then◌else◌, List}
 use Rattle.std.proofs.Common.{map, length, All, refl, sym, ap, ◌∙◌, subst, Option, Some, None, slice_get, pos}
 use Rattle.std.specs.Prelude.{option_map, unwrap_or}
 use Rattle.std.proofs.lemmas.Bool.{false≢true, le-ltb, ltb-true, ltb-false}
@@ -25,7 +25,7 @@ use Rattle.dcx_tree.specs.Nodes.{Names, Node, number_in, pairs_of, head_of, arg_
 use Rattle.dcx_tree.proofs.Lawful.{tree_lawful}
 use Rattle.dcx_tree.proofs.NodeValues.{number_past}
 use Rattle.dcx_cert_collect.specs.Starts.{start_of, place_of}
-use Rattle.dcx_cert_collect.proofs.Starting.{start_next}
+use Rattle.dcx_cert_collect.proofs.Starting.{some_node, start_next}
 use Rattle.dcx_cert_collect.proofs.Flat.{flat, flat-place}
 use Rattle.dcx_cert_collect.proofs.Bound.{number_of, IsBefore}
 
@@ -52,10 +52,6 @@ past_size names s y (calls.Pairing MatTimes) args sides values e j b = first_pas
 past_size names s y (calls.Pairing Over) args sides values e j b = first_past (entries_of sides) (λ k. quotients_at (pairs_of Over args k) (arguments values)) j b
 
 -- ---- what stands in a list
-pub some_item : (xs : List Node) (k : ℕ) → k < length xs → Node
-some_item [] k b = absurd (omega arith)
-some_item (x ∷ xs) k b = x
-
 some_there : {A : Type 0} (xs : List A) (k : ℕ) (d : A) → k < length xs → slice_get xs k ≡ None → ⊥
 some_there xs k d b h = let g = sym h ∙ slice_get-get_or xs k d b in cc
 
@@ -106,7 +102,7 @@ module _ (names : Names) (nodes : List Node) (are : AreNodes shape_of nodes) (s 
     where
       by : (o : Option Node) → slice_get nodes i ≡ o → entries_of (unwrap_or (option_map (λ (n : Node). n.sides) o) Scalar) ≤ e → at_point i e ≡ whole (pos 0)
       by (Some n) at k = ap (λ (v : Numbers). v e) (node_value i n at) ∙ past_size names s y n.call (arg_sides nodes n) n.sides (map at_point n.args) (are.shaped i n at) e k
-      by None at k = absurd (some_there nodes i (some_item nodes i b) b at)
+      by None at k = absurd (some_there nodes i (some_node nodes i b) b at)
 
   -- what stands at the place of an argument's entry is its value
   pub place_number : (args : List ℕ) → All (λ a. a < length nodes) args → (k e : ℕ) → number_of (flat nodes at_point) (place_of nodes (slice_get args k) e) ≡ arguments (map at_point args) k e

@@ -17,7 +17,8 @@ sides_is [] i d b = absurd (omega arith)
 sides_is (n ∷ nodes) zero d b = refl
 sides_is (n ∷ nodes) (suc i) d b = sides_is nodes i d (omega arith)
 
-some_node : (nodes : List Node) (i : ℕ) → i < length nodes → Node
+-- some node, where one is there
+pub some_node : (nodes : List Node) (i : ℕ) → i < length nodes → Node
 some_node [] i b = absurd (omega arith)
 some_node (n ∷ nodes) i b = n
 

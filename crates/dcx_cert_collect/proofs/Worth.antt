@@ -69,6 +69,14 @@ quotient_worth c x q n e = IfOk-weaker (quotient_of c x) _ _ (λ v h. divided (v
 at_place : (F : Numbers) (place : Option ℕ) (r : Result Frac Passes) (n w : ℚ) → number_of F place ≡ n → IfOk r (λ v. value v *ℚ n ≡ w) → IfOk r (λ v. value v *ℚ number_of F place ≡ w)
 at_place F place r n w e h = subst (λ m. IfOk r (λ v. value v *ℚ m ≡ w)) (sym e) h
 
+-- ---- stops
+-- where no entry has the first, none has one
+pub none_stopped : (n : ℕ) (f : ℕ → Option SlopeStop) → first_of_entries n f ≡ None → (j : ℕ) → j < n → f j ≡ None
+none_stopped zero f e j b = absurd (omega arith)
+none_stopped (suc n) f e j b =
+    let both = earlier-none (first_of_entries n f) (f n) e in
+    ⊎_elim (λ l. none_stopped n f both.0 j l) (λ r. ap f r ∙ both.1) (below_or_last j n b)
+
 -- ---- what the arguments of a node are: the numbers at their places are a, and these places are among the first L
 module _ (nodes : List Node) (args : List ℕ) (F : Numbers) (L : ℕ) (a : Entries) (before : (k e : ℕ) → IsBefore L (place_of nodes (slice_get args k) e))
     (numbers : (k e : ℕ) → number_of F (place_of nodes (slice_get args k) e) ≡ a k e) where
@@ -143,12 +151,6 @@ module _ (nodes : List Node) (args : List ℕ) (F : Numbers) (L : ℕ) (a : Entr
   quotients_worth xs cs pairs h t u count e = pairs_worth Divided xs cs pairs h t u count e
 
   -- ---- nonlinear calls
-  none_stopped : (n : ℕ) (f : ℕ → Option SlopeStop) → first_of_entries n f ≡ None → (j : ℕ) → j < n → f j ≡ None
-  none_stopped zero f e j b = absurd (omega arith)
-  none_stopped (suc n) f e j b =
-      let both = earlier-none (first_of_entries n f) (f n) e in
-      ⊎_elim (λ l. none_stopped n f both.0 j l) (λ r. ap f r ∙ both.1) (below_or_last j n b)
-
   pub slopes_worth : (m : Meaning) → HasSubgradients m → (ss : List Sides) (sides : Sides) → m.shape ss ≡ Some sides → length args ≡ length ss → (cs ws : List Frac)
       → length cs ≡ entries_of sides → AreFractionSlopes m ss ws →
       slopes_stop m ss cs ws ≡ None → (t u : List Frac) → length t ≡ L → with_shares t (slope_shares nodes args ss (slope_frac m ss ws)) ≡ Ok u →

@@ -10,7 +10,7 @@ use Rattle.std.proofs.lemmas.Option.{same_Some}
 use Rattle.dcx_math.specs.Rational.{ℚ, whole, ◌+ℚ◌, ◌-ℚ◌, ◌*ℚ◌, ◌≤ℚ◌}
 use Rattle.dcx_math.specs.Sums.{IsNonnegative, rat_sum_below}
 use Rattle.dcx_math.proofs.Ring.{ring, reads}
-use Rattle.dcx_math.proofs.Orders.{≤ℚ_refl, +ℚ_idl, +ℚ_idr, *ℚ-zero, zero-*ℚ, linear}
+use Rattle.dcx_math.proofs.Orders.{+ℚ_idl, +ℚ_idr, *ℚ-zero, zero-*ℚ, linear}
 use Rattle.dcx_math.proofs.Products.{*ℚ-nonnegative, *ℚ-nonpositive}
 use Rattle.dcx_math.proofs.Sums.{rat_sum_below-same, rat_sum_below-zero, rat_sum_below-*ℚ}
 use Rattle.dcx_frac.specs.declared.fraction.Frac.{Frac}
@@ -42,6 +42,7 @@ use Rattle.dcx_cert_bound.proofs.Falling.{AreFalling}
 use Rattle.dcx_cert_bound.proofs.Reaching.{bare, listed}
 use Rattle.dcx_cert_complete.specs.Families.{variable_by, variable_if, variable_numbers}
 use Rattle.dcx_cert_complete.proofs.Scaling.{bounded_multiples}
+use Rattle.dcx_cert_complete.proofs.Steep.{keeps_zeros}
 use Rattle.dcx_cert_complete.proofs.Sums.{further_zero}
 
 -- ---- an array for one variable alone
@@ -68,14 +69,7 @@ alone_other k y i n = by (ℕ_discrete i k)
     by (yes e) = absurd (n e)
     by (no d) = refl
 
--- zeros keep each attribute, and so do multiples
-zeros_kept : (a : Attribute) (s : Sides) → Keeps a s zeros
-zeros_kept Free s = tt
-zeros_kept Nonneg s = λ j b. ≤ℚ_refl _
-zeros_kept Nonpos s = λ j b. ≤ℚ_refl _
-zeros_kept Symmetric s = λ i j h. refl
-zeros_kept Diag s = λ i j h d. refl
-
+-- multiples keep each attribute
 multiples_kept : (a : Attribute) (s : Sides) (q : ℚ) (y : Numbers) → IsNonnegative q → Keeps a s y → Keeps a s (λ j. q *ℚ y j)
 multiples_kept Free s q y n h = tt
 multiples_kept Nonneg s q y n h = λ j b. *ℚ-nonnegative n (h j b)
@@ -188,7 +182,7 @@ module _ (p : Problem) (d : AreDeclared p.tree p.variables p.parameters) where
               subst (λ (f : Numbers). Keeps (variable_attribute w.whole w.attribute) (sides_in w) f) (sym (ap x e ∙ alone_itself k y))
               (subst (λ (u : Variable). Keeps (variable_attribute u.whole u.attribute) (sides_in u) y) same h)
           by {i} (no n) w there =
-              subst (λ (f : Numbers). Keeps (variable_attribute w.whole w.attribute) (sides_in w) f) (sym (alone_other k y i n)) (zeros_kept (variable_attribute w.whole w.attribute) (sides_in w))
+              subst (λ (f : Numbers). Keeps (variable_attribute w.whole w.attribute) (sides_in w) f) (sym (alone_other k y i n)) (keeps_zeros (variable_attribute w.whole w.attribute) (sides_in w))
 
     -- sums to the end of the coefficients, and to the end of the variable
     either_end : (cs : List Frac) (m : ℕ) (y : Numbers) → times (length cs) (number_at cs) (first_of m y) ≡ times m (number_at cs) y
@@ -222,7 +216,7 @@ module _ (p : Problem) (d : AreDeclared p.tree p.variables p.parameters) where
 
 -- ---- at 0 nothing is reached
 pub zeros_in : (p : Problem) → IsInDomain p (λ k. zeros)
-zeros_in p = to_domain p (λ k. zeros) (λ k v at. zeros_kept (variable_attribute v.whole v.attribute) (sides_in v))
+zeros_in p = to_domain p (λ k. zeros) (λ k v at. keeps_zeros (variable_attribute v.whole v.attribute) (sides_in v))
 
 zero_if : (p : Problem) (o : Option Call) (j : ℕ) → variable_if (names_in p) (λ k. zeros) o j ≡ whole (pos 0)
 zero_if p None j = refl

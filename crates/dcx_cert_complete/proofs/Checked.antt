@@ -51,6 +51,7 @@ use Rattle.dcx_cert_bound.specs.Collecting.{begun, collected, fault_of}
 use Rattle.dcx_cert_bound.specs.Variables.{reaching, reaching_entry, number_check, asked, entry_check, variable_check, variables_check}
 use Rattle.dcx_cert_bound.specs.Checks.{shown_by}
 use Rattle.dcx_cert_bound.proofs.Falling.{AreFalling, is_collected}
+use Rattle.dcx_cert_bound.proofs.Settled.{clash}
 use Rattle.dcx_cert_bound.proofs.Shown.{counted_is}
 use Rattle.dcx_cert_bound.proofs.Sides.{are_known}
 use Rattle.dcx_cert_complete.specs.Families.{variable_numbers, rows_below}
@@ -59,7 +60,7 @@ use Rattle.dcx_cert_complete.specs.Laws.{BoundsFailWide}
 use Rattle.dcx_cert_complete.proofs.Handed.{IsPassing}
 use Rattle.dcx_cert_complete.proofs.Passed.{IsEnd, passes_down}
 use Rattle.dcx_call.specs.Atoms.{atom_lawful}
-use Rattle.dcx_cert_complete.proofs.Cones.{entry_may, not_both}
+use Rattle.dcx_cert_complete.proofs.Cones.{entry_may}
 use Rattle.dcx_cert_complete.proofs.Alone.{reached_cone, zeros_in, all_zero}
 
 -- ---- values are formed, or an operation passes
@@ -127,7 +128,7 @@ module _ (p : Problem) (reached : List Reached) (falling : AreFalling reached) (
     number_wide e b own f (Err passes) is h = (passes, h)
     number_wide e b own f (Ok x) is h =
         let none : IsProp ⊥ = hlevel in
-        absurd (∥∥₁_elim p.declared none (λ d. not_both (demanded v) (value x)
+        absurd (∥∥₁_elim p.declared none (λ d. clash (demanded v) (value x)
         (entry_may (sides_in v) cs (demanded v) (square_at p k v at)
         (subst (λ a. IsInDualCone a (sides_in v) (number_at cs)) (sym (counted_is v.whole v.attribute)) (reached_cone p d k v at reached falling u total bound)) e b own x is) h.0))
 

@@ -5,7 +5,7 @@ use Rattle.std.proofs.lemmas.Bool.{eqb-true}
 use Rattle.dcx_math.specs.Rational.{ℚ, whole, ◌+ℚ◌, ◌*ℚ◌, ◌≤ℚ◌}
 use Rattle.dcx_math.specs.Sums.{IsNonnegative}
 use Rattle.dcx_math.proofs.Ring.{reads}
-use Rattle.dcx_math.proofs.Orders.{≤ℚ_antisym, ≤ℚ-from_≡, <ℚ-not, +ℚ_comm, +ℚ-*ℚ, *ℚ-zero, linear}
+use Rattle.dcx_math.proofs.Orders.{≤ℚ_antisym, ≤ℚ-from_≡, +ℚ_comm, +ℚ-*ℚ, *ℚ-zero, linear}
 use Rattle.dcx_math.proofs.FieldLaws.{*ℚ-+ℚ}
 use Rattle.dcx_math.proofs.Products.{linear_over}
 use Rattle.dcx_math.proofs.Sums.{rat_sum_below-same, rat_sum_below-+ℚ, rat_sum_below-one}
@@ -29,7 +29,7 @@ use Rattle.dcx_unknowns.specs.Own.{row_in, column_in, is_own, mirror_of}
 use Rattle.dcx_unknowns.proofs.Sources.{row_is, column_is, turned, mirror_entry, mirror_below}
 use Rattle.dcx_cert_collect.specs.Shares.{frac_in}
 use Rattle.dcx_cert_collect.proofs.Flat.{frac_value}
-use Rattle.dcx_cert_bound.specs.Variables.{mirrored, reaching_entry, MayReachEntry, MayNotReachEntry}
+use Rattle.dcx_cert_bound.specs.Variables.{mirrored, reaching_entry, MayReachEntry}
 use Rattle.dcx_atom.proofs.Units.{only_at, at_itself, at_other, one_nonnegative, only_nonnegative, minus_nonpositive, only_nonpositive}
 
 -- ---- numbers from what they are at 1 and at -1
@@ -137,11 +137,3 @@ module _ (s : Sides) (cs : List Frac) where
   entry_may Diag square cone e b own x h =
       let is : frac_in cs e ≡ x = cc in
       ap value (sym is) ∙ frac_value cs e ∙ diag_entry cone e b (eqb-true (row_in s e) (column_in s e) own)
-
--- and what may doesn't not
-pub not_both : (a : Attribute) (x : ℚ) → MayReachEntry a x → MayNotReachEntry a x → ⊥
-not_both Free x h k = k h
-not_both Nonneg x h k = <ℚ-not k h
-not_both Nonpos x h k = <ℚ-not k h
-not_both Symmetric x h k = k h
-not_both Diag x h k = k h

@@ -27,6 +27,7 @@ use Rattle.dcx_cert_complete.specs.Laws.{UnboundedGoesByRays}
 use Rattle.dcx_cert_complete.proofs.Level.{AreStarting, tree_starts}
 use Rattle.dcx_cert_complete.proofs.Rests.{IsRest, rest_of}
 use Rattle.dcx_atom.proofs.Units.{one_nonnegative}
+use Rattle.dcx_atom.proofs.Sublinear.{none_shifted}
 
 -- ---- what is never more than a number is at most 0 for each step
 above : (c : ℚ) → c *ℚ c +ℚ whole (pos 1) ≤ℚ c → c ≤ℚ whole (pos 0)
@@ -57,9 +58,6 @@ step_down x k d h = linear (x ∷ k ∷ d ∷ []) h (search reads depth 30) tt
 
 one_step : (x d : ℚ) → (x +ℚ whole (pos 1) *ℚ d) -ℚ (x +ℚ whole (pos 0) *ℚ d) ≡ d
 one_step x d = ring (x ∷ d ∷ []) (search reads depth 30) tt
-
-no_step : (x d : ℚ) → x +ℚ whole (pos 0) *ℚ d ≡ x
-no_step x d = ring (x ∷ d ∷ []) (search reads depth 30) tt
 
 keeps_ray : (a : Attribute) (sides : Sides) (x d : Numbers) → ((k : ℚ) → IsNonnegative k → Keeps a sides (λ j. x j +ℚ k *ℚ d j)) → Keeps a sides d
 keeps_ray Free sides x d h = tt
@@ -133,18 +131,14 @@ module _ (p : Problem) (ordered : IsOrdered p.nodes) (law : AreLawful p.nodes) (
   rest : (i : ℕ) → (r : Numbers) × IsRest p.nodes ordered law recede start s fit.parameters x d domain i r
   rest i = rest_of p.nodes ordered law recede start s fit.parameters x d domain i
 
-  -- at the start
-  nowhere : shifted x (whole (pos 0)) d ≡ x
-  nowhere = λ t i j. no_step (x i j) (d i j) t
-
   less_none : (b e : ℚ) → b -ℚ whole (pos 0) *ℚ e ≡ b
   less_none b e = ring (b ∷ e ∷ []) (search reads depth 30) tt
 
   pub ray : IsRay p s x d b e
   ray = record {
     positive = h.positive;
-    feasible = subst (IsFeasible p s) nowhere (h.feasible (whole (pos 0)) (≤ℚ_refl (whole (pos 0))));
-    start = ≤ℚ_trans (≤ℚ-from_≡ (ap (objective_at p s) (sym nowhere))) (≤ℚ_trans (h.falls (whole (pos 0)) (≤ℚ_refl (whole (pos 0)))) (≤ℚ-from_≡ (less_none b e)));
+    feasible = subst (IsFeasible p s) (none_shifted x d) (h.feasible (whole (pos 0)) (≤ℚ_refl (whole (pos 0))));
+    start = ≤ℚ_trans (≤ℚ-from_≡ (ap (objective_at p s) (sym (none_shifted x d)))) (≤ℚ_trans (h.falls (whole (pos 0)) (≤ℚ_refl (whole (pos 0)))) (≤ℚ-from_≡ (less_none b e)));
     domain = domain;
     rows = λ n c at j below.
         sides_steep c.relation (judgement_at Plain p.nodes c.left) (judgement_at Plain p.nodes c.right) (steep_at p.nodes s d c.left j) (steep_at p.nodes s d c.right j) ((rest c.left).0 j)

@@ -1,9 +1,9 @@
 -- Families are determined by the point and the unknowns, those of the first nodes by the first unknowns; and where their numbers stand.
-use Rattle.std.proofs.Common.{◌≡◌, ◌≢◌, ℕ, zero, suc, ◌+◌, ◌<◌, ◌≤◌, arith, List, map, length, get_or, refl, sym, ap, ap₂, ◌∙◌, subst, Option, Some, None, slice_get, pos}
+use Rattle.std.proofs.Common.{◌≡◌, ◌≢◌, ℕ, zero, suc, ◌+◌, ◌<◌, ◌≤◌, arith, List, map, length, refl, sym, ap, ap₂, ◌∙◌, subst, Option, Some, None, slice_get, pos}
 use Rattle.std.specs.Prelude.{option_map}
 use native.Mathlib.Decide.{ℕ_discrete}
 use Rattle.std.proofs.Math.Path.{fun_ext}
-use Rattle.std.proofs.lemmas.Option.{slice_get-map, slice_get-get_or}
+use Rattle.std.proofs.lemmas.Option.{slice_get-map}
 use Rattle.dcx_math.specs.Rational.{whole, ◌*ℚ◌}
 use Rattle.dcx_math.specs.Sums.{rat_sum_below}
 use Rattle.dcx_math.proofs.Sums.{rat_sum_below-same}
@@ -13,6 +13,7 @@ use Rattle.dcx_atom.specs.declared.array.Array.{Array}
 use Rattle.dcx_atom.specs.Arrays.{number_at}
 use Rattle.dcx_atom.specs.Rows.{Filling}
 use Rattle.dcx_arena.specs.Nodes.{AreNodes, IsNode, sides_at}
+use Rattle.dcx_arena.proofs.Unfolds.{node_there}
 use Rattle.dcx_convex.specs.Nodes.{Numbers, Setting, Point, first_of, arguments, value_by, value_at}
 use Rattle.dcx_convex.proofs.Told.{map-same, value_tells}
 use Rattle.dcx_call.specs.Calls.{shape_of}
@@ -23,7 +24,7 @@ use Rattle.dcx_tree.proofs.NodeValues.{sides_are}
 use Rattle.dcx_unknowns.specs.Equations.{call_entry}
 use Rattle.dcx_cert_collect.specs.Starts.{start_of}
 use Rattle.dcx_cert_collect.proofs.Flat.{dot, dot-sum, flat, flat-place, by_nodes}
-use Rattle.dcx_cert_collect.proofs.Points.{some_item, first_past, past_size, End}
+use Rattle.dcx_cert_collect.proofs.Points.{first_past, past_size, End}
 use Rattle.dcx_cert_complete.specs.Families.{IsFamily, call_rows, rows_if, rows_below}
 
 -- ---- unknowns that are changed at one node
@@ -51,9 +52,6 @@ changed_other t k u i n = by (ℕ_discrete i k)
     by (no d) = refl
 
 -- ---- what is there
-pub node_there : (nodes : List Node) (i : ℕ) → i < length nodes → (n : Node) × IsNode nodes i n
-node_there nodes i b = (get_or nodes i (some_item nodes i b), slice_get-get_or nodes i (some_item nodes i b) b)
-
 -- ---- where numbers stand
 -- coefficients of the first nodes alone
 pub first_dots : (nodes : List Node) (i : ℕ) → i ≤ length nodes → (t : List Frac) → length t ≡ start_of nodes i → (f g : ℕ → Numbers) → ((k : ℕ) → k < i → f k ≡ g k)

@@ -1,6 +1,6 @@
 -- One node of the pass: what bounds the coefficients of the nodes up to it, with the weighted rows of their graphs, bounds those of the
 -- nodes before it, and its weights meet the conditions of slopes.
-use Rattle.std.proofs.Common.{◌≡◌, ◌⊎◌, ℕ, zero, suc, ◌+◌, ◌<◌, ◌≤◌, arith, List, [], ◌∷◌, ◌++◌, map, length, get_or, All, refl, sym, ap, ap₂, ◌∙◌}
+use Rattle.std.proofs.Common.{◌≡◌, ◌⊎◌, ℕ, ◌+◌, ◌<◌, ◌≤◌, arith, List, [], ◌∷◌, ◌++◌, map, length, get_or, All, refl, sym, ap, ap₂, ◌∙◌}
 use Rattle.std.proofs.Common.{subst, append-nil, Option, Some, None, Result, Ok, Err, slice_get, pos, ⊎_elim}
 use Rattle.std.proofs.lemmas.Bool.{false≢true}
 use Rattle.std.proofs.lemmas.List.{get_or-map}
@@ -12,8 +12,6 @@ use Rattle.dcx_math.proofs.Orders.{≤ℚ_refl, ≤ℚ-from_≡, +ℚ_idr, +ℚ_
 use Rattle.dcx_math.proofs.Products.{*ℚ-nonnegative}
 use native.Mathlib.Decide.{ℕ_discrete}
 use Rattle.std.proofs.lemmas.Option.{same_Some}
-use Rattle.dcx_atom.proofs.Accepted.{earlier-none}
-use Rattle.dcx_atom.proofs.BoundRows.{below_or_last}
 use Rattle.dcx_math.proofs.Sums.{rat_sum_below-same, rat_sum_below-+ℚ, rat_sum_by-++}
 use Rattle.dcx_frac.specs.declared.fraction.Frac.{Frac}
 use Rattle.dcx_frac.specs.declared.fraction.Passes.{Passes}
@@ -56,15 +54,15 @@ use Rattle.dcx_cert_collect.specs.declared.stop.CollectStop.{CollectStop}
 use Rattle.dcx_cert_collect.specs.declared.stop.CollectStop.TheVariants as stops
 use Rattle.dcx_cert_collect.specs.Shares.{Share, with_shares}
 use Rattle.dcx_cert_collect.specs.Starts.{start_of, place_of}
-use Rattle.dcx_cert_collect.specs.Calls.{share_to, first_of_entries, unless, slopes_stop, slope_shares, slope_frac, linear_shares}
+use Rattle.dcx_cert_collect.specs.Calls.{share_to, unless, slopes_stop, slope_shares, slope_frac, linear_shares}
 use Rattle.dcx_cert_collect.specs.Pass.{reached_by, call_shares, pairing_hands}
 use Rattle.dcx_cert_collect.specs.Laws.{reached_times, HasKnownSide, AreKnown}
 use Rattle.dcx_cert_collect.proofs.Passing.{same_Ok}
 use Rattle.dcx_cert_collect.proofs.Flat.{dot, flat}
 use Rattle.dcx_cert_collect.proofs.Bound.{number_of, IsBefore, worth_of, below_dot, joined_dot, IsWorth}
 use Rattle.dcx_cert_collect.proofs.Points.{argument_place}
-use Rattle.dcx_cert_collect.proofs.ArgSides.{two_sides, as_many, args_before, args_there, few_sides}
-use Rattle.dcx_cert_collect.proofs.Worth.{linear_worth, products_worth_right, products_worth_left, quotients_worth}
+use Rattle.dcx_cert_collect.proofs.ArgSides.{as_many, args_before, args_there, few_sides, two_args}
+use Rattle.dcx_cert_collect.proofs.Worth.{linear_worth, products_worth_right, products_worth_left, quotients_worth, none_stopped}
 use Rattle.dcx_cert_complete.specs.Families.{IsFamily, AreFilled, AreWeighed, atom_rows, call_rows, rows_below, variable_if, variable_numbers}
 use Rattle.dcx_cert_complete.proofs.Scaling.{times_filling, balance_times, nothing_lowers}
 use Rattle.dcx_cert_complete.proofs.Soft.{IsSoft, soft_entry, soft_entries}
@@ -142,7 +140,7 @@ module _ (names : Names) (nodes : List Node) (are : AreNodes shape_of nodes) (s 
           known.known (get_or n.args k 0) y is x e ∙ sym (family.known (get_or n.args k 0) (there k 0 c) y is e) ∙ ap (λ (f : Numbers). f e) (sym (get_or-map g n.args k 0 zeros c))
 
       two : (p : Pairing) → n.call ≡ calls.Pairing p → length n.args ≡ 2
-      two p same = many ∙ two_sides p ss n.sides (shaped (calls.Pairing p) same)
+      two = two_args nodes are i b n at
 
       exact_of : (u : List Frac) (w : Numbers) → ((j : ℕ) → j < entries_of n.sides → g i j ≡ w j)
           → dot u (flat nodes g) ≡ dot t0 (flat nodes g) +ℚ rat_sum_below (length cs) (λ j. number_at cs j *ℚ w j)
@@ -336,12 +334,6 @@ module _ (names : Names) (nodes : List Node) (are : AreNodes shape_of nodes) (s 
             where
               moved : (v c r q : ℚ) → v ≤ℚ c +ℚ (r +ℚ q) → v -ℚ (c +ℚ r) ≤ℚ q
               moved v c r q h = linear (v ∷ c ∷ r ∷ q ∷ []) h (search reads depth 30) tt
-
-          none_stopped : (k : ℕ) (f : ℕ → Option SlopeStop) → first_of_entries k f ≡ None → (j : ℕ) → j < k → f j ≡ None
-          none_stopped zero f e j l = absurd (omega arith)
-          none_stopped (suc k) f e j l =
-              let both = earlier-none (first_of_entries k f) (f k) e in
-              ⊎_elim (λ h. none_stopped k f both.0 j h) (λ r. ap f r ∙ both.1) (below_or_last j k l)
 
           -- what the slopes are worth
           slopes_exact : HasFractionSlopes M → slopes_stop M ss cs (weights i) ≡ None → (u : List Frac) → with_shares t0 (slope_shares nodes n.args ss (slope_frac M ss (weights i))) ≡ Ok u →

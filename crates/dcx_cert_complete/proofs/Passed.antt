@@ -20,6 +20,7 @@ use Rattle.dcx_atom.proofs.Entrywise.{products_from-exact}
 use Rattle.dcx_atom.proofs.FormedSums.{value-zero_frac}
 use Rattle.dcx_affine.specs.declared.pairing.Pairing.TheVariants.{Times, MatTimes, Over}
 use Rattle.dcx_arena.specs.Nodes.{AreNodes, IsNode, entries_in}
+use Rattle.dcx_arena.proofs.Unfolds.{node_there}
 use Rattle.dcx_arena.specs.Nodes.{sides_at as sides_of_node}
 use Rattle.dcx_convex.specs.Nodes.{Numbers, Setting, Point}
 use Rattle.dcx_call.specs.declared.atoms.AtomCall.{AtomCall}
@@ -42,7 +43,6 @@ use Rattle.dcx_cert_collect.proofs.Bounded.{sum_listed, shares_told, reached_tol
 use Rattle.dcx_cert_collect.proofs.Flat.{frac_value, dot, dot-nil, dot-append, dot-sum, dot-table, flat, flat-place}
 use Rattle.dcx_atom.specs.Fractions.{HasFractionSlopes}
 use Rattle.dcx_cert_complete.specs.Families.{IsFamily, AreFilled, AreWeighed, rows_if, rows_below, variable_numbers}
-use Rattle.dcx_cert_complete.proofs.Families.{node_there}
 use Rattle.dcx_cert_complete.proofs.Handed.{IsPassing, Everywhere, Before, AreFair, hands_all, linear_exact, times_exact, mat_times_exact, over_exact, variable_exact, atom_fair}
 
 -- ---- arithmetic of a bound

@@ -19,7 +19,7 @@ use Rattle.dcx_right.proofs.Told.{none_fixed, level, steep_tells}
 use Rattle.dcx_cert_complete.proofs.Taken.{taken_signed}
 
 -- ---- nothing is in the domain
-keeps_zeros : (a : Attribute) (sides : Sides) → Keeps a sides zeros
+pub keeps_zeros : (a : Attribute) (sides : Sides) → Keeps a sides zeros
 keeps_zeros Free sides = tt
 keeps_zeros Nonneg sides = λ j b. ≤ℚ_refl (whole (pos 0))
 keeps_zeros Nonpos sides = λ j b. ≤ℚ_refl (whole (pos 0))

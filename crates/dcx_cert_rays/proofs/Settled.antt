@@ -1,11 +1,11 @@
 -- The checks of a ray tell one thing each.
-use Rattle.std.proofs.Common.{◌≡◌, ℕ, ◌<◌, List, [], ◌∷◌, Option, Some, None, Result, Ok, Err, IsOk, slice_get, sym, ap, subst, ◌∙◌, arith}
+use Rattle.std.proofs.Common.{◌≡◌, ℕ, ◌<◌, List, [], ◌∷◌, Option, Some, None, slice_get, sym, ap, subst, ◌∙◌, arith}
 use native.Mathlib.Decide.{dec_lt}
 use Rattle.std.proofs.lemmas.Option.{same_Some}
 use Rattle.dcx_frac.specs.declared.fraction.Frac.{Frac}
 use Rattle.dcx_shape.specs.Sides.{entries_of}
-use Rattle.dcx_atom.specs.declared.stops.ValueStop.{ValueStop}
 use Rattle.dcx_atom.specs.declared.stops.ValueStop.TheVariants as stops
+use Rattle.dcx_atom.proofs.Entrywise.{err_not_ok, one_stop}
 use Rattle.dcx_point.specs.Pairs.{Pairs}
 use Rattle.dcx_call.specs.Forming.{IsFirst}
 use Rattle.dcx_tree.specs.declared.constraint.Constraint.{Constraint}
@@ -18,28 +18,6 @@ use Rattle.dcx_cert_sections.proofs.Settled.{settled_together}
 use Rattle.dcx_cert_rays.specs.Steepness.{steepness_formed, IsFormed, IsUnformed, forming_at, forming}
 use Rattle.dcx_cert_rays.specs.Rays.{broken_fault, IsFirstBroken, sides_hold, constraint_check, falls, value_check, constraints_check}
 use Rattle.dcx_cert_rays.specs.Laws.{RayChecksAreSettled}
-
--- ---- the first entry that stops
-err_not_ok : {A B : Type 0} (r : Result A B) (e : B) → r ≡ Err e → IsOk r → ⊥
-err_not_ok (Ok x) e is ok = cc
-err_not_ok (Err f) e is ok = cc
-
--- an entry that stops is one alone
-one_entry : (formed : ℕ → Result Frac ValueStop) (size : ℕ) (s t : ValueStop) (a : IsFirst formed size s) (b : IsFirst formed size t) → a.entry ≡ b.entry
-one_entry formed size s t a b = by (dec_lt a.entry b.entry) (dec_lt b.entry a.entry)
-  where
-    by : Dec (a.entry < b.entry) → Dec (b.entry < a.entry) → a.entry ≡ b.entry
-    by (yes lt) d = absurd (err_not_ok (formed a.entry) s a.here (b.before a.entry lt))
-    by (no n) (yes lt) = absurd (err_not_ok (formed b.entry) t b.here (a.before b.entry lt))
-    by (no n) (no m) = omega (arith, n, m)
-
-same_err : {A B : Type 0} (r : Result A B) (e f : B) → r ≡ Err e → r ≡ Err f → e ≡ f
-same_err r e f h k = cc
-
-one_stop : (formed : ℕ → Result Frac ValueStop) (size : ℕ) (s t : ValueStop) → IsFirst formed size s → IsFirst formed size t → s ≡ t
-one_stop formed size s t a b =
-    let e = one_entry formed size s t a b in
-    same_err (formed b.entry) s t (ap formed (sym e) ∙ a.here) b.here
 
 module _ (p : Problem) (setting ray : Pairs) where
   one_unformed : (i : ℕ) (f g : CertFault) → IsUnformed p setting ray i f → IsUnformed p setting ray i g → f ≡ g

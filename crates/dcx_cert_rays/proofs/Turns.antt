@@ -1,5 +1,5 @@
 -- Checks in turn, and what their faults tell.
-use Rattle.std.proofs.Common.{◌≡◌, ◌⊎◌, inl, inr, ℕ, ◌<◌, zero, suc, Bool, true, false, [], ◌∷◌, All, Option, Some, Result, Ok, Err, slice_get, sym, ap, ap₂, ◌∙◌, subst, arith, true≢false}
+use Rattle.std.proofs.Common.{◌≡◌, ◌⊎◌, ℕ, ◌<◌, zero, suc, Bool, true, false, [], ◌∷◌, All, Option, Some, Result, slice_get, sym, ap, ap₂, ◌∙◌, subst, arith, true≢false}
 use Rattle.dcx_math.specs.Rational.{◌-ℚ◌, ◌≤ℚ◌, neg_ℚ, rat_le}
 use Rattle.dcx_math.proofs.Ratios.{IsTrue-rat_le}
 use Rattle.dcx_frac.specs.declared.fraction.Frac.{Frac}
@@ -15,26 +15,10 @@ use Rattle.dcx_tree.specs.declared.problem.Problem.{Problem}
 use Rattle.dcx_tree.specs.Meaning.{relation_of}
 use Rattle.dcx_answer.specs.declared.cert_fault.CertFault.{CertFault}
 use Rattle.dcx_answer.specs.declared.cert_fault.CertFault.TheVariants.{Memory, RayConstraint, RayValue}
-use Rattle.dcx_cert_sections.specs.Checks.{Check, in_turn, each_below, Checked}
+use Rattle.dcx_cert_sections.specs.Checks.{Checked}
+use Rattle.dcx_cert_sections.proofs.Turns.{second_checked, first_failed}
 use Rattle.dcx_cert_rays.specs.Steepness.{steepness_at, forming}
 use Rattle.dcx_cert_rays.specs.Rays.{HoldsAt, IsFirstBroken, sides_hold, constraint_check, objective_steepness, falls}
-
--- the first of two fails
-pub first_fails : (a b : Check) (f : CertFault) → (f ≡ Memory) ⊎ a.fails f → (f ≡ Memory) ⊎ (in_turn a b).fails f
-first_fails a b f (inl e) = inl e
-first_fails a b f (inr h) = inr (inl h)
-
--- the first passes
-pub then_checked : {T : Type 0} (a b : Check) (r : Result T CertFault) → a.passes → Checked b r → Checked (in_turn a b) r
-then_checked a b (Ok x) p h = (p, h)
-then_checked a b (Err f) p (inl e) = inl e
-then_checked a b (Err f) p (inr h) = inr (inr (p, h))
-
--- the first of many that fails
-pub each_fails : (count : ℕ) (check : ℕ → Check) (k : ℕ) (f : CertFault) → k < count → ((i : ℕ) → i < k → (check i).passes) → (f ≡ Memory) ⊎ (check k).fails f
-    → (f ≡ Memory) ⊎ (each_below count check).fails f
-each_fails count check k f lt before (inl e) = inl e
-each_fails count check k f lt before (inr h) = inr (record { position = k; there = lt; before = before; here = h })
 
 -- what holds of two numbers holds of both in a list
 pub two_below : (n a b : ℕ) → a < n → b < n → All (λ r. r < n) (a ∷ b ∷ [])
@@ -49,13 +33,13 @@ module _ (p : Problem) (setting ray : Pairs) where
         → (f ≡ Memory) ⊎ (constraint_check p setting ray k (slice_get p.constraints k)).fails f
     constraint_fails f h =
         subst (λ (o : Option Constraint). (f ≡ Memory) ⊎ (constraint_check p setting ray k o).fails f) (sym there)
-        (first_fails (forming p setting ray (c.left.0 ∷ c.right.0 ∷ [])) (sides_hold p setting ray k c) f h)
+        (first_failed (forming p setting ray (c.left.0 ∷ c.right.0 ∷ [])) (sides_hold p setting ray k c) f h)
 
     pub constraint_then : {T : Type 0} (r : Result T CertFault) → (forming p setting ray (c.left.0 ∷ c.right.0 ∷ [])).passes → Checked (sides_hold p setting ray k c) r →
         Checked (constraint_check p setting ray k (slice_get p.constraints k)) r
     constraint_then r pass h =
         subst (λ (o : Option Constraint). Checked (constraint_check p setting ray k o) r) (sym there)
-        (then_checked (forming p setting ray (c.left.0 ∷ c.right.0 ∷ [])) (sides_hold p setting ray k c) r pass h)
+        (second_checked (forming p setting ray (c.left.0 ∷ c.right.0 ∷ [])) (sides_hold p setting ray k c) r pass h)
 
   module _ (k : ℕ) (c : Constraint) (j : ℕ) (left right : Frac) (left_is : value left ≡ steepness_at p setting ray c.left.0 j) (right_is : value right ≡ steepness_at p setting ray c.right.0 j) where
     gap_is : value left -ℚ value right ≡ steepness_at p setting ray c.left.0 j -ℚ steepness_at p setting ray c.right.0 j

@@ -1,12 +1,11 @@
 -- What a certificate of an answer shows, and that it is one of the problem.
-use Rattle.std.proofs.Common.{◌≡◌, ℕ, [], List, sym, ap, ◌∙◌, subst, pos}
-use Rattle.dcx_math.specs.Rational.{ℚ, whole, ◌+ℚ◌, ◌*ℚ◌}
-use Rattle.dcx_math.proofs.Orders.{+ℚ_comm, +ℚ_idl, zero-*ℚ, ≤ℚ_refl}
-use Rattle.dcx_atom.specs.Signs.{shifted}
+use Rattle.std.proofs.Common.{ℕ, [], List, sym, subst, pos}
+use Rattle.dcx_math.specs.Rational.{whole}
+use Rattle.dcx_math.proofs.Orders.{≤ℚ_refl}
+use Rattle.dcx_atom.proofs.Sublinear.{none_shifted}
 use Rattle.dcx_point.specs.Pairs.{Pairs}
 use Rattle.dcx_tree.specs.declared.problem.Problem.{Problem}
 use Rattle.dcx_tree.specs.Meaning.{IsAccepted, IsFitting, IsInDomain, setting_of, point_of}
-use Rattle.dcx_convex.specs.Nodes.{Point}
 use Rattle.dcx_linear.specs.declared.row.UnknownKind.{UnknownKind}
 use Rattle.dcx_lp_answer.specs.declared.answer.LpAnswer.{LpAnswer}
 use Rattle.dcx_answer.specs.declared.answer.Answer.{Answer}
@@ -30,13 +29,6 @@ use Rattle.dcx_cert_runs.specs.Checking.{IsSectionShown}
 use Rattle.dcx_cert_runs.specs.Laws.{SectionsAreShown, CertificatesAreOf}
 use Rattle.dcx_cert_runs.proofs.Lists.{each_beside}
 
--- a ray begins at its point
-stays : (x d : ℚ) → x +ℚ whole (pos 0) *ℚ d ≡ x
-stays x d = ap (λ z. x +ℚ z) (zero-*ℚ d) ∙ +ℚ_comm x (whole (pos 0)) ∙ +ℚ_idl x
-
-start : (x d : Point) → shifted x (whole (pos 0)) d ≡ x
-start x d = λ i v j. stays (x v j) (d v j) i
-
 -- ---- what is shown
 module _ (p : Problem) (s : Pairs) (kinds : List UnknownKind) (from : List Origin) (lp : LpAnswer) where
   shown : (a : Answer) (cert : Cert) → IsFitting p s → IsRightFor p (setting_of p s) a → IsRead p kinds lp a → IsBuilt p s from lp a cert → IsShown p s cert
@@ -46,7 +38,7 @@ module _ (p : Problem) (s : Pairs) (kinds : List UnknownKind) (from : List Origi
   shown (Unbounded point ray bound slope) cert fits right (e, b, t, at, along) is =
       subst (IsShown p s) (sym is) (
         fits,
-        record { shaped = at.of_variables.shaped; domain = subst (IsInDomain p) (start (point_of p point) (point_of p ray)) (right.feasible (whole (pos 0)) (≤ℚ_refl _)).domain },
+        record { shaped = at.of_variables.shaped; domain = subst (IsInDomain p) (none_shifted (point_of p point) (point_of p ray)) (right.feasible (whole (pos 0)) (≤ℚ_refl _)).domain },
         right,
       )
 

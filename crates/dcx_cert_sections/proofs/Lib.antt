@@ -1,2 +1,3 @@
--- The lemma by which checks in order tell one thing where each of them does.
+-- The lemmas by which checks in order tell one thing where each of them does, and what they come to.
 pub mod Settled
+pub mod Turns

@@ -1,11 +1,9 @@
 -- Each check of forming tells one thing.
-use Rattle.std.proofs.Common.{◌≡◌, ℕ, ◌<◌, [], Option, Some, None, Result, Ok, Err, IsOk, sym, ap, ◌∙◌, subst, arith}
-use native.Mathlib.Decide.{dec_lt}
+use Rattle.std.proofs.Common.{◌≡◌, ℕ, [], Option, Some, None, sym, ap, ◌∙◌, subst}
 use Rattle.std.proofs.lemmas.Option.{same_Some}
 use Rattle.dcx_math.specs.Rational.{ℚ}
-use Rattle.dcx_frac.specs.declared.fraction.Frac.{Frac}
 use Rattle.dcx_shape.specs.Sides.{entries_of}
-use Rattle.dcx_atom.specs.declared.stops.ValueStop.{ValueStop}
+use Rattle.dcx_atom.proofs.Entrywise.{err_not_ok, one_stop}
 use Rattle.dcx_point.specs.Pairs.{Pairs}
 use Rattle.dcx_arena.specs.Nodes.{sides_at}
 use Rattle.dcx_arena.specs.Unfold.{IsReached}
@@ -20,29 +18,11 @@ use Rattle.dcx_cert_sections.proofs.Settled.{settled_together, two, many}
 use Rattle.dcx_cert_values.specs.Forming.{fault_of, IsUnformedAt, forming_at, forming_where, IsFixedNode, divisor_in, IsBelowDivisor, nonzero, dividing_if, dividing_at, divisor_step}
 use Rattle.dcx_cert_values.specs.Laws.{AreSettledHere}
 
--- ---- the first entry that isn't formed
-ok_not_err : (r : Result Frac ValueStop) (e : ValueStop) → IsOk r → r ≡ Err e → ⊥
-ok_not_err (Ok x) e h f = cc
-ok_not_err (Err d) e h f = cc
-
-same_error : (d e : ValueStop) (r : Result Frac ValueStop) → r ≡ Err d → r ≡ Err e → d ≡ e
-same_error d e r h k = cc
-
-one_stop : (f : ℕ → Result Frac ValueStop) (size : ℕ) (d e : ValueStop) → IsFirst f size d → IsFirst f size e → d ≡ e
-one_stop f size d e h k = by (dec_lt h.entry k.entry) (dec_lt k.entry h.entry)
-  where
-    by : Dec (h.entry < k.entry) → Dec (k.entry < h.entry) → d ≡ e
-    by (yes lt) x = absurd (ok_not_err (f h.entry) d (k.before h.entry lt) h.here)
-    by (no n) (yes lt) = absurd (ok_not_err (f k.entry) e (h.before k.entry lt) k.here)
-    by (no n) (no m) =
-        let same : h.entry ≡ k.entry = omega (arith, n, m) in
-        same_error d e (f k.entry) (subst (λ j. f j ≡ Err d) same h.here) k.here
-
 -- ---- one node
 module _ (p : Problem) (setting point : Pairs) (Q : ℕ → Type 0) (i : ℕ) where
   forming_apart : (f : CertFault) → (forming_at p setting point Q i).passes → (forming_at p setting point Q i).fails f → ⊥
   forming_apart f h (q, u) =
-      ok_not_err (node_formed p.tree (names_in p) setting point u.node u.here.entry) u.stop (h q u.node u.there u.here.entry u.here.within) u.here.here
+      err_not_ok (node_formed p.tree (names_in p) setting point u.node u.here.entry) u.stop u.here.here (h q u.node u.there u.here.entry u.here.within)
 
   unformed_one : (f g : CertFault) → IsUnformedAt p setting point i f → IsUnformedAt p setting point i g → f ≡ g
   unformed_one f g u v =

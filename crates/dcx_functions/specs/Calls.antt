@@ -2,7 +2,6 @@
 use Rattle.std.specs.Prelude.{ℕ, zero, suc, nat_eq, nat_lt, pos, ℤ, unsigned_abs, Bool, true, false, not, ◌||◌, if◌then◌else◌, List, [], ◌∷◌, map, length, Option, Some, None, option_map, is_some}
 use Rattle.std.specs.List.{list_any}
 use Rattle.std.specs.Option.{unwrap_or}
-use Rattle.dcx_math.specs.Rational.{whole}
 use Rattle.dcx_frac.specs.declared.fraction.Frac.{Frac}
 use Rattle.dcx_shape.specs.declared.shape.Sides.{Sides}
 use Rattle.dcx_shape.specs.declared.shape.Sides.TheVariants.{Scalar, Vector, Matrix}
@@ -10,7 +9,7 @@ use Rattle.dcx_shape.specs.declared.place.Place.{Place}
 use Rattle.dcx_shape.specs.Sides.{entries_of}
 use Rattle.dcx_atom.specs.declared.axis.Axis.{Axis}
 use Rattle.dcx_atom.specs.declared.axis.Axis.TheVariants as axes
-use Rattle.dcx_atom.specs.Formed.{zero_frac, frac_at}
+use Rattle.dcx_atom.specs.Formed.{zero_frac, one_frac}
 use Rattle.dcx_affine.specs.declared.pairing.Pairing.TheVariants as pairings
 use Rattle.dcx_call.specs.declared.atoms.AtomCall.{AtomCall}
 use Rattle.dcx_call.specs.declared.atoms.AtomCall.TheVariants as atoms
@@ -214,9 +213,6 @@ abbrev pub constant_of : Place → Bound → Act Value
 constant_of place bound = do
   a ← numbers_read place (reading_of v_word bound)
   as_expression (push place (calls.Constant a) [])
-
-abbrev pub one_frac : Frac
-one_frac = frac_at (whole (pos 1))
 
 -- a plain array of the sides that are given, with the same number everywhere
 abbrev pub filled_with : Place → Frac → Bound → Act Value

@@ -8,13 +8,15 @@ use Rattle.std.proofs.lemmas.List.Sums.{sum_by-cons}
 use Rattle.std.proofs.lemmas.Option.{none-some, same_Some}
 use Rattle.dcx_math.specs.Rational.{ℚ}
 use Rattle.dcx_math.proofs.Lists.{mapped}
+use Rattle.dcx_frac.specs.declared.fraction.Frac.{Frac}
 use Rattle.dcx_atom.specs.Arrays.{list_below}
 use Rattle.dcx_atom.proofs.BoundRows.{length-list_below}
-use Rattle.dcx_convex.specs.Nodes.{Numbers}
+use Rattle.dcx_convex.specs.Nodes.{Numbers, Setting}
 use Rattle.dcx_convex.specs.Reductions.{Unknowns}
 use Rattle.dcx_tree.specs.declared.constraint.Constraint.{Constraint}
 use Rattle.dcx_tree.specs.declared.constraint.Kind.{Kind}
 use Rattle.dcx_tree.specs.declared.constraint.Kind.TheVariants as relations
+use Rattle.dcx_tree.specs.declared.problem.Problem.{Problem}
 use Rattle.dcx_tree.specs.Meaning.{convex_constraint, relation_of}
 use Rattle.dcx_linear.specs.Rows.{RowAt}
 use Rattle.dcx_tab.specs.declared.program.Program.{Program}
@@ -29,10 +31,12 @@ use Rattle.dcx_std.specs.Solutions.{HasKinds, row_at, linear_program}
 use Rattle.dcx_std.proofs.ScaledProgram.{scaled_program}
 use Rattle.dcx_std.proofs.Solutions.{facts_of, no_slack, inequality_there}
 use Rattle.dcx_unknowns.specs.Layout.{constraint_rows}
-use Rattle.dcx_postsolve.specs.Programs.{kind_of, gap_row, gap_rows, multipliers_from}
+use Rattle.dcx_postsolve.specs.Programs.{kind_of, gap_row, gap_rows, bound_row, multipliers_from}
 use Rattle.dcx_postsolve.proofs.Rows.{AllFrom, all_left, all_right, all_below}
 use Rattle.dcx_postsolve.specs.Duals.{row_kind, first_row}
 use Rattle.dcx_postsolve.specs.Laws.{HaveSlacks}
+use Rattle.dcx_graph.specs.Program.{Program as ReducedProgram}
+use Rattle.dcx_graph.specs.Answers.{IsReducedAt}
 
 -- ---- the rows of constraints
 module _ (forms : Unknowns → ℕ → Numbers) where
@@ -57,6 +61,15 @@ module _ (forms : Unknowns → ℕ → Numbers) where
       (gaps_have P (i + constraint_rows d) cs
       (subst (λ n. AllFrom P (i + n) (gap_rows forms (map convex_constraint cs))) (length-list_below (constraint_rows d) (gap_row forms (convex_constraint d)))
       (all_right P i (list_below (constraint_rows d) (gap_row forms (convex_constraint d))) (gap_rows forms (map convex_constraint cs)) h)) k c e j b)
+
+-- a reduced program has the rows of all constraints
+pub rows_of_reduced : (p : Problem) (s : Setting) (q : ReducedProgram Frac) → IsReducedAt p s q → sum_by constraint_rows p.constraints ≤ length q.rows
+rows_of_reduced p s q is =
+    let gaps = gap_rows is.reduction.reduced.forms (map convex_constraint p.constraints) in
+    let bounds = map bound_row is.reduction.reduced.rows in
+    let all : length q.rows ≡ sum_by constraint_rows p.constraints + length bounds =
+    sym (length-map q.rows row_at) ∙ ap length is.reduction.program.rows ∙ length-append gaps bounds ∙ ap (λ n. n + length bounds) (gaps_length is.reduction.reduced.forms p.constraints) in
+    omega (arith, all)
 
 -- ---- multipliers
 -- the multiplier of an entry is that of its row

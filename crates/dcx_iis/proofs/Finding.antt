@@ -1,9 +1,9 @@
 -- What the code comes to is what is found, or what stops.
-use Rattle.std.proofs.Common.{◌≡◌, ℕ, zero, suc, ◌+◌, ◌<◌, ◌≤◌, arith, Bool, true, List, [], ◌∷◌, All, length, replicate, inl, inr, refl, sym, ap, ◌∙◌, subst, ⊎_elim, pos, Some}
-use Rattle.std.specs.Prelude.{◌^◌, map, sum_by}
+use Rattle.std.proofs.Common.{◌≡◌, ℕ, zero, suc, ◌<◌, ◌≤◌, arith, Bool, true, List, [], ◌∷◌, All, length, replicate, inl, inr, refl, sym, ap, ◌∙◌, subst, ⊎_elim, pos, Some}
+use Rattle.std.specs.Prelude.{◌^◌, sum_by}
 use Rattle.std.specs.List.{AllZip}
 use Rattle.std.proofs.lemmas.Bool.{cases_lt}
-use Rattle.std.proofs.lemmas.List.{take_all, length-map, length-append}
+use Rattle.std.proofs.lemmas.List.{take_all}
 use Rattle.dcx_math.specs.Rational.{whole}
 use Rattle.dcx_frac.specs.declared.fraction.Frac.{Frac}
 use Rattle.dcx_atom.specs.declared.array.Array.{Array}
@@ -11,14 +11,12 @@ use Rattle.dcx_point.specs.Pairs.{Pairs}
 use Rattle.dcx_convex.specs.Nodes.{Setting}
 use Rattle.dcx_tree.specs.declared.constraint.Constraint.{Constraint}
 use Rattle.dcx_tree.specs.declared.problem.Problem.{Problem}
-use Rattle.dcx_tree.specs.Meaning.{convex_constraint}
 use Rattle.dcx_lp_answer.specs.declared.answer.LpStatus.{LpStatus}
 use Rattle.dcx_lp_answer.specs.declared.answer.LpStatus.TheVariants as status
 use Rattle.dcx_lp_answer.specs.declared.answer.LpAnswer.{LpAnswer}
 use Rattle.dcx_lp_answer.specs.Multipliers.{passing_from}
-use Rattle.dcx_std.specs.Solutions.{HasKinds, row_at}
+use Rattle.dcx_std.specs.Solutions.{HasKinds}
 use Rattle.dcx_unknowns.specs.Layout.{constraint_rows}
-use Rattle.dcx_postsolve.specs.Programs.{gap_rows, bound_row}
 use Rattle.dcx_postsolve.specs.Duals.{all_multipliers, AreDuals}
 use Rattle.dcx_right.specs.Answers.{multipliers_in}
 use Rattle.dcx_right.specs.ConstraintSets.{ConstraintSet, every_constraint, set_of, left_beside}
@@ -26,7 +24,6 @@ use Rattle.dcx_right.specs.Filters.{HasShapeOf}
 use Rattle.dcx_right.proofs.ConstraintSets.{beside_same}
 use Rattle.dcx_lp_solve.specs.Solved.{IsSolved}
 use Rattle.dcx_graph.specs.Program.{Program}
-use Rattle.dcx_graph.proofs.Slacks.{gaps_length}
 use Rattle.dcx_answer.specs.declared.filter_stop.FilterStop.{FilterStop}
 use Rattle.dcx_answer.specs.declared.filter_stop.FilterStop.TheVariants as filter
 use Rattle.dcx_answer.specs.declared.filtered.Filtered.{Filtered}
@@ -179,12 +176,3 @@ module _ (p : Problem) (q : Program Frac) (limit : ℕ) where
         subst (λ (xs : List ℕ). AreFound p q limit xs duals gap points) (sym same)
         (subst (λ (x : Frac). AreFound p q limit members duals x points) (sym gap_is)
         (subst (λ (xs : List Pairs). AreFound p q limit members duals l.answer.number xs) (sym points_are) (are_found duals made)))
-
--- a reduced program has the rows of all constraints
-pub rows_of_reduced : (p : Problem) (s : Setting) (q : Program Frac) → IsReducedAt p s q → sum_by constraint_rows p.constraints ≤ length q.rows
-rows_of_reduced p s q is =
-    let gaps = gap_rows is.reduction.reduced.forms (map convex_constraint p.constraints) in
-    let bounds = map bound_row is.reduction.reduced.rows in
-    let all : length q.rows ≡ sum_by constraint_rows p.constraints + length bounds =
-    sym (length-map q.rows row_at) ∙ ap length is.reduction.program.rows ∙ length-append gaps bounds ∙ ap (λ n. n + length bounds) (gaps_length is.reduction.reduced.forms p.constraints) in
-    omega (arith, all)

@@ -10,13 +10,12 @@ use Rattle.std.proofs.lemmas.Option.{none-some, same_Some}
 use Rattle.std.proofs.lemmas.List.Elements.{recursion_from_All}
 use Rattle.std.proofs.lemmas.Map.Keys.{IsDistinct-prop}
 use Rattle.std.proofs.lemmas.Map.Entries.{lookup_from_place}
-use Rattle.dcx_frac.specs.declared.fraction.Frac.{Frac}
-use Rattle.dcx_frac.proofs.Parts.{value_injective}
 use Rattle.dcx_shape.specs.declared.shape.Sides.{Sides}
 use Rattle.dcx_shape.specs.Shape.{sides_of}
-use Rattle.dcx_shape.specs.Sides.{entries_of}
+use Rattle.dcx_shape.proofs.OneShape.{shape_from_sides}
 use Rattle.dcx_atom.specs.declared.array.Array.{Array}
 use Rattle.dcx_atom.specs.Arrays.{number_at}
+use Rattle.dcx_atom.proofs.OneArray.{array_from_parts, array_from_numbers}
 use Rattle.dcx_point.specs.Pairs.{Pairs, names_of, array_of, same_name}
 use Rattle.dcx_arena.proofs.OneGathering.{one_list}
 use Rattle.dcx_call.specs.declared.attribute.Parameter.{Parameter}
@@ -30,18 +29,6 @@ use Rattle.dcx_answer.specs.declared.answer.Answer.TheVariants.{Optimal, Infeasi
 use Rattle.dcx_right.specs.Answers.{multipliers_in, IsPointFor, SpeaksOf}
 use Rattle.dcx_right.specs.Filters.{HasShapeOf}
 use Rattle.dcx_graph.specs.Answers.{IsSamePoint, IsSameAnswer}
-use Rattle.dcx_shape.proofs.OneShape.{shape_from_sides}
-use Rattle.dcx_atom.proofs.OneArray.{array_from_parts}
-
-same_entries : (xs ys : List Frac) → length xs ≡ length ys → ((j : ℕ) → number_at xs j ≡ number_at ys j) → xs ≡ ys
-same_entries [] [] e h = refl
-same_entries [] (y ∷ ys) e h = absurd (omega (arith, e))
-same_entries (x ∷ xs) [] e h = absurd (omega (arith, e))
-same_entries (x ∷ xs) (y ∷ ys) e h = ap₂ ◌∷◌ (value_injective x y (h 0)) (same_entries xs ys (omega (arith, e)) (λ j. h (suc j)))
-
--- arrays of the same sides with the same numbers
-same_numbers : (a b : Array) → sides_of a.shape ≡ sides_of b.shape → ((j : ℕ) → number_at a.entries j ≡ number_at b.entries j) → a ≡ b
-same_numbers a b s h = array_from_parts a b (shape_from_sides a.shape b.shape s) (same_entries a.entries b.entries (a.full ∙ ap entries_of s ∙ sym b.full) h)
 
 -- ---- pairs
 pairs_count : (ps : Pairs) → length (names_of ps) ≡ length ps
@@ -66,7 +53,7 @@ module _ (x y : Pairs) (names : names_of x ≡ names_of y) (distinct : IsDistinc
       let second : array_of y m ≡ Some b = lookup_from_place nat_list_eq_equiv y k m b (subst (IsDistinct same_name) names distinct) l in
       let of_y : array_of y n ≡ Some b = subst (λ z. array_of y z ≡ Some b) (sym called) second in
       let number = λ (o : Option Array) (j : ℕ). number_at (unwrap_or (option_map (λ (z : Array). z.entries) o) []) j in
-      let arrays : a ≡ b = same_numbers a b (sides k (n, a) (m, b) h l) (λ j. sym (ap (λ o. number o j) first) ∙ numbers k n here j ∙ ap (λ o. number o j) of_y) in
+      let arrays : a ≡ b = array_from_numbers a b (sides k (n, a) (m, b) h l) (λ j. sym (ap (λ o. number o j) first) ∙ numbers k n here j ∙ ap (λ o. number o j) of_y) in
       λ i. (called i, arrays i)
 
   pub same_pairs : x ≡ y
@@ -135,7 +122,7 @@ same_multipliers [] [] (y ∷ es) h k e = absurd k
 same_multipliers [] (d ∷ ds) es h k e = absurd h
 same_multipliers (c ∷ cs) [] es h k e = absurd h
 same_multipliers (c ∷ cs) (d ∷ ds) [] h k e = absurd k
-same_multipliers (c ∷ cs) (d ∷ ds) (y ∷ es) h k e = ap₂ ◌∷◌ (same_numbers d y (h.0 ∙ sym k.0) (λ j. e 0 j)) (same_multipliers cs ds es h.1 k.1 (λ i. e (suc i)))
+same_multipliers (c ∷ cs) (d ∷ ds) (y ∷ es) h k e = ap₂ ◌∷◌ (array_from_numbers d y (h.0 ∙ sym k.0) (λ j. e 0 j)) (same_multipliers cs ds es h.1 k.1 (λ i. e (suc i)))
 
 -- ---- answers
 pub same_answer : (p : Problem) (a b : Answer) → SpeaksOf p a → SpeaksOf p b → IsSameAnswer p a b → a ≡ b

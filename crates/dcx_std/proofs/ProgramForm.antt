@@ -23,7 +23,7 @@ use Rattle.dcx_frac.specs.declared.fraction.Frac.{Frac}
 use Rattle.dcx_frac.specs.Frac.{num_of, value}
 use Rattle.dcx_frac.specs.Results.{product_of}
 use Rattle.dcx_frac.proofs.Results.{product_of_is}
-use Rattle.dcx_atom.specs.Formed.{zero_frac, frac_at}
+use Rattle.dcx_atom.specs.Formed.{zero_frac, frac_at, one_frac}
 use Rattle.dcx_linear.specs.declared.form.Form.{Form}
 use Rattle.dcx_linear.specs.declared.row.Row.{Row}
 use Rattle.dcx_linear.specs.declared.row.RowKind.TheVariants.{Equal}
@@ -38,7 +38,7 @@ use Rattle.dcx_tab.proofs.RowLaws.{gcd_of-dvd_entry, gcd_of-pos}
 use Rattle.dcx_std.specs.declared.whole.WholeRow.{WholeRow}
 use Rattle.dcx_std.specs.declared.start.Start.{Start}
 use Rattle.dcx_std.specs.Size.{slacks_for, column_count}
-use Rattle.dcx_std.specs.WholeRows.{coefficient_at, coefficients, opposite, one_frac, cost_numbers, row_numbers, divisor_of, row_made, cost_made}
+use Rattle.dcx_std.specs.WholeRows.{coefficient_at, coefficients, opposite, cost_numbers, row_numbers, divisor_of, row_made, cost_made}
 use Rattle.dcx_std.specs.Columns.{turned, cost_in, all_unknown_columns, slack_columns, artificial_columns, plain_columns_of, columns_of}
 use Rattle.dcx_std.specs.IntegerRows.{start_of, IsMadeOf, AreMadeOf, IsCostOf, phase_made}
 use Rattle.dcx_lp_answer.proofs.Fractions.{value-whole}

@@ -21,7 +21,7 @@ use Rattle.dcx_frac.specs.declared.fraction.Frac.{Frac}
 use Rattle.dcx_frac.specs.Frac.{num_of, value}
 use Rattle.dcx_frac.specs.Results.{product_of}
 use Rattle.dcx_frac.proofs.Results.{product_of_is}
-use Rattle.dcx_atom.specs.Formed.{zero_frac, frac_at}
+use Rattle.dcx_atom.specs.Formed.{zero_frac, one_frac, frac_at}
 use Rattle.dcx_atom.proofs.FormedSums.{value-zero_frac}
 use Rattle.dcx_linear.specs.declared.form.FormTerm.{FormTerm}
 use Rattle.dcx_linear.specs.declared.form.Form.{Form}
@@ -32,7 +32,7 @@ use Rattle.dcx_linear.specs.FormTerms.{unknown_of}
 use Rattle.dcx_tab.specs.Rows.{entry}
 use Rattle.dcx_std.specs.declared.whole.WholeRow.{WholeRow}
 use Rattle.dcx_std.specs.Multiples.{denominator_of, denominators}
-use Rattle.dcx_std.specs.WholeRows.{coefficient_or_zero, coefficient_at, coefficients, opposite, one_frac, row_numbers, cost_numbers, or_one, divisor_of}
+use Rattle.dcx_std.specs.WholeRows.{coefficient_or_zero, coefficient_at, coefficients, opposite, row_numbers, cost_numbers, or_one, divisor_of}
 use Rattle.dcx_lp_answer.proofs.Fractions.{value-negative, value-whole}
 use Rattle.dcx_std.proofs.Numerators.{formed_numerators, num_of_whole}
 use Rattle.dcx_std.proofs.WholeRows.{IsFormedBy, multiple_facts, factor_is, or_one_positive}

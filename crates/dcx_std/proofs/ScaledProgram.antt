@@ -10,7 +10,7 @@ use Rattle.dcx_math.proofs.FieldLaws.{whole-neg_ℤ}
 use Rattle.dcx_math.proofs.Orders.{*ℚ_idr, *ℚ-neg_ℚ, neg_ℚ-neg_ℚ}
 use Rattle.dcx_frac.specs.declared.fraction.Frac.{Frac}
 use Rattle.dcx_frac.specs.Frac.{value}
-use Rattle.dcx_atom.specs.Formed.{zero_frac}
+use Rattle.dcx_atom.specs.Formed.{zero_frac, one_frac}
 use Rattle.dcx_linear.specs.declared.form.Form.{Form}
 use Rattle.dcx_linear.specs.declared.row.Row.{Row}
 use Rattle.dcx_linear.specs.declared.row.RowKind.TheVariants.{Equal}
@@ -22,7 +22,7 @@ use Rattle.dcx_tab.specs.Program.{kind_at}
 use Rattle.dcx_lp_answer.specs.Right.{turned_if}
 use Rattle.dcx_std.specs.declared.whole.WholeRow.{WholeRow}
 use Rattle.dcx_std.specs.GivenRows.{GivenRows}
-use Rattle.dcx_std.specs.WholeRows.{coefficient_at, coefficients, opposite, one_frac, row_numbers, cost_numbers, row_made, IsSparseForm}
+use Rattle.dcx_std.specs.WholeRows.{coefficient_at, coefficients, opposite, row_numbers, cost_numbers, row_made, IsSparseForm}
 use Rattle.dcx_std.specs.Columns.{turned, number_in, cost_in}
 use Rattle.dcx_std.specs.IntegerRows.{start_of, IsMadeOf, IsMade}
 use Rattle.dcx_std.specs.ScaledProgram.{IsScaledRow, IsScaledCost, IsScaledProgram}

@@ -7,7 +7,7 @@ use Rattle.dcx_frac.specs.declared.fraction.Frac.{Frac}
 use Rattle.dcx_frac.specs.declared.fraction.Passes.{Passes}
 use Rattle.dcx_frac.specs.Frac.{value, num_of}
 use Rattle.dcx_frac.specs.Results.{product_of}
-use Rattle.dcx_atom.specs.Formed.{zero_frac, frac_at, and_then}
+use Rattle.dcx_atom.specs.Formed.{zero_frac, one_frac, frac_at, and_then}
 use Rattle.dcx_linear.specs.declared.form.FormTerm.{FormTerm}
 use Rattle.dcx_linear.specs.declared.form.Form.{Form}
 use Rattle.dcx_linear.specs.declared.row.Row.{Row}
@@ -43,9 +43,6 @@ opposite x = frac_at (neg_ℚ (value x))
 abbrev pub turned_frac : Bool → Frac → Frac
 turned_frac true x = opposite x
 turned_frac false x = x
-
-abbrev pub one_frac : Frac
-one_frac = frac_at (whole (pos 1))
 
 -- the numbers of a row, its constant taken to the right: the coefficients, and the right side
 abbrev pub row_numbers : ℕ → Form Frac → List Frac

@@ -7,7 +7,7 @@ use Rattle.dcx_shape.specs.declared.shape.Sides.TheVariants.{Scalar, Vector, Mat
 use Rattle.dcx_shape.specs.declared.place.Place.{Place}
 use Rattle.dcx_shape.specs.Sides.{entries_of}
 use Rattle.dcx_atom.specs.declared.axis.Axis.TheVariants as axes
-use Rattle.dcx_atom.specs.Formed.{zero_frac}
+use Rattle.dcx_atom.specs.Formed.{zero_frac, one_frac}
 use Rattle.dcx_affine.specs.declared.pairing.Pairing.TheVariants as pairings
 use Rattle.dcx_arena.specs.declared.fault.Count.TheVariants.{Items}
 use Rattle.dcx_arena.specs.Nodes.{Node}
@@ -34,7 +34,7 @@ use Rattle.dcx_signature.specs.Arguments.{Given, Matched, matched, Bound, bound_
 use Rattle.dcx_signature.specs.Turns.{range_count, range_from}
 use Rattle.dcx_functions.specs.Calls.{reading_of, operand_for, sides_of_operand, axis_for, whole_or, natural_or, share_for, count_of, is_set, items_for}
 use Rattle.dcx_functions.specs.Calls.{of_one, of_two, of_several, stacked, reshaped, vectorized, reshape, is_matrix, axis_is_written, running, differences}
-use Rattle.dcx_functions.specs.Calls.{longer_than, differenced, total_variation, norm_call, norm, objective_of, constant_of, one_frac, filled_with, range_of}
+use Rattle.dcx_functions.specs.Calls.{longer_than, differenced, total_variation, norm_call, norm, objective_of, constant_of, filled_with, range_of}
 use Rattle.dcx_functions.specs.Calls.{declared_sides, flags_of, names_unoffered, variable_of, parameter_of, linear, atom, perform, is_placed, function_called}
 use Rattle.dcx_script_laws.specs.Renamed.{call_renamed, node_renamed}
 use Rattle.dcx_script_laws.specs.Names.{IsRenaming, Follows}

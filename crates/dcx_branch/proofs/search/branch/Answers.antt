@@ -6,9 +6,9 @@ use Rattle.dcx_tree.proofs.Few.{few_variables}
 use Rattle.dcx_unknowns.specs.Unknowns.{variable_unknowns}
 use Rattle.dcx_unknowns.proofs.Domains.{unknowns_few}
 use Rattle.dcx_answer.specs.declared.whole_answer.WholeAnswer.{WholeAnswer}
+use Rattle.dcx_graph.proofs.Slacks.{rows_of_reduced}
 use Rattle.dcx_branch.specs.Answers.{IsEndOf}
 use Rattle.dcx_right.specs.WholeAnswers.{IsRightFor}
-use Rattle.dcx_branch.proofs.Told.{rows_there}
 use Rattle.dcx_branch.proofs.Right.{runs_are_right}
 use Rattle.dcx_branch.proofs.Advance.{begun, done_ends}
 use Rattle.dcx_branch.proofs.search.branch.Goals as goal
@@ -26,7 +26,7 @@ places_of-requires-clause-numbered c =
 pub run-requires-clause-rows : goal.run-requires-clause-rows
 run-requires-clause-rows c =
     let p = c.args.problem.now in
-    rows_there p (setting_of p c.args.setting.now) c.args.reduced.now.program c.requires.program
+    rows_of_reduced p (setting_of p c.args.setting.now) c.args.reduced.now.program c.requires.program
 
 pub returns-in-Err-clause-end : goal.returns-in-Err-clause-end
 returns-in-Err-clause-end c =

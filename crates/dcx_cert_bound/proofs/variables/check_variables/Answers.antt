@@ -1,12 +1,13 @@
 -- The variables before the one whose entry fails pass.
-use Rattle.std.proofs.Common.{◌≡◌, List, length, Some, refl, ap, ◌∙◌, subst, arith}
+use Rattle.std.proofs.Common.{◌≡◌, List, length, Some, refl, ap, ◌∙◌, subst, arith, below_more}
 use Rattle.std.specs.List.{slice_get}
 use Rattle.std.proofs.lemmas.Option.{slice_get_read}
 use Rattle.std.proofs.lemmas.Result.{err_from_is_err_and}
 use Rattle.dcx_call.specs.declared.attribute.Variable.{Variable}
 use Rattle.dcx_tree.proofs.Few.{few_variables}
+use Rattle.dcx_cert_sections.proofs.Turns.{each_fails}
 use Rattle.dcx_cert_bound.specs.Variables.{variable_check}
-use Rattle.dcx_cert_bound.proofs.Stepping.{first_fails, one_more, variable_passes, variable_fails}
+use Rattle.dcx_cert_bound.proofs.Stepping.{variable_passes, variable_fails}
 use Rattle.dcx_cert_bound.proofs.variables.check_variables.Goals as goal
 
 pub overflow_cast-k : goal.overflow_cast-k
@@ -29,7 +30,7 @@ returns-in_err-check_entries c =
     let at : slice_get p.variables k ≡ Some x =
     subst (λ (vs : List Variable). slice_get vs k ≡ Some x) c.as_slice-variable-items.ensures (slice_get_read xs (length xs) k x refl below c.variable-item.is) in
     rw (r.1, r.2)
-    (first_fails (length p.variables) (λ m. variable_check p.tree reached m (slice_get p.variables m)) k c.loop-k.invariant _ (omega (arith, below, same))
+    (each_fails (length p.variables) (λ m. variable_check p.tree reached m (slice_get p.variables m)) k _ (omega (arith, below, same)) c.loop-k.invariant
     (variable_fails p reached k x c.coefficients_of-coefficients.result.now at (c.coefficients_of-coefficients.ensures ∙ c.in_ok-places.ensures x.name) _ c.in_err-check_entries.ensures))
 
 pub loop-k-preserved : goal.loop-k-preserved
@@ -41,5 +42,5 @@ loop-k-preserved c =
     let x = c.variable-item.result in
     let at : slice_get p.variables k ≡ Some x =
     subst (λ (vs : List Variable). slice_get vs k ≡ Some x) c.as_slice-variable-items.ensures (slice_get_read xs (length xs) k x refl c.loop-k-test.true c.variable-item.is) in
-    one_more (length p.variables) (λ m. variable_check p.tree reached m (slice_get p.variables m)) k c.loop-k.invariant
+    below_more (λ m. (variable_check p.tree reached m (slice_get p.variables m)).passes) k c.loop-k.invariant
     (variable_passes p reached k x c.coefficients_of-coefficients.result.now at (c.coefficients_of-coefficients.ensures ∙ c.in_ok-places.ensures x.name) c.in_ok-check_entries.ensures)

@@ -5,12 +5,11 @@ use Rattle.dcx_cert_sections.specs.declared.cert.Cert.{Cert}
 use Rattle.dcx_cert_sections.specs.Shown.{IsCertOf}
 use Rattle.dcx_cert_outline.specs.Drawn.{problem_outline}
 use Rattle.dcx_cert_sections.specs.Checks.{Checked}
+use Rattle.dcx_cert_sections.proofs.Turns.{second_checked, first_failed}
 use Rattle.dcx_cert_check.proofs.Given.{arrays_given}
 use Rattle.dcx_cert_check.proofs.Sound.{checks_sound}
-use Rattle.dcx_cert_check.proofs.Steps.{second_counts}
 use Rattle.dcx_cert_check.specs.Checks.{setting_checks, optimal_checks, infeasible_checks, unbounded_checks, checks_of}
 use Rattle.dcx_cert_check.proofs.checking.check.Goals as goal
-use Rattle.dcx_cert_values.proofs.Weaker.{first_failed}
 
 pub returns-in_err-check_setting-in-Optimal : goal.returns-in_err-check_setting-in-Optimal
 returns-in_err-check_setting-in-Optimal c =
@@ -26,7 +25,7 @@ returns-in_ok-check_setting-in-Optimal c =
     let p = c.args.problem.now in
     let s = c.args.setting.now in
     subst (λ (k : Cert). Checked (checks_of p s k) c.check_optimal.result) (sym c.in-Optimal.is)
-    (second_counts (setting_checks p s c.in-Optimal.params)
+    (second_checked (setting_checks p s c.in-Optimal.params)
     (optimal_checks p s c.in-Optimal.value c.in-Optimal.point c.in-Optimal.duals c.in-Optimal.weights) c.check_optimal.result c.in_ok-check_setting-in-Optimal.ensures.checked c.check_optimal.ensures)
 
 pub returns-in_err-check_setting-in-Infeasible : goal.returns-in_err-check_setting-in-Infeasible
@@ -43,7 +42,7 @@ returns-in_ok-check_setting-in-Infeasible c =
     let p = c.args.problem.now in
     let s = c.args.setting.now in
     subst (λ (k : Cert). Checked (checks_of p s k) c.check_infeasible.result) (sym c.in-Infeasible.is)
-    (second_counts (setting_checks p s c.in-Infeasible.params)
+    (second_checked (setting_checks p s c.in-Infeasible.params)
     (infeasible_checks p s c.in-Infeasible.duals c.in-Infeasible.gap c.in-Infeasible.weights) c.check_infeasible.result c.in_ok-check_setting-in-Infeasible.ensures.checked c.check_infeasible.ensures)
 
 pub returns-in_err-check_setting-in-Unbounded : goal.returns-in_err-check_setting-in-Unbounded
@@ -60,7 +59,7 @@ returns-in_ok-check_setting-in-Unbounded c =
     let p = c.args.problem.now in
     let s = c.args.setting.now in
     subst (λ (k : Cert). Checked (checks_of p s k) c.check_unbounded.result) (sym c.in-Unbounded.is)
-    (second_counts (setting_checks p s c.in-Unbounded.params)
+    (second_checked (setting_checks p s c.in-Unbounded.params)
     (unbounded_checks p s c.in-Unbounded.point c.in-Unbounded.ray c.in-Unbounded.bound c.in-Unbounded.slope) c.check_unbounded.result c.in_ok-check_setting-in-Unbounded.ensures.checked
     c.check_unbounded.ensures)
 

@@ -1,7 +1,7 @@
 -- That the setting fits is checked first.
 use Rattle.std.proofs.lemmas.Result.{err_from_is_err_and}
+use Rattle.dcx_cert_sections.proofs.Turns.{first_failed}
 use Rattle.dcx_cert_check.specs.SingleChecks.{setting_fits, setting_is}
-use Rattle.dcx_cert_values.proofs.Weaker.{first_failed}
 use Rattle.dcx_cert_check.proofs.checking.check_setting.Goals as goal
 
 pub returns-in_err-check_fit-clause-checked : goal.returns-in_err-check_fit-clause-checked

@@ -4,8 +4,8 @@ use Rattle.dcx_atom.specs.declared.array.Array.{Array}
 use Rattle.dcx_cert_check.specs.SingleChecks.{start_bounded, slope_positive, ray_inside}
 use Rattle.dcx_cert_values.proofs.Anywhere.{kept_alike}
 use Rattle.dcx_cert_check.proofs.Below.{below_stays}
-use Rattle.dcx_cert_check.proofs.Steps.{second_counts}
 use Rattle.dcx_cert_sections.specs.Checks.{in_turn}
+use Rattle.dcx_cert_sections.proofs.Turns.{second_checked}
 use Rattle.dcx_cert_rays.specs.Rays.{ray_checks}
 use Rattle.dcx_cert_rays.specs.Steepness.{AreFixedValues}
 use Rattle.dcx_cert_check.specs.Checks.{point_checks}
@@ -33,7 +33,7 @@ returns c =
     let inside = ray_inside p c.args.ray.now in
     let along = ray_checks p s c.args.ray.now c.args.slope in
     let falls = slope_positive c.args.slope in
-    second_counts (point_checks p s c.args.point.now) (in_turn (start_bounded p s c.args.point.now c.args.bound) (in_turn falls (in_turn inside along))) r c.in_ok-check_point.ensures.checked
-    (second_counts (start_bounded p s c.args.point.now c.args.bound) (in_turn falls (in_turn inside along)) r c.in_ok-check_start_bound.ensures.checked
-    (second_counts falls (in_turn inside along) r c.in_ok-check_descent.ensures
-    (second_counts inside along r c.in_ok-check_ray_domain.ensures c.check_ray.ensures)))
+    second_checked (point_checks p s c.args.point.now) (in_turn (start_bounded p s c.args.point.now c.args.bound) (in_turn falls (in_turn inside along))) r c.in_ok-check_point.ensures.checked
+    (second_checked (start_bounded p s c.args.point.now c.args.bound) (in_turn falls (in_turn inside along)) r c.in_ok-check_start_bound.ensures.checked
+    (second_checked falls (in_turn inside along) r c.in_ok-check_descent.ensures
+    (second_checked inside along r c.in_ok-check_ray_domain.ensures c.check_ray.ensures)))

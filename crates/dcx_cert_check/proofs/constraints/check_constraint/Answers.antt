@@ -1,9 +1,9 @@
 -- Both sides are formed, and then compared.
 use Rattle.std.proofs.Common.{[], ◌∷◌}
 use Rattle.dcx_arena.proofs.Orders.{has_one, tail_has}
+use Rattle.dcx_cert_sections.proofs.Turns.{second_checked}
 use Rattle.dcx_cert_values.specs.Forming.{forming}
 use Rattle.dcx_cert_check.specs.SingleChecks.{entries_hold}
-use Rattle.dcx_cert_check.proofs.Steps.{second_counts}
 use Rattle.dcx_cert_check.proofs.Sides.{root_reached, sides_there, sides_are}
 use Rattle.dcx_cert_check.proofs.constraints.check_constraint.Goals as goal
 
@@ -29,7 +29,7 @@ returns-clause-checked c =
     let x = c.args.point.now in
     let row = c.args.constraint.now in
     let values = c.form.ensures.values in
-    second_counts (forming p s x (row.left.0 ∷ row.right.0 ∷ [])) (entries_hold p s x c.args.number row) c.compare.result c.in_ok-form.ensures.checked
+    second_checked (forming p s x (row.left.0 ∷ row.right.0 ∷ [])) (entries_hold p s x c.args.number row) c.compare.result c.in_ok-form.ensures.checked
     (sides_are p s x c.args.number row c.kept-left.result.now c.kept-right.result.now c.requires.there
     (values.values row.left.0 c.kept-left.result.now c.kept-left.ensures) (values.values row.right.0 c.kept-right.result.now c.kept-right.ensures)
     c.compare.result c.compare.ensures)

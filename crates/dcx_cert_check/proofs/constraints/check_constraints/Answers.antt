@@ -1,12 +1,13 @@
 -- One more holds, or is the first that doesn't.
-use Rattle.std.proofs.Common.{◌≡◌, List, length, Some, refl, ap, subst, arith}
+use Rattle.std.proofs.Common.{◌≡◌, List, length, Some, refl, ap, subst, arith, below_more as one_more}
 use Rattle.std.specs.List.{slice_get}
 use Rattle.std.proofs.lemmas.Option.{slice_get_read, slice_get_within}
 use Rattle.std.proofs.lemmas.Result.{err_from_is_err_and}
 use Rattle.dcx_tree.specs.declared.constraint.Constraint.{Constraint}
+use Rattle.dcx_cert_sections.proofs.Turns.{each_fails}
 use Rattle.dcx_cert_check.specs.SingleChecks.{constraint_holds}
 use Rattle.dcx_cert_check.proofs.Below.{below_more}
-use Rattle.dcx_cert_check.proofs.Steps.{one_more, all_passed, first_fails, at_place, at_passes, at_fails}
+use Rattle.dcx_cert_check.proofs.Steps.{all_passed, at_place, at_passes, at_fails}
 use Rattle.dcx_cert_check.proofs.constraints.check_constraints.Goals as goal
 
 pub constraints-init : goal.constraints-init
@@ -24,7 +25,7 @@ constraints-preserved c =
     let at : slice_get p.constraints c.constraints.k ≡ Some x =
     subst (λ (cs : List Constraint). slice_get cs c.constraints.k ≡ Some x) c.as_slice-constraints.ensures
     (slice_get_read xs (length xs) c.constraints.k x refl c.constraints-test.true c.index-constraints-k.is) in (
-      one_more (at_place p.constraints check) c.constraints.k (at_passes p.constraints check c.constraints.k x at c.in_ok-check_constraint.ensures.checked) c.constraints.invariant.0,
+      one_more (λ k. (at_place p.constraints check k).passes) c.constraints.k c.constraints.invariant.0 (at_passes p.constraints check c.constraints.k x at c.in_ok-check_constraint.ensures.checked),
       c.check_constraint.ensures.kept,
       below_more p c.constraints.k x at c.constraints.values c.check_constraint.new.values c.constraints.invariant.2 c.check_constraint.ensures.stays c.in_ok-check_constraint.ensures.below,
     )
@@ -40,7 +41,7 @@ returns-in_err-check_constraint-clause-checked c =
     let below = c.constraints-test.true in
     let at : slice_get p.constraints c.constraints.k ≡ Some x =
     subst (λ (cs : List Constraint). slice_get cs c.constraints.k ≡ Some x) c.as_slice-constraints.ensures (slice_get_read xs (length xs) c.constraints.k x refl below c.index-constraints-k.is) in
-    rw (r.1, r.2) (first_fails (at_place p.constraints check) (length p.constraints) c.constraints.k _ (omega (arith, below, same)) c.constraints.invariant.0
+    rw (r.1, r.2) (each_fails (length p.constraints) (at_place p.constraints check) c.constraints.k _ (omega (arith, below, same)) c.constraints.invariant.0
     (at_fails p.constraints check c.constraints.k x _ at c.in_err-check_constraint.ensures.checked))
 
 pub returns-clause-checked : goal.returns-clause-checked

@@ -1,10 +1,11 @@
 -- One more parameter's values are those of the setting, or are the first that aren't.
-use Rattle.std.proofs.Common.{◌≡◌, length, Some, refl}
+use Rattle.std.proofs.Common.{◌≡◌, length, Some, refl, below_more}
 use Rattle.std.specs.List.{slice_get}
 use Rattle.std.proofs.lemmas.Option.{slice_get_read}
 use Rattle.std.proofs.lemmas.Result.{err_from_is_err_and}
+use Rattle.dcx_cert_sections.proofs.Turns.{each_fails}
 use Rattle.dcx_cert_check.specs.SingleChecks.{parameter_is}
-use Rattle.dcx_cert_check.proofs.Steps.{one_more, all_passed, first_fails, at_place, at_passes, at_fails}
+use Rattle.dcx_cert_check.proofs.Steps.{all_passed, at_place, at_passes, at_fails}
 use Rattle.dcx_cert_check.proofs.parameters.check_told.Goals as goal
 
 pub parameters-preserved : goal.parameters-preserved
@@ -12,8 +13,8 @@ parameters-preserved c =
     let xs = c.args.parameters.now in
     let x = c.index-parameters-k.result in
     let at : slice_get xs c.parameters.k ≡ Some x = slice_get_read xs (length xs) c.parameters.k x refl c.parameters-test.true c.index-parameters-k.is in
-    one_more (at_place xs (parameter_is c.args.told.now c.args.setting.now)) c.parameters.k
-    (at_passes xs (parameter_is c.args.told.now c.args.setting.now) c.parameters.k x at c.in_ok-check_parameter.ensures) c.parameters.invariant
+    below_more (λ k. (at_place xs (parameter_is c.args.told.now c.args.setting.now) k).passes) c.parameters.k c.parameters.invariant
+    (at_passes xs (parameter_is c.args.told.now c.args.setting.now) c.parameters.k x at c.in_ok-check_parameter.ensures)
 
 pub returns-in_err-check_parameter : goal.returns-in_err-check_parameter
 returns-in_err-check_parameter c =
@@ -21,7 +22,7 @@ returns-in_err-check_parameter c =
     let xs = c.args.parameters.now in
     let x = c.index-parameters-k.result in
     let at : slice_get xs c.parameters.k ≡ Some x = slice_get_read xs (length xs) c.parameters.k x refl c.parameters-test.true c.index-parameters-k.is in
-    rw (r.1, r.2) (first_fails (at_place xs (parameter_is c.args.told.now c.args.setting.now)) (length xs) c.parameters.k _ c.parameters-test.true c.parameters.invariant
+    rw (r.1, r.2) (each_fails (length xs) (at_place xs (parameter_is c.args.told.now c.args.setting.now)) c.parameters.k _ c.parameters-test.true c.parameters.invariant
     (at_fails xs (parameter_is c.args.told.now c.args.setting.now) c.parameters.k x _ at c.in_err-check_parameter.ensures))
 
 pub returns : goal.returns

@@ -1,8 +1,8 @@
 -- One more constraint is kept, or is the first that isn't.
 use Rattle.std.proofs.Common.{◌<◌, length, slice_get, ap, arith, below_more}
 use Rattle.std.proofs.lemmas.Result.{err_from_is_err_and}
+use Rattle.dcx_cert_sections.proofs.Turns.{each_fails}
 use Rattle.dcx_cert_rays.specs.Rays.{constraint_check}
-use Rattle.dcx_cert_rays.proofs.Turns.{each_fails}
 use Rattle.dcx_cert_rays.proofs.checks.check_constraints.Goals as goal
 
 pub loop-number-init : goal.loop-number-init

@@ -2,8 +2,8 @@
 use Rattle.dcx_cert_values.specs.Forming.{forming_at, IsBelowDivisor, dividing_at}
 use Rattle.std.proofs.Common.{[]}
 use Rattle.std.proofs.lemmas.Result.{err_from_is_err_and}
+use Rattle.dcx_cert_sections.proofs.Turns.{second_checked, first_failed}
 use Rattle.dcx_cert_values.proofs.Keeping.{stays_some}
-use Rattle.dcx_cert_values.proofs.Weaker.{second_checked, first_failed}
 use Rattle.dcx_cert_values.proofs.quotients.step.Goals as goal
 
 pub test_quotient-requires-clause-divisor : goal.test_quotient-requires-clause-divisor

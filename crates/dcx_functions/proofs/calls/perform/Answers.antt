@@ -2,13 +2,13 @@
 use Rattle.std.specs.Prelude.{◌≡◌}
 use Rattle.std.proofs.Common.{sym, ap, ◌∙◌, subst}
 use Rattle.dcx_frac.specs.declared.fraction.Frac.{Frac}
-use Rattle.dcx_atom.specs.Formed.{zero_frac, frac_at}
+use Rattle.dcx_atom.specs.Formed.{zero_frac, one_frac, frac_at}
 use Rattle.dcx_atom.proofs.FormedSums.{frac_at-value, zero_frac-unique}
 use Rattle.dcx_script_values.specs.Meant.{meant}
 use Rattle.dcx_script_values.specs.View.{Gives}
 use Rattle.dcx_signature.specs.declared.table.Function.{Function}
 use Rattle.std.specs.Option.{option_copied}
-use Rattle.dcx_functions.specs.Calls.{one_frac, filled_with, perform}
+use Rattle.dcx_functions.specs.Calls.{filled_with, perform}
 use Rattle.dcx_functions.proofs.calls.perform.Goals as goal
 
 pub returns-in-Ones : goal.returns-in-Ones

@@ -4,6 +4,7 @@ use Rattle.std.proofs.lemmas.Result.{IfOk-weaker, IfErr-weaker, err_from_is_err_
 use Rattle.dcx_tree.specs.declared.constraint.Constraint.{Constraint}
 use Rattle.dcx_tree.specs.Meaning.{setting_of}
 use Rattle.dcx_answer.specs.declared.filtered.Filtered.TheVariants as filtered
+use Rattle.dcx_graph.proofs.Slacks.{rows_of_reduced}
 use Rattle.dcx_right.specs.Filters.{IsRightFor}
 use Rattle.dcx_iis.specs.declared.trying.Tried.{Tried}
 use Rattle.dcx_iis.specs.Steps.{flagged, StopsFilter}
@@ -11,7 +12,7 @@ use Rattle.dcx_iis.specs.Found.{IsFound}
 use Rattle.dcx_iis.specs.Runs.{IsTried, IsEnd, StopsTry, StopsRun}
 use Rattle.dcx_iis.proofs.Going.{first_stops, first_left}
 use Rattle.dcx_iis.proofs.Right.{found_is_right}
-use Rattle.dcx_iis.proofs.Finding.{tells_stop, point_found, left_noted, left_few, end_found, rows_of_reduced}
+use Rattle.dcx_iis.proofs.Finding.{tells_stop, point_found, left_noted, left_few, end_found}
 use Rattle.dcx_iis.proofs.filtering.filter.Goals as goal
 use Rattle.dcx_iis.proofs.filtering.filter.Goals.{In_ok-kept, In_ok-point}
 

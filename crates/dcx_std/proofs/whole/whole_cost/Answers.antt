@@ -1,10 +1,10 @@
 -- The opposites of the coefficients stand before the constant and the one fraction that is 1.
 use Rattle.std.proofs.Common.{◌≡◌, [], ◌∷◌, ◌++◌, map, sym, ap, ◌∙◌, subst}
-use Rattle.dcx_atom.specs.Formed.{frac_at}
+use Rattle.dcx_atom.specs.Formed.{one_frac, frac_at}
 use Rattle.dcx_atom.proofs.FormedSums.{frac_at-value}
 use Rattle.dcx_linear.specs.declared.row.RowKind.TheVariants.{Equal}
 use Rattle.dcx_linear.specs.Stops.{Gives}
-use Rattle.dcx_std.specs.WholeRows.{coefficients, opposite, one_frac, whole_row_of}
+use Rattle.dcx_std.specs.WholeRows.{coefficients, opposite, whole_row_of}
 use Rattle.dcx_std.proofs.whole.whole_cost.Goals as goal
 
 pub returns-clause-made : goal.returns-clause-made
