@@ -5,7 +5,7 @@ use Rattle.std.specs.Int.{int_div_euclid}
 use Rattle.std.proofs.lemmas.Int.{ints}
 use Rattle.dcx_math.specs.Rational.{ℚ, whole, ◌-ℚ◌, neg_ℚ, ◌<ℚ◌}
 use Rattle.dcx_math.specs.Sums.{rat_at}
-use Rattle.dcx_math.proofs.Orders.{whole-neg_ℤ, neg_ℚ-neg_ℚ, neg_ℚ-<ℚ}
+use Rattle.dcx_math.proofs.Orders.{whole-neg_ℤ, -ℚ-zero, neg_ℚ-neg_ℚ, neg_ℚ-<ℚ}
 use Rattle.dcx_math.proofs.Ring.{ring, reads}
 use Rattle.dcx_frac.specs.declared.fraction.Frac.{Frac}
 use Rattle.dcx_frac.specs.Frac.{num_of, den_of, value}
@@ -40,15 +40,12 @@ fraction_at [] j = (zero_frac, sym value-zero_frac)
 fraction_at (c ∷ cs) zero = (c, refl)
 fraction_at (c ∷ cs) (suc j) = fraction_at cs j
 
-less_zero : (y : ℚ) → y -ℚ whole (pos 0) ≡ y
-less_zero y = ring (y ∷ []) (search reads depth 30) tt
-
 zero_less : (y : ℚ) → whole (pos 0) -ℚ y ≡ neg_ℚ y
 zero_less y = ring (y ∷ []) (search reads depth 30) tt
 
 signed_unknown : (cs : List Frac) (j : ℕ) (kind : UnknownKind) → IsOneSidedAt (map value cs) j kind → IsSigned (unknown_number (map value cs) j kind)
 signed_unknown cs j Free (inl z) = let (f, e) = fraction_at cs (suc j) in turned f (ap₂ (λ x y. x -ℚ y) z e ∙ zero_less (value f))
-signed_unknown cs j Free (inr z) = let (f, e) = fraction_at cs j in plain f (ap₂ (λ x y. x -ℚ y) e z ∙ less_zero (value f))
+signed_unknown cs j Free (inr z) = let (f, e) = fraction_at cs j in plain f (ap₂ (λ x y. x -ℚ y) e z ∙ -ℚ-zero (value f))
 signed_unknown cs j Nonneg h = let (f, e) = fraction_at cs j in plain f e
 signed_unknown cs j Nonpos h = let (f, e) = fraction_at cs j in turned f (ap neg_ℚ e)
 
