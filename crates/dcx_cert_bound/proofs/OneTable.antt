@@ -1,7 +1,7 @@
 -- A problem has one list of the values of the nodes without a variable below them.
-use Rattle.std.proofs.Common.{◌≡◌, ℕ, zero, suc, ◌<◌, arith, Bool, true, false, List, [], ◌∷◌, length, get_or, Option, Some, None, option_map, refl, sym, ap, ap₂, ◌∙◌, subst}
+use Rattle.std.proofs.Common.{◌≡◌, ℕ, zero, suc, ◌<◌, arith, Bool, true, false, List, [], ◌∷◌, length, get_or, Option, Some, None, refl, sym, ap, ap₂, ◌∙◌, subst}
 use Rattle.std.proofs.Math.Logic.{∥∥₁_elim}
-use Rattle.std.proofs.lemmas.Option.{none-some, same_Some, slice_get-map}
+use Rattle.std.proofs.lemmas.Option.{none-some, same_Some}
 use Rattle.dcx_math.proofs.Orders.{≡ℚ_prop}
 use Rattle.dcx_frac.specs.declared.fraction.Frac.{Frac}
 use Rattle.dcx_frac.proofs.Parts.{value_injective}
@@ -11,29 +11,17 @@ use Rattle.dcx_atom.specs.Arrays.{number_at}
 use Rattle.dcx_atom.proofs.OneArray.{array_from_parts}
 use Rattle.dcx_point.specs.Pairs.{Pairs}
 use Rattle.dcx_convex.specs.Certificates.{is_fixed}
-use Rattle.dcx_call.specs.declared.attribute.Variable.{Variable}
-use Rattle.dcx_call.specs.declared.attribute.Parameter.{Parameter}
-use Rattle.dcx_call.specs.declared.call.Call.{Call}
-use Rattle.dcx_call.specs.declared.call.Call.TheVariants as calls
 use Rattle.dcx_tree.specs.declared.problem.Problem.{Problem}
-use Rattle.dcx_tree.specs.Problems.{IsListed, AreDeclared}
+use Rattle.dcx_tree.specs.Problems.{AreDeclared}
 use Rattle.dcx_tree.specs.Meaning.{names_in, convex_problem, value_at, setting_of, point_of}
-use Rattle.dcx_tree.specs.Values.{IsNamed, AreNamed, IsValueOf, array_at}
-use Rattle.dcx_tree.proofs.Sublists.{contains_at}
+use Rattle.dcx_tree.specs.Values.{AreNamed, IsValueOf, array_at}
+use Rattle.dcx_tree.proofs.Values.{listed_named}
 use Rattle.dcx_cert_bound.specs.Fixed.{AreFixedValues}
 use Rattle.dcx_shape.proofs.OneShape.{shape_from_sides}
 
 -- ---- a value's numbers are those of its node
-call_named : (p : Problem) (call : Call) → IsListed p.variables p.parameters call → IsNamed (names_in p) call
-call_named p (calls.Variable v) l = let (k, at) = contains_at p.variables v l in (k, slice_get-map (λ (w : Variable). w.name) p.variables k ∙ ap (option_map (λ (w : Variable). w.name)) at)
-call_named p (calls.Parameter q) l = let (k, at) = contains_at p.parameters q l in (k, slice_get-map (λ (w : Parameter). w.name) p.parameters k ∙ ap (option_map (λ (w : Parameter). w.name)) at)
-call_named p (calls.Constant x) l = tt
-call_named p (calls.Atom m) l = tt
-call_named p (calls.Linear m) l = tt
-call_named p (calls.Pairing m) l = tt
-
 all_named : (p : Problem) → AreDeclared p.tree p.variables p.parameters → (i : ℕ) → AreNamed p.tree (names_in p) i
-all_named p d i j n reached there = call_named p n.call (d.listed j n there)
+all_named p d i j n reached there = listed_named p.variables p.parameters n.call (d.listed j n there)
 
 pub number_is_value : (p : Problem) (setting point : Pairs) (i : ℕ) (v : Array) → IsValueOf p.tree setting point i v → (j : ℕ)
     → number_at v.entries j ≡ value_at p (setting_of p setting) (point_of p point) i j
