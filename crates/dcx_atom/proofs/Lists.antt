@@ -74,6 +74,11 @@ pub list_below-same : {A : Type 0} (n : ℕ) (f g : ℕ → A) → ((i : ℕ) �
 list_below-same zero f g h = refl
 list_below-same (suc n) f g h = ap₂ (λ xs x. xs ++ x ∷ []) (list_below-same n f g (λ i b. h i (omega arith))) (h n (omega arith))
 
+-- and joined
+pub joined_below-same : {A : Type 0} (n : ℕ) (f g : ℕ → List A) → ((i : ℕ) → i < n → f i ≡ g i) → joined_below n f ≡ joined_below n g
+joined_below-same zero f g h = refl
+joined_below-same (suc n) f g h = ap₂ (λ xs ys. xs ++ ys) (joined_below-same n f g (λ i b. h i (omega arith))) (h n (omega arith))
+
 rat_at-left : (xs ys : List ℚ) (j : ℕ) → j < length xs → rat_at (xs ++ ys) j ≡ rat_at xs j
 rat_at-left [] ys j h = absurd (omega arith)
 rat_at-left (x ∷ xs) ys zero h = refl

@@ -1,5 +1,5 @@
 -- Checks one after the other, and the demands of which they are made.
-use Rattle.std.proofs.Common.{◌≡◌, ◌≢◌, ◌⊎◌, inl, inr, ℕ, ◌+◌, ◌<◌, ◌≤◌, List, length, Option, Some, None, Result, Ok, Err, OnOk, refl, sym, ◌∙◌, subst, arith}
+use Rattle.std.proofs.Common.{◌≡◌, ◌≢◌, ◌⊎◌, inl, inr, ℕ, ◌+◌, ◌<◌, ◌≤◌, List, length, Option, Some, None, Result, Ok, Err, refl, sym, ◌∙◌, subst, arith}
 use Rattle.std.specs.List.{slice_get}
 use native.Mathlib.Decide.{dec_lt}
 use Rattle.std.proofs.lemmas.Option.{slice_get_within}
@@ -36,11 +36,6 @@ pub second_counts : (a b : Check) {T : Type 0} (r : Result T CertFault) → a.pa
 second_counts a b (Ok x) p h = (p, h)
 second_counts a b (Err f) p (inl e) = inl e
 second_counts a b (Err f) p (inr h) = inr (inr (p, h))
-
--- what holds in any case holds on success
-pub on_ok : {T E : Type 0} {P : Type 0} (r : Result T E) → P → OnOk r P
-on_ok (Ok x) p = p
-on_ok (Err e) p = tt
 
 -- ---- the checks so far
 -- the checks before this one pass

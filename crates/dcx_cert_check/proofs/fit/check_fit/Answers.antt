@@ -2,7 +2,8 @@
 use Rattle.std.proofs.lemmas.Result.{err_from_is_err_and}
 use Rattle.dcx_cert_values.specs.Forming.{divisors}
 use Rattle.dcx_cert_check.specs.SingleChecks.{parameters_fit}
-use Rattle.dcx_cert_check.proofs.Steps.{second_counts, on_ok}
+use Rattle.dcx_arena.proofs.Results.{on_ok}
+use Rattle.dcx_cert_check.proofs.Steps.{second_counts}
 use Rattle.dcx_cert_check.proofs.Given.{arrays_given}
 use Rattle.dcx_cert_check.proofs.fit.check_fit.Goals as goal
 use Rattle.dcx_cert_values.proofs.Weaker.{first_failed}
