@@ -6,7 +6,7 @@ use Rattle.std.proofs.lemmas.List.Elements.{All-cons, All-nil}
 use Rattle.dcx_math.specs.Rational.{ℚ, whole, ◌+ℚ◌, ◌-ℚ◌, ◌*ℚ◌, neg_ℚ, ◌≤ℚ◌}
 use Rattle.dcx_math.specs.Sums.{IsNonnegative}
 use Rattle.dcx_math.proofs.Ring.{ring, reads}
-use Rattle.dcx_math.proofs.Orders.{≤ℚ-from_≡, ≤ℚ_antisym, neg_ℚ-≤ℚ, linear}
+use Rattle.dcx_math.proofs.Orders.{≤ℚ-from_≡, ≤ℚ_antisym, neg_ℚ-≤ℚ, neg_ℚ-nonnegative, neg_ℚ-nonpositive}
 use Rattle.dcx_shape.specs.declared.shape.Sides.{Sides}
 use Rattle.dcx_atom.specs.declared.flags.Sign.{Sign}
 use Rattle.dcx_atom.specs.declared.flags.Bend.{Bend}
@@ -54,14 +54,8 @@ minus_is x = ring (x ∷ []) (search reads depth 30) tt
 pub minus_linear : IsLinear minus_meaning
 minus_linear args to e j b a = minus_is (a 0 j)
 
-at_least_zero : (x : ℚ) → x ≤ℚ whole (pos 0) → whole (pos 0) ≤ℚ neg_ℚ x
-at_least_zero x h = linear (x ∷ []) h (search reads depth 30) tt
-
-at_most_zero : (x : ℚ) → whole (pos 0) ≤ℚ x → neg_ℚ x ≤ℚ whole (pos 0)
-at_most_zero x h = linear (x ∷ []) h (search reads depth 30) tt
-
 pub minus_sign : KeepsSign minus_meaning
-minus_sign args to e j b signs a n h = record { nonneg = λ t. at_least_zero (a 0 j) ((h 0 j).nonpos t); nonpos = λ t. at_most_zero (a 0 j) ((h 0 j).nonneg t) }
+minus_sign args to e j b signs a n h = record { nonneg = λ t. neg_ℚ-nonnegative (a 0 j) ((h 0 j).nonpos t); nonpos = λ t. neg_ℚ-nonpositive (a 0 j) ((h 0 j).nonneg t) }
 
 falling_beyond : (bend : Bend) (x y : ℚ) → Follows bend falls x y → IsBeyond bend (neg_ℚ x) (neg_ℚ y)
 falling_beyond Convex x y (inl e) = ≤ℚ-from_≡ (ap neg_ℚ e)

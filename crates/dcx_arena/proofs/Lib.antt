@@ -8,7 +8,7 @@ mod Kept
 pub mod Orders
 mod Frames
 mod Numbers
-mod Results
+pub mod Results
 mod Parts
 pub mod Unfolds
 pub mod OneGathering

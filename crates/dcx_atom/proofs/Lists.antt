@@ -85,6 +85,11 @@ pub list_below-same : {A : Type 0} (n : ℕ) (f g : ℕ → A) → ((i : ℕ) �
 list_below-same zero f g h = refl
 list_below-same (suc n) f g h = ap₂ (λ xs x. xs ++ x ∷ []) (list_below-same n f g (λ i b. h i (omega arith))) (h n (omega arith))
 
+-- and joined
+pub joined_below-same : {A : Type 0} (n : ℕ) (f g : ℕ → List A) → ((i : ℕ) → i < n → f i ≡ g i) → joined_below n f ≡ joined_below n g
+joined_below-same zero f g h = refl
+joined_below-same (suc n) f g h = ap₂ (λ xs ys. xs ++ ys) (joined_below-same n f g (λ i b. h i (omega arith))) (h n (omega arith))
+
 rat_at-right : (xs ys : List ℚ) (j : ℕ) → rat_at (xs ++ ys) (length xs + j) ≡ rat_at ys j
 rat_at-right [] ys j = let e : 0 + j ≡ j = omega arith in ap (rat_at ys) e
 rat_at-right (x ∷ xs) ys j = let e : length (x ∷ xs) + j ≡ suc (length xs + j) = omega arith in ap (rat_at ((x ∷ xs) ++ ys)) e ∙ rat_at-right xs ys j

@@ -17,7 +17,8 @@ use Rattle.dcx_tree.specs.declared.problem.Problem.{Problem}
 use Rattle.dcx_tree.specs.Meaning.{names_in, convex_problem, Fits, IsInDomain, objective_at, lagrangian}
 use Rattle.dcx_tree.proofs.Lawful.{tree_lawful}
 use Rattle.dcx_linear.specs.Rows.{RowAt, LinearProgram, HaveSigns, combined, combined_from, IsOptimal, IsInfeasible}
-use Rattle.dcx_unknowns.proofs.Places.{in_left, in_right}
+use Rattle.dcx_math.proofs.Lists.{in_left}
+use Rattle.dcx_unknowns.proofs.Places.{in_right}
 use Rattle.dcx_postsolve.specs.Programs.{gap_rows, bound_row, IsProgramOf, multipliers_of}
 use Rattle.dcx_postsolve.proofs.Rows.{AllFrom, all_left, all_right, IsSigned, gaps_signed, combined_append, combined_gaps}
 use Rattle.dcx_postsolve.proofs.CarryingLawsHold as program

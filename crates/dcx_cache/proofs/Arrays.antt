@@ -1,16 +1,13 @@
 -- A setting that fits has an array for each parameter, wherever that stands.
-use Rattle.std.proofs.Common.{◌≡◌, ℕ, List, Option, Some, None, refl, sym, ap, ◌∙◌}
-use Rattle.std.proofs.Props.{props}
-use mathlib.Core.Logic.{∥∥₁_map, ∥∥₁_elim}
-use Rattle.std.proofs.lemmas.Option.{none-some, same_Some}
-use Rattle.dcx_shape.specs.declared.shape.Sides.{Sides}
+use Rattle.std.proofs.Common.{ℕ, List, refl}
+use mathlib.Core.Logic.{∥∥₁_map}
 use Rattle.dcx_shape.specs.Shape.{sides_of}
-use Rattle.dcx_atom.specs.declared.array.Array.{Array}
 use Rattle.dcx_point.specs.Pairs.{Pairs, array_of}
 use Rattle.dcx_call.specs.declared.attribute.Parameter.{Parameter}
 use Rattle.dcx_call.specs.declared.call.Call.{Call}
 use Rattle.dcx_call.specs.declared.call.Call.TheVariants as calls
 use Rattle.dcx_call.specs.Values.{HasArray}
+use Rattle.dcx_call.proofs.Given.{one_array}
 use Rattle.dcx_convex.specs.Rules.{Plain}
 use Rattle.dcx_tree.specs.declared.problem.Problem.{Problem}
 use Rattle.dcx_tree.specs.Problems.{IsListed}
@@ -19,15 +16,6 @@ use Rattle.dcx_fit.specs.Fit.{IsMet, FitsParameters}
 use Rattle.dcx_math.proofs.Lists.{holds_at}
 use Rattle.dcx_graph.specs.Reducing.{IsGivenFor, ParametersAreGiven}
 use Rattle.dcx_graph.specs.Fixed.{HaveArrays}
-
--- there is one array, or none, under a name
-one_array : {D : Type 0} (given : Pairs) (name : List ℕ) (sides : Sides) (o : Option Array) → array_of given name ≡ o → ∥ D ∥₁ → (D → HasArray given name sides) → HasArray given name sides
-one_array given name sides None e d f = absurd (∥∥₁_elim d (hlevel props) (λ x. none-some (f x).array (sym e ∙ (f x).there)))
-one_array given name sides (Some a) e d f = record {
-  array = a;
-  there = e;
-  shape = ∥∥₁_elim d (hlevel props) (λ x. ap (λ (b : Array). sides_of b.shape) (same_Some a (f x).array (sym e ∙ (f x).there)) ∙ (f x).shape);
-}
 
 module _ (p : Problem) (setting : Pairs) (fits : FitsParameters p.parameters setting) where
   pub have_arrays : HaveArrays p setting

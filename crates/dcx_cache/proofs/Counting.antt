@@ -1,6 +1,6 @@
 -- How many steps are counted: those of a session's beginning, and those of its settings.
-use Rattle.std.proofs.Common.{◌≡◌, ℕ, ◌+◌, ◌-◌, ◌*◌, ◌≤◌, Bool, length, Result, Ok, Err, sym, ◌∙◌, subst, arith}
-use Rattle.std.specs.Prelude.{◌↔◌, IsTrue, OnOk}
+use Rattle.std.proofs.Common.{◌≡◌, ℕ, ◌+◌, ◌-◌, ◌*◌, ◌≤◌, Bool, length, sym, ◌∙◌, subst, arith}
+use Rattle.std.specs.Prelude.{◌↔◌, IsTrue}
 use Rattle.dcx_tree.specs.declared.problem.Problem.{Problem}
 use Rattle.dcx_cache.specs.Programs.{HasMap}
 use Rattle.dcx_cache.specs.Counts.{Counts, CountsNoMore}
@@ -49,8 +49,3 @@ no_more p q n old begun new same before kept more = record {
 -- before the first setting
 pub no_setting : (p : Problem) (n old new : ℕ) → CountsNoMore p 0 old new → CountsNoMore p n old new
 no_setting p n old new h = record { mapped = h.mapped; anew = both n (length p.tree) old new new h.anew (at_least new (n * length p.tree)) }
-
--- what is counted is counted where there is a result
-pub on_ok : {T E P : Type 0} (r : Result T E) → P → OnOk r P
-on_ok (Ok x) h = h
-on_ok (Err e) h = tt

@@ -1,12 +1,9 @@
 -- Settings that end one after the other: one setting more, and what is told of each.
-use Rattle.std.proofs.Common.{◌≡◌, ℕ, ◌+◌, ◌<◌, List, [], ◌∷◌, ◌++◌, length, take, get_or, refl, sym, ap, ◌∙◌, subst, add-one}
+use Rattle.std.proofs.Common.{◌≡◌, ℕ, ◌+◌, ◌<◌, List, [], ◌∷◌, ◌++◌, length, take, get_or, refl, sym, subst}
 use Rattle.std.specs.List.{AllZip}
-use Rattle.std.proofs.Math.Seq.{take-suc}
+use Rattle.dcx_math.proofs.Lists.{taken_more}
 use Rattle.dcx_point.specs.Pairs.{Pairs}
 use Rattle.dcx_cache.specs.InTurn.{EndInTurn}
-
-one_taken : {X : Type 0} (xs : List X) (i : ℕ) (x : X) → i < length xs → x ≡ get_or xs i x → take (i + 1) xs ≡ take i xs ++ x ∷ []
-one_taken xs i x lt is = ap (λ n. take n xs) (add-one i) ∙ take-suc xs i x lt ∙ ap (λ y. take i xs ++ y ∷ []) (sym is)
 
 module _ {K O : Type 0} (Ends : Pairs → K → O → K → Type 0) where
   one_more : (ss : List Pairs) (before : K) (os : List O) (mid : K) (s : Pairs) (o : O) (after : K) → EndInTurn Ends ss before os mid → Ends s mid o after
@@ -20,7 +17,7 @@ module _ {K O : Type 0} (Ends : Pairs → K → O → K → Type 0) where
   pub step_in_turn : (settings : List Pairs) (i : ℕ) (before : K) (os items : List O) (mid : K) (s : Pairs) (o : O) (after : K) → i < length settings → s ≡ get_or settings i s
       → items ≡ os ++ o ∷ [] → EndInTurn Ends (take i settings) before os mid → Ends s mid o after → EndInTurn Ends (take (i + 1) settings) before items after
   step_in_turn settings i before os items mid s o after lt is pushed h k =
-      subst (λ (z : List Pairs). EndInTurn Ends z before items after) (sym (one_taken settings i s lt is))
+      subst (λ (z : List Pairs). EndInTurn Ends z before items after) (sym (taken_more settings i s lt is))
       (subst (λ (z : List O). EndInTurn Ends (take i settings ++ s ∷ []) before z after) (sym pushed) (one_more (take i settings) before os mid s o after h k))
 
   -- what each tells of its setting

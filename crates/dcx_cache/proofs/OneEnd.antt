@@ -3,6 +3,7 @@ use Rattle.std.proofs.Common.{◌≡◌, ◌≢◌, ◌⊎◌, inl, inr, ℕ, []
 use Rattle.dcx_frac.specs.declared.fraction.Frac.{Frac}
 use Rattle.dcx_frac.specs.declared.fraction.Passes.{Passes}
 use Rattle.dcx_point.specs.Pairs.{Pairs}
+use Rattle.dcx_arena.proofs.Results.{same_Ok}
 use Rattle.dcx_tree.specs.declared.problem.Problem.{Problem}
 use Rattle.dcx_answer.specs.declared.answer.Answer.{Answer}
 use Rattle.dcx_answer.specs.declared.site.Site.TheVariants as sites
@@ -32,9 +33,6 @@ use Rattle.dcx_cache.specs.Answers.{IsAnswerOf, StopsAt, at_program, at_run, at_
 use Rattle.dcx_cache.specs.Laws.{HasOneEnd, BoundsLimit, LimitsAreSmall}
 
 -- ---- one program
-pub same_ok : {A E : Type 0} (x y : A) → ◌≡◌ {A = Result A E} (Ok x) (Ok y) → x ≡ y
-same_ok x y e = cc
-
 same_err : {A E : Type 0} (x y : E) → ◌≡◌ {A = Result A E} (Err x) (Err y) → x ≡ y
 same_err x y e = cc
 
@@ -48,7 +46,7 @@ module _ (setting : Pairs) (q : Program ParamForm) where
   at_map row other passes also e = ap (λ (x : ℕ × Passes). Err (reduces.Wide (sites.Map x.0 x.1))) (same_err (row, passes) (other, also) e)
 
   one_fixes : (r s : Result (Program Frac) ReduceStop) → Fixes setting q r → Fixes setting q s → r ≡ s
-  one_fixes (Ok a) (Ok b) h k = ap Ok (same_ok a b (one_fixed setting q (Ok a) (Ok b) h k))
+  one_fixes (Ok a) (Ok b) h k = ap Ok (same_Ok a b (one_fixed setting q (Ok a) (Ok b) h k))
   one_fixes (Ok a) (Err (reduces.Wide (sites.Map row passes))) h k = absurd (never_both a (row, passes) (one_fixed setting q (Ok a) (Err (row, passes)) h k))
   one_fixes (Err (reduces.Wide (sites.Map row passes))) (Ok a) h k = absurd (never_both a (row, passes) (one_fixed setting q (Ok a) (Err (row, passes)) k h))
   one_fixes (Err (reduces.Wide (sites.Map row passes))) (Err (reduces.Wide (sites.Map other also))) h k =
@@ -70,7 +68,7 @@ module _ (setting : Pairs) (q : Program ParamForm) where
 
 module _ (p : Problem) (setting : Pairs) where
   one_map : (q r : Program ParamForm) → IsMapOf p q → IsMapOf p r → q ≡ r
-  one_map q r m n = same_ok q r (one_affine p [] (Ok q) (Ok r) m.reduces n.reduces)
+  one_map q r m n = same_Ok q r (one_affine p [] (Ok q) (Ok r) m.reduces n.reduces)
 
   pub one_program : (r s : Result (Program Frac) ReduceStop) → SessionGives p setting r → SessionGives p setting s → r ≡ s
   one_program r s (mapped q m f) (mapped t n g) = one_fixes setting q r s f (subst (λ z. Fixes setting z s) (sym (one_map q t m n)) g)
@@ -94,7 +92,7 @@ module _ (p : Problem) (setting : Pairs) (limit : ℕ) where
   program_apart q e g h = never_both q e (one_program p setting (Ok q) (Err e) g h)
 
   pub same_program : (q r : Program Frac) → SessionGives p setting (Ok q) → SessionGives p setting (Ok r) → q ≡ r
-  same_program q r g h = same_ok q r (one_program p setting (Ok q) (Ok r) g h)
+  same_program q r g h = same_Ok q r (one_program p setting (Ok q) (Ok r) g h)
 
   pub solved_by : (q r : Program Frac) (s : Solved) → q ≡ r → IsSolved limit (rows_of r) s → IsSolved limit (rows_of q) s
   solved_by q r s e h = subst (λ (z : Program Frac). IsSolved limit (rows_of z) s) (sym e) h

@@ -8,6 +8,7 @@ use Rattle.dcx_frac.specs.declared.fraction.Passes.{Passes}
 use Rattle.dcx_atom.specs.declared.array.Array.{Array}
 use Rattle.dcx_atom.specs.Entrywise.{products_from}
 use Rattle.dcx_arena.specs.Nodes.{call_at, entries_in}
+use Rattle.dcx_arena.proofs.Results.{same_Ok}
 use Rattle.dcx_call.specs.declared.call.Call.{Call}
 use Rattle.dcx_call.specs.declared.call.Call.TheVariants as calls
 use Rattle.dcx_tree.specs.declared.problem.Problem.{Problem}
@@ -18,7 +19,7 @@ use Rattle.dcx_cert_collect.specs.declared.stop.CollectStop.{CollectStop}
 use Rattle.dcx_cert_collect.specs.Starts.{start_of}
 use Rattle.dcx_cert_collect.specs.Multipliers.{start_table}
 use Rattle.dcx_cert_collect.specs.Pass.{Kept, begin, or_passes, handed, counted, reached_if, node_reached, node_shares, passed, step, then_on, pass_down}
-use Rattle.dcx_cert_collect.proofs.Passing.{same_Ok, passed_count, start_inside}
+use Rattle.dcx_cert_collect.proofs.Passing.{passed_count, start_inside}
 use Rattle.dcx_cert_collect.proofs.Starting.{start_all}
 use Rattle.dcx_cert_collect.proofs.Multiplied.{start_count}
 use Rattle.dcx_cert_bound.specs.Collecting.{begun, collected}

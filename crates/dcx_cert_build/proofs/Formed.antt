@@ -67,11 +67,8 @@ weights_all f xs ys items zs i same past made =
     made ∙ ap (map f) (take_all i (zip xs ys) (omega (arith, count, short, past)))
 
 -- ---- atoms
-same_node : (i : ℕ) → nat_eq i i ≡ true
-same_node i = eq-eqb i i refl
-
 first_listed : (a : ℕ × ℕ) (atoms : List (ℕ × ℕ)) → is_listed (a ∷ atoms) a.0 ≡ true
-first_listed a atoms = ap (λ b. b || is_listed atoms a.0) (same_node a.0)
+first_listed a atoms = ap (λ b. b || is_listed atoms a.0) (eq-eqb a.0 a.0 refl)
 
 rest_listed : (a : ℕ × ℕ) (atoms : List (ℕ × ℕ)) (i : ℕ) → is_listed atoms i ≡ true → is_listed (a ∷ atoms) i ≡ true
 rest_listed a atoms i t = by (nat_eq a.0 i)
@@ -176,7 +173,7 @@ module _ (atoms : List (ℕ × ℕ)) (status : LpStatus) where
           (w : Option RowWeight) × ((if b then and_then (graph_multiplier status note) (λ x. Ok (Some (record { node = node; number = x }))) else Ok None) ≡ Ok w)
       by true t =
           let own : HasNumbers ((origins.Graph node e k, note) ∷ zs) node.0 = h node.0 t in
-          let same = ap (λ b. if b then Some note else None) (same_node node.0) in
+          let same = ap (λ b. if b then Some note else None) (eq-eqb node.0 node.0 refl) in
           let (x, formed) = first_formed note (filter_map (note_of node.0) zs) (own.0, own.1 ∙ ap (λ o. map (graph_multiplier status) (cons_option o (filter_map (note_of node.0) zs))) same) in
           (Some (record { node = node; number = x }), ap (λ r. and_then r (λ x. Ok (Some (record { node = node; number = x })))) formed)
       by false t = (None, refl)

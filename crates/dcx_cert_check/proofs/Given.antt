@@ -14,7 +14,7 @@ use Rattle.dcx_tree.proofs.Sublists.{one_name, distinct_front}
 use Rattle.dcx_lines.specs.Shown.{variables_of}
 use Rattle.dcx_cert_values.specs.Forming.{GivesVariables}
 use Rattle.dcx_cert_check.specs.CheckLaws.{AreGivenArrays}
-use Rattle.dcx_cert_values.proofs.Known.{one_array}
+use Rattle.dcx_call.proofs.Given.{one_array}
 
 abbrev shown : Variable → List ℕ × Shape
 shown v = (v.name, v.shape)

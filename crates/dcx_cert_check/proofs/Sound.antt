@@ -1,8 +1,8 @@
 -- What is shown where the checks pass.
-use Rattle.std.proofs.Common.{◌≡◌, ◌↔◌, ℕ, ◌<◌, List, get_or, Some, ap, ◌∙◌, subst}
+use Rattle.std.proofs.Common.{◌≡◌, ◌↔◌, ℕ, ◌<◌, List, Some, ap, ◌∙◌, subst}
 use Rattle.std.specs.List.{slice_get, All}
 use Rattle.std.specs.Prelude.{option_map}
-use Rattle.std.proofs.lemmas.Option.{slice_get-get_or, slice_get-map}
+use Rattle.std.proofs.lemmas.Option.{slice_get-map}
 use Rattle.dcx_frac.specs.declared.fraction.Frac.{Frac}
 use Rattle.dcx_shape.specs.Shape.{sides_of}
 use Rattle.dcx_shape.specs.Sides.{entries_of}
@@ -19,7 +19,7 @@ use Rattle.dcx_tree.specs.Meaning.{IsFeasible, IsInDomain, convex_constraint, co
 use Rattle.dcx_domain.specs.Points.{IsInside}
 use Rattle.dcx_domain.proofs.Entries.{entries_hold}
 use Rattle.dcx_domain.proofs.Points.{points_hold}
-use Rattle.dcx_math.proofs.Lists.{mapped, holds_at}
+use Rattle.dcx_math.proofs.Lists.{mapped, holds_at, all_from_at}
 use Rattle.dcx_answer.specs.declared.cert_fault.CertFault.{CertFault}
 use Rattle.dcx_answer.specs.declared.cert_fault.CertFault.TheVariants as faults
 use Rattle.dcx_cert_values.proofs.Nonzero.{divisors_hold}
@@ -28,10 +28,6 @@ use Rattle.dcx_cert_check.specs.SingleChecks as checks
 use Rattle.dcx_cert_check.specs.CheckLaws.{AreSound}
 use Rattle.dcx_cert_check.proofs.Steps.{passed_at, passed_each}
 
--- what holds of each item at its place holds of all
-all_of : {X : Type 0} (P : X → Type 0) (xs : List X) → ((k : ℕ) (x : X) → slice_get xs k ≡ Some x → P x) → All P xs
-all_of P xs h = λ k d lt. h k (get_or xs k d) (slice_get-get_or xs k d lt)
-
 -- ---- told values
 Told : (told setting : Pairs) → Problem → Type 0
 Told told setting p = All (λ q. (j : ℕ) → j < entries_of (sides_of q.shape) → given_by told q.name j ≡ given_by setting q.name j) p.parameters
@@ -39,7 +35,7 @@ Told told setting p = All (λ q. (j : ℕ) → j < entries_of (sides_of q.shape)
 told_alike : (p : Problem) (told setting : Pairs) → (checks.setting_is p (Some told) setting).passes ↔ Told told setting p
 unfolding Told
 told_alike p told setting = (
-  (λ h. all_of _ p.parameters (λ k q at. passed_at p.parameters (checks.parameter_is told setting) h k q at)),
+  (λ h. all_from_at _ p.parameters (λ k q at. passed_at p.parameters (checks.parameter_is told setting) h k q at)),
   (λ h. passed_each p.parameters (checks.parameter_is told setting) (λ k q at. holds_at
       (λ q. (j : ℕ) → j < entries_of (sides_of q.shape) → given_by told q.name j ≡ given_by setting q.name j) p.parameters k q h at)),
 )
@@ -48,7 +44,7 @@ told_alike p told setting = (
 given_passes : (p : Problem) (fault : ℕ → ℕ → Frac → CertFault) (given : Pairs) → (each_in p.variables (checks.variable_inside fault given)).passes ↔ IsInDomain p (point_of p given)
 given_passes p fault given =
     let law = points_hold p given in (
-      (λ h. law.1 (all_of (λ v. IsInside v given) p.variables (λ k v at. (entries_hold.each v (given_by given v.name)).1 (passed_at p.variables (checks.variable_inside fault given) h k v at)))),
+      (λ h. law.1 (all_from_at (λ v. IsInside v given) p.variables (λ k v at. (entries_hold.each v (given_by given v.name)).1 (passed_at p.variables (checks.variable_inside fault given) h k v at)))),
       (λ d. passed_each p.variables (checks.variable_inside fault given) (λ k v at. (entries_hold.each v (given_by given v.name)).0 (holds_at (λ v. IsInside v given) p.variables k v (law.0 d) at))),
     )
 

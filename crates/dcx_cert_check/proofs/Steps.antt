@@ -1,5 +1,5 @@
 -- Checks one after the other, and the demands of which they are made.
-use Rattle.std.proofs.Common.{◌≡◌, ◌≢◌, ◌⊎◌, inl, inr, ℕ, ◌<◌, ◌≤◌, List, length, Option, Some, None, Result, Ok, Err, OnOk, refl, sym, ◌∙◌, subst, arith}
+use Rattle.std.proofs.Common.{◌≡◌, ◌≢◌, ◌⊎◌, inl, inr, ℕ, ◌<◌, ◌≤◌, List, length, Option, Some, None, Result, Ok, Err, refl, sym, ◌∙◌, subst, arith}
 use Rattle.std.specs.List.{slice_get}
 use Rattle.std.proofs.lemmas.Option.{slice_get_within}
 use Rattle.dcx_point.specs.Pairs.{Pairs}
@@ -28,11 +28,6 @@ if_settled check settled (Some x) = settled x
 -- each item of a list
 pub in_settled : {X : Type 0} (xs : List X) (check : ℕ → X → Check) → ((k : ℕ) (x : X) → IsSettled (check k x)) → IsSettled (each_in xs check)
 in_settled xs check settled = settled_together.many (length xs) (λ k. check_if (check k) (slice_get xs k)) (λ k. if_settled (check k) (settled k) (slice_get xs k))
-
--- what holds in any case holds on success
-pub on_ok : {T E : Type 0} {P : Type 0} (r : Result T E) → P → OnOk r P
-on_ok (Ok x) p = p
-on_ok (Err e) p = tt
 
 -- ---- the checks so far
 -- the checks before this one pass

@@ -15,7 +15,8 @@ use Rattle.dcx_atom.specs.Formed.{and_then}
 use Rattle.dcx_convex.specs.Nodes.{Numbers}
 use Rattle.dcx_cert_collect.specs.Shares.{frac_in, Share, added_at, with_share, with_shares}
 use Rattle.dcx_cert_collect.proofs.Sharing.{shares-append}
-use Rattle.dcx_cert_collect.proofs.Passing.{same_Ok, shares_count}
+use Rattle.dcx_arena.proofs.Results.{same_Ok}
+use Rattle.dcx_cert_collect.proofs.Passing.{shares_count}
 use Rattle.dcx_cert_collect.proofs.Flat.{dot, dot-set}
 
 -- the number at a place, and 0 where there is none

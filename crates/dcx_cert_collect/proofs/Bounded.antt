@@ -26,6 +26,7 @@ use Rattle.dcx_affine.specs.declared.pairing.Pair.{Pair}
 use Rattle.dcx_affine.specs.Pairing.{pairs_at}
 use Rattle.dcx_arena.specs.Nodes.{AreNodes, IsNode, call_at, args_at, entries_in, sides_at as sides_of_node}
 use Rattle.dcx_arena.proofs.Unfolds.{node_there}
+use Rattle.dcx_arena.proofs.Results.{same_Ok}
 use Rattle.dcx_convex.specs.Nodes.{Numbers, Setting, Point, arguments, zeros, value_by}
 use Rattle.dcx_convex.specs.Pairs.{products_at, quotients_at, Pair as CallPair}
 use Rattle.dcx_convex.proofs.Signs.{first_in}
@@ -49,7 +50,7 @@ use Rattle.dcx_cert_collect.specs.Pass.{Kept, begin, or_passes, handed, with_bel
 use Rattle.dcx_cert_collect.specs.Pass.{shares_if, node_reached, node_shares, HaveFractions, passed, step, then_on, pass_down}
 use Rattle.dcx_cert_collect.specs.Laws.{table_times, reached_times, HasKnownSide, MayHandOn, AreKnown}
 use Rattle.dcx_cert_collect.proofs.Starting.{start_all}
-use Rattle.dcx_cert_collect.proofs.Passing.{same_Ok, own_count, start_inside, passed_count}
+use Rattle.dcx_cert_collect.proofs.Passing.{own_count, start_inside, passed_count}
 use Rattle.dcx_cert_collect.proofs.Flat.{frac_value, dot, dot-nil, dot-append, dot-sum, dot-table, flat, flat-place}
 use Rattle.dcx_cert_collect.proofs.Bound.{number_of, IsBefore}
 use Rattle.dcx_cert_collect.proofs.Points.{at_point, node_value, place_number}

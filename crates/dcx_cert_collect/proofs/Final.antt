@@ -16,6 +16,7 @@ use Rattle.dcx_atom.specs.declared.array.Array.{Array}
 use Rattle.dcx_atom.specs.Arrays.{number_at}
 use Rattle.dcx_atom.specs.Entrywise.{products_from}
 use Rattle.dcx_arena.specs.Nodes.{AreNodes, IsNode, call_at, args_at, sides_at, entries_in}
+use Rattle.dcx_arena.proofs.Results.{same_Ok}
 use Rattle.dcx_convex.specs.Nodes.{Numbers, Setting, Point}
 use Rattle.dcx_convex.specs.Nodes as convex
 use Rattle.dcx_convex.specs.Certificates.{times}
@@ -37,7 +38,7 @@ use Rattle.dcx_cert_collect.specs.Multipliers.{AreDuals}
 use Rattle.dcx_cert_collect.specs.Pass.{Kept, begin, or_passes, handed, with_below, with_total, counted, reached_if, node_reached, node_shares, HaveFractions, passed, step, then_on, pass_down}
 use Rattle.dcx_cert_collect.specs.Laws.{table_times, reached_times, AreKnown, MayReachIn, AreSquareIn, TotalIsABound, TotalShowsAnswers}
 use Rattle.dcx_cert_collect.proofs.Starting.{start_all}
-use Rattle.dcx_cert_collect.proofs.Passing.{same_Ok, node_shape}
+use Rattle.dcx_cert_collect.proofs.Passing.{node_shape}
 use Rattle.dcx_cert_collect.proofs.Points.{at_point, node_value}
 use Rattle.dcx_cert_collect.proofs.Bounded.{parts, step_count, total_bounds}
 use Rattle.dcx_cert_collect.proofs.Multiplied.{start_count, start_lagrangian, start_penalty}

@@ -1,5 +1,5 @@
 -- What the calls hand on is what is told of them.
-use Rattle.std.proofs.Common.{◌≡◌, ℕ, zero, suc, ◌+◌, ◌<◌, arith, List, [], ◌∷◌, ◌++◌, map, length, get_or, refl, sym, ap, ap₂, ◌∙◌, subst, inl, inr, ⊎_elim}
+use Rattle.std.proofs.Common.{◌≡◌, ℕ, zero, suc, ◌+◌, ◌<◌, arith, List, [], ◌∷◌, map, length, get_or, refl, sym, ap, ap₂, ◌∙◌, subst, inl, inr, ⊎_elim}
 use Rattle.std.proofs.Common.{Option, Some, None, IfSome, IsSome, is_some, Result, Ok, Err, OnOk, IfErr}
 use Rattle.std.specs.Option.{IsSomeAnd}
 use Rattle.std.proofs.lemmas.List.{length-map}
@@ -14,14 +14,14 @@ use Rattle.dcx_shape.specs.Sides.{entries_of}
 use Rattle.dcx_atom.specs.declared.stops.SlopeStop.{SlopeStop}
 use Rattle.dcx_atom.specs.declared.stops.SlopeStop.TheVariants as slope_stops
 use Rattle.dcx_atom.specs.declared.terms.Triple.{Triple}
-use Rattle.dcx_atom.specs.Arrays.{number_at, sides_at, sides_list, list_below, joined_below, entries_before}
+use Rattle.dcx_atom.specs.Arrays.{number_at, sides_at, sides_list, list_below, entries_before}
 use Rattle.dcx_atom.specs.Formed.{frac_at}
 use Rattle.dcx_atom.specs.Linear.{LinearMeaning, linear_term, AreTermsOf}
 use Rattle.dcx_atom.specs.Meaning.{Meaning}
 use Rattle.dcx_atom.specs.Steps.{earlier, entry_stop, weights_of, AreSlopesOf, IsFirstStop, IsSlopeStop}
 use Rattle.dcx_atom.proofs.FormedSums.{frac_at-value, frac_at-zero}
 use Rattle.dcx_atom.proofs.BoundRows.{below_or_last, length-list_below}
-use Rattle.dcx_atom.proofs.Lists.{list_below-same, get_or-list_below}
+use Rattle.dcx_atom.proofs.Lists.{list_below-same, get_or-list_below, joined_below-same}
 use Rattle.dcx_affine.specs.declared.pairing.Pairing.{Pairing}
 use Rattle.dcx_affine.specs.declared.pairing.Pair.{Pair}
 use Rattle.dcx_affine.specs.Pairing.{paired_sides, pairs_at}
@@ -37,10 +37,6 @@ use Rattle.dcx_cert_collect.specs.Pass.{or_passes, IsOrMemory, handed, pairing_h
 use Rattle.dcx_atom.specs.Fractions.{AreFractionSlopes}
 
 -- ---- shares that are told in two ways
-pub joined-same : {A : Type 0} (n : ℕ) (f g : ℕ → List A) → ((j : ℕ) → j < n → f j ≡ g j) → joined_below n f ≡ joined_below n g
-joined-same zero f g h = refl
-joined-same (suc n) f g h = ap₂ (λ xs ys. xs ++ ys) (joined-same n f g (λ j b. h j (omega arith))) (h n (omega arith))
-
 pub told_ok : (told : Result (Unit {0}) Passes) (below after : List Frac) (given asked : List Share) → given ≡ asked → OnOk told (with_shares below given ≡ Ok after) →
     (r : Result (Unit {0}) CollectStop) → r ≡ or_passes told → OnOk r (handed below (Ok asked) ≡ Ok after)
 told_ok (Ok x) below after given asked same h r is = rw is (ap (λ ss. or_passes (with_shares below ss)) (sym same) ∙ ap or_passes h)
@@ -68,7 +64,7 @@ pub linear_told : (nodes : List Node) (args : List ℕ) (m : LinearMeaning) (ss 
     linear_shares nodes args cs (λ j. map linear_term (get_or shown j [])) ≡ linear_shares nodes args cs (m.terms ss)
 linear_told nodes args m ss cs ts shown is are =
     ap (λ xs. linear_shares nodes args cs (λ j. map linear_term (get_or xs j []))) is
-    ∙ joined-same (length cs) (λ j. map (term_share nodes args (frac_in cs j)) (map linear_term (get_or ts j []))) (λ j. map (term_share nodes args (frac_in cs j)) (m.terms ss j))
+    ∙ joined_below-same (length cs) (λ j. map (term_share nodes args (frac_in cs j)) (map linear_term (get_or ts j []))) (λ j. map (term_share nodes args (frac_in cs j)) (m.terms ss j))
     (λ j b. ap (map (term_share nodes args (frac_in cs j))) (terms_of m ss (length cs) ts j are b))
 
 pub linear_count : (m : LinearMeaning) (ss : List Sides) (cs : List Frac) (ts shown : List (List Triple)) → shown ≡ ts → AreTermsOf m ss (length cs) ts → length shown ≡ length cs
@@ -96,7 +92,7 @@ slopes_told : (nodes : List Node) (args : List ℕ) (m : Meaning) (ss : List Sid
     slope_shares nodes args ss (λ k e. frac_in shown (entries_before ss k + e)) ≡ slope_shares nodes args ss (slope_frac m ss ws)
 slopes_told nodes args m ss size cs ws gs shown count is are =
     ap (λ xs. slope_shares nodes args ss (λ k e. frac_in xs (entries_before ss k + e))) is
-    ∙ joined-same (length args) _ _ (λ k b. list_below-same (entries_of (sides_at ss k)) _ _ (λ e below. ap (λ x. share_to nodes args k e (Ok x))
+    ∙ joined_below-same (length args) _ _ (λ k b. list_below-same (entries_of (sides_at ss k)) _ _ (λ e below. ap (λ x. share_to nodes args k e (Ok x))
     (sym (frac_at-number gs (entries_before ss k + e)) ∙ ap frac_at (are.slopes k e (omega (arith, b, count)) below))))
 
 pub atom_told : (nodes : List Node) (i : ℕ) (args : List ℕ) (m : Meaning) (ss : List Sides) (cs ws gs shown : List Frac) → length args ≡ length ss → shown ≡ gs
@@ -163,7 +159,7 @@ pub pairing_told : (nodes : List Node) (args : List ℕ) (p : Pairing) (ss : Lis
     shown ≡ ts → ts ≡ list_below (length cs) (pairs_at p (sides_at ss 0) (sides_at ss 1)) → scaling ≡ scaling_of p (is_some left) → numbers ≡ scaling_numbers scaling left right →
     pairing_shares nodes args scaling numbers cs (λ j. get_or shown j []) ≡ pairing_hands nodes args p ss left right cs
 pairing_told nodes args p ss cs left right scaling numbers ts shown is are how which =
-    joined-same (length cs) (λ j. map (pair_share nodes args scaling numbers (frac_in cs j)) (get_or shown j [])) (λ j. map (pair_share nodes args scaling numbers (frac_in cs j))
+    joined_below-same (length cs) (λ j. map (pair_share nodes args scaling numbers (frac_in cs j)) (get_or shown j [])) (λ j. map (pair_share nodes args scaling numbers (frac_in cs j))
     (pairs_at p (sides_at ss 0) (sides_at ss 1) j))
     (λ j b. ap (map (pair_share nodes args scaling numbers (frac_in cs j))) (ap (λ xs. get_or xs j []) (is ∙ are) ∙ get_or-list_below (length cs) (pairs_at p (sides_at ss 0) (sides_at ss 1)) j [] b))
     ∙ ap (λ xs. pairing_shares nodes args scaling xs cs (pairs_at p (sides_at ss 0) (sides_at ss 1))) which
@@ -172,7 +168,3 @@ pairing_told nodes args p ss cs left right scaling numbers ts shown is are how w
 -- ---- listed slopes are fractions
 pub slopes_fit : (m : Meaning) (ss : List Sides) (size : ℕ) (cs ws gs : List Frac) → AreSlopesOf m ss size cs ws gs → AreFractionSlopes m ss ws
 slopes_fit m ss size cs ws gs are = λ k e b c. subst IsRepresentable (are.slopes k e b c) (number_fits gs (entries_before ss k + e))
-
-pub on_ok : {A E P : Type 0} (r : Result A E) → P → OnOk r P
-on_ok (Ok x) h = h
-on_ok (Err e) h = tt

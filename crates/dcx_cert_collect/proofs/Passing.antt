@@ -15,6 +15,7 @@ use Rattle.dcx_shape.specs.declared.shape.Sides.TheVariants.{Scalar}
 use Rattle.dcx_shape.specs.Sides.{entries_of}
 use Rattle.dcx_atom.specs.Arrays.{sides_list}
 use Rattle.dcx_arena.specs.Nodes.{AreNodes, call_at, args_at, sides_at}
+use Rattle.dcx_arena.proofs.Results.{same_Ok}
 use Rattle.dcx_call.specs.declared.call.Call.{Call}
 use Rattle.dcx_call.specs.Calls.{shape_of}
 use Rattle.dcx_tree.specs.Nodes.{Node}
@@ -48,14 +49,6 @@ call_shaped nodes are i found call at is shown sides cs count =
     subst (λ o. IsSomeAnd o (λ s. length cs ≡ entries_of s)) (sym (ap (shape_of call) sides ∙ node_shape nodes are i call (at ∙ ap Some is))) count
 
 -- ---- what is there
-unok : {A E : Type 0} → A → Result A E → A
-unok d (Ok x) = x
-unok d (Err e) = d
-
-pub same_Ok : {A E : Type 0} (x y : A) → ◌≡◌ {A = Result A E} (Ok x) (Ok y) → x ≡ y
-unfolding unok
-same_Ok x y e = ap (unok x) e
-
 -- ---- what a call hands on is what its node does
 pub ok_as : (r : Result (Unit {0}) CollectStop) (old new : List Frac) (given asked : Result (List Share) CollectStop) → given ≡ asked → OnOk r (handed old given ≡ Ok new)
     → OnOk r (handed old asked ≡ Ok new)

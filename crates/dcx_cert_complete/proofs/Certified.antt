@@ -17,10 +17,7 @@ use Rattle.dcx_lp_answer.specs.declared.answer.RowNote.{RowNote}
 use Rattle.dcx_lp_answer.specs.declared.answer.LpAnswer.{LpAnswer}
 use Rattle.dcx_answer.specs.declared.answer.Answer.{Answer}
 use Rattle.dcx_answer.specs.declared.answer.Answer.TheVariants as answers
-use Rattle.dcx_std.specs.Answers.{IsRightForRowsAs}
 use Rattle.dcx_std.specs.Solutions.{HasKinds, linear_program}
-use Rattle.dcx_std.proofs.ScaledProgram.{scaled_program}
-use Rattle.dcx_std.proofs.RightAnswers.{shown_of}
 use Rattle.dcx_postsolve.specs.Programs.{bound_row, multipliers_of}
 use Rattle.dcx_unknowns.specs.Equations.{graph_numbers}
 use Rattle.dcx_postsolve.specs.Duals.{AreDuals}
@@ -36,7 +33,7 @@ use Rattle.dcx_fit.specs.Fit.{FitsParameters}
 use Rattle.dcx_graph.specs.Program.{Program}
 use Rattle.dcx_graph.specs.Answers.{rows_of, IsAnswered, IsRead}
 use Rattle.dcx_graph.proofs.Slacks.{have_slacks, multiplier_is}
-use Rattle.dcx_graph.proofs.Mapped.{read_right}
+use Rattle.dcx_graph.proofs.Mapped.{read_right, right_rows}
 use Rattle.dcx_cert_build.specs.Built.{AreWeightsIn, values_in, IsBuilt}
 use Rattle.dcx_cert_bound.specs.Weights.{weights_at}
 use Rattle.dcx_cert_bound.specs.Checks.{bound_checks}
@@ -80,10 +77,6 @@ module _ (p : Problem) (setting : Pairs) (q : Program Frac) (a : LpAnswer) (know
   abbrev M : ℕ → ℚ
   M = m p setting q a known own is
 
-  -- the answer is right for the rows
-  right_rows : (t : LpStatus) → a.status ≡ t → IsRightForRowsAs t (rows_of q) is.integer a
-  right_rows t e = subst (λ t. IsRightForRowsAs t (rows_of q) is.integer a) e (shown_of (rows_of q) is.integer known (scaled_program (rows_of q) is.integer is.made) a is.right)
-
   -- the multipliers of the constraints are those of their rows
   same_multipliers : (d : List Array) → AreDuals a.status p.constraints a.rows d → AreSameMultipliers p.constraints (multipliers_of (convex_problem p) M) (multipliers_in d)
   same_multipliers d are k c at j b =
@@ -96,7 +89,7 @@ module _ (p : Problem) (setting : Pairs) (q : Program Frac) (a : LpAnswer) (know
   module _ (ok : IsAccepted p) (duals : List Array) (are : AreDuals a.status p.constraints a.rows duals) (weights : List NodeWeights) (weighed : AreWeightsIn p q.origins a weights) where
     optimal_bound : a.status ≡ status.Optimal → FailsWide (bound_checks p setting duals weights true a.number)
     optimal_bound e =
-        let right = right_rows status.Optimal e in
+        let right = right_rows p (setting_of p setting) q a known is status.Optimal e in
         bounds_fail_wide p setting duals weights true a.number ok is.reduced.fits (are_duals p a.status a.rows duals are)
         (λ values fixed. forms_bound_programs own.rules p setting values own.forms duals (weights_at weights) true (value a.number) M (first_row p setting q a known own is) fixed own.stand
         (are_row_weights p setting q a known own is values fixed right.signs weights weighed)
@@ -104,7 +97,7 @@ module _ (p : Problem) (setting : Pairs) (q : Program Frac) (a : LpAnswer) (know
 
     infeasible_bound : a.status ≡ status.Infeasible → FailsWide (bound_checks p setting duals weights false a.number)
     infeasible_bound e =
-        let right = right_rows status.Infeasible e in
+        let right = right_rows p (setting_of p setting) q a known is status.Infeasible e in
         bounds_fail_wide p setting duals weights false a.number ok is.reduced.fits (are_duals p a.status a.rows duals are)
         (λ values fixed. forms_bound_programs own.rules p setting values own.forms duals (weights_at weights) false (value a.number) M (first_row p setting q a known own is) fixed own.stand
         (are_row_weights p setting q a known own is values fixed right.signs weights weighed)

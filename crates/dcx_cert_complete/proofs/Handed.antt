@@ -32,6 +32,7 @@ use Rattle.dcx_affine.specs.declared.pairing.Pairing.{Pairing}
 use Rattle.dcx_affine.specs.declared.pairing.Pairing.TheVariants.{Times, MatTimes, Over}
 use Rattle.dcx_affine.specs.Pairing.{pairs_at}
 use Rattle.dcx_arena.specs.Nodes.{AreNodes, IsNode}
+use Rattle.dcx_arena.proofs.Results.{same_Ok}
 use Rattle.dcx_convex.specs.Nodes.{Numbers, Setting, Point, arguments, zeros}
 use Rattle.dcx_convex.proofs.Told.{map-same}
 use Rattle.dcx_convex.proofs.Signs.{first_in}
@@ -57,7 +58,6 @@ use Rattle.dcx_cert_collect.specs.Starts.{start_of, place_of}
 use Rattle.dcx_cert_collect.specs.Calls.{share_to, unless, slopes_stop, slope_shares, slope_frac, linear_shares}
 use Rattle.dcx_cert_collect.specs.Pass.{reached_by, call_shares, pairing_hands}
 use Rattle.dcx_cert_collect.specs.Laws.{reached_times, HasKnownSide, AreKnown}
-use Rattle.dcx_cert_collect.proofs.Passing.{same_Ok}
 use Rattle.dcx_cert_collect.proofs.Flat.{dot, flat}
 use Rattle.dcx_cert_collect.proofs.Bound.{number_of, IsBefore, worth_of, below_dot, joined_dot, IsWorth}
 use Rattle.dcx_cert_collect.proofs.Points.{argument_place}

@@ -1,9 +1,8 @@
 -- What is known of a problem's nodes: their calls as the rules read them, and what a ray gives their variables.
 use Rattle.std.proofs.Common.{◌≡◌, ℕ, true, false, List, map, All, Option, Some, None, option_map, slice_get, refl, sym, ap, ◌∙◌, true≢false, [], ◌∷◌, length, arith}
 use Rattle.std.specs.Prelude.{IsTrue, IsFalse, ◌&&◌}
-use Rattle.std.proofs.Props.{props}
 use Rattle.std.proofs.Math.Logic.{∥∥₁_elim}
-use Rattle.std.proofs.lemmas.Option.{none-some, same_Some, slice_get-map}
+use Rattle.std.proofs.lemmas.Option.{none-some, slice_get-map}
 use Rattle.std.specs.Option.{unwrap_or}
 use mathlib.Core.Logic.{∥∥₁_map}
 use Rattle.dcx_math.proofs.Orders.{≡ℚ_prop}
@@ -23,15 +22,16 @@ use Rattle.dcx_call.specs.declared.attribute.Parameter.{Parameter}
 use Rattle.dcx_call.specs.declared.call.Call.{Call}
 use Rattle.dcx_call.specs.declared.call.Call.TheVariants as calls
 use Rattle.dcx_call.specs.Values.{given_by, HasArray, IsGiven}
+use Rattle.dcx_call.proofs.Given.{one_array}
 use Rattle.dcx_tree.specs.declared.problem.Problem.{Problem}
 use Rattle.dcx_tree.specs.Nodes.{Node, arg_sides, head_of, convex_node, number_in}
 use Rattle.dcx_tree.specs.Problems.{IsListed}
-use Rattle.dcx_tree.specs.Values.{IsNamed, array_at}
+use Rattle.dcx_tree.specs.Values.{array_at}
 use Rattle.dcx_tree.specs.Meaning.{names_in, convex_problem, setting_of, point_of}
 use Rattle.dcx_tree.proofs.Arguments.{no_args, all_fixed}
 use Rattle.dcx_tree.proofs.Lawful.{problem_lawful}
 use Rattle.dcx_tree.proofs.Sublists.{contains_at}
-use Rattle.dcx_tree.proofs.Values.{taken}
+use Rattle.dcx_tree.proofs.Values.{taken, listed_named}
 use Rattle.dcx_tree.proofs.AllReached.{convex_at}
 use Rattle.dcx_right.specs.Fixed.{is_fixed}
 use Rattle.dcx_cert_rays.specs.Steepness.{AreFixedValues, IsArgument}
@@ -54,15 +54,6 @@ IsTaken p ray (calls.Constant x) = Unit {0}
 IsTaken p ray (calls.Atom m) = Unit {0}
 IsTaken p ray (calls.Linear l) = Unit {0}
 IsTaken p ray (calls.Pairing q) = Unit {0}
-
--- there is one array, or none, under a name
-one_array : {D : Type 0} (given : Pairs) (name : List ℕ) (sides : Sides) (o : Option Array) → array_of given name ≡ o → ∥ D ∥₁ → (D → HasArray given name sides) → HasArray given name sides
-one_array given name sides None e d f = absurd (∥∥₁_elim d (hlevel props) (λ x. none-some (f x).array (sym e ∙ (f x).there)))
-one_array given name sides (Some a) e d f = record {
-  array = a;
-  there = e;
-  shape = ∥∥₁_elim d (hlevel props) (λ x. ap (λ (b : Array). sides_of b.shape) (same_Some a (f x).array (sym e ∙ (f x).there)) ∙ (f x).shape);
-}
 
 module _ (p : Problem) where
   fixed_call : (i : ℕ) (n : Node) → IsNode p.tree i n → is_fixed p i ≡ fixed_by (head_of (names_in p) n.call (arg_sides p.tree n) n.sides) (map (judgement_at Plain (convex_problem p).nodes) n.args)
@@ -144,18 +135,6 @@ module _ (p : Problem) where
   pub node_taken : (ray : Pairs) (i : ℕ) (n : Node) → IsNode p.tree i n → IsTaken p ray n.call
   node_taken ray i n at = taken_for ray n.call (∥∥₁_map p.declared (λ d. d.listed i n at))
 
-  named_for : (call : Call) → IsListed p.variables p.parameters call → IsNamed (names_in p) call
-  named_for (calls.Variable v) l =
-      let (k, at) = contains_at p.variables v l in
-      (k, slice_get-map (λ (x : Variable). x.name) p.variables k ∙ ap (option_map (λ (x : Variable). x.name)) at)
-  named_for (calls.Parameter q) l =
-      let (k, at) = contains_at p.parameters q l in
-      (k, slice_get-map (λ (x : Parameter). x.name) p.parameters k ∙ ap (option_map (λ (x : Parameter). x.name)) at)
-  named_for (calls.Constant x) l = tt
-  named_for (calls.Atom m) l = tt
-  named_for (calls.Linear m) l = tt
-  named_for (calls.Pairing q) l = tt
-
   -- an array that is kept of a node that has no variable below it is its value
   pub value_argument : (setting ray : Pairs) (arrays : List (Option Array)) → AreFixedValues p setting arrays → (i : ℕ) (v : Array) → IsTrue (is_fixed p i) → array_at arrays i ≡ Some v
       → IsArgument p setting ray true i v
@@ -164,6 +143,6 @@ module _ (p : Problem) where
       record {
         shape = its.shape;
         numbers = λ j. ∥∥₁_elim p.declared (≡ℚ_prop _ _) (λ d.
-            its.numbers (names_in p) (λ k n reached there. named_for n.call (d.listed k n there)) j
+            its.numbers (names_in p) (λ k n reached there. listed_named p.variables p.parameters n.call (d.listed k n there)) j
             ∙ ap (λ f. f j) (constants_are_fixed Plain (convex_problem p).nodes (setting_of p setting) (point_of p given.point) (λ number. zeros) i t));
       }

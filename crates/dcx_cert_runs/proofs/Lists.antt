@@ -2,8 +2,9 @@
 use Rattle.std.proofs.Common.{◌≡◌, ℕ, zero, suc, ◌+◌, ◌<◌, ◌≤◌, List, [], ◌∷◌, ◌++◌, length, get_or, Some, refl, sym, ap, ap₂, ◌∙◌, subst, add-one, arith}
 use native.Mathlib.Decide.{dec_lt}
 use Rattle.std.specs.List.{slice_get, All}
-use Rattle.std.proofs.lemmas.Option.{none-some, slice_get-get_or, slice_get_within, get_or_from_slice_get}
+use Rattle.std.proofs.lemmas.Option.{slice_get-get_or, slice_get_within, get_or_from_slice_get}
 use Rattle.std.proofs.lemmas.List.Elements.{All-from_get_or}
+use Rattle.dcx_math.proofs.Lists.{in_left}
 
 end_length : {X : Type 0} (xs : List X) (x : X) → length (xs ++ x ∷ []) ≡ suc (length xs)
 end_length [] x = refl
@@ -42,11 +43,6 @@ pub all_below : {X Y : Type 0} (R : X → Y → Type 0) (xs : List X) (ys : List
 all_below R xs ys n end h k x y at there = let within = slice_get_within ys k y there in h k x y (omega (arith, within, end)) at there
 
 -- ---- a list made of two
-before_end : {X : Type 0} (zs : List X) (z x : X) (k : ℕ) → slice_get zs k ≡ Some x → slice_get (zs ++ z ∷ []) k ≡ Some x
-before_end [] z x k e = absurd (none-some x e)
-before_end (y ∷ ys) z x zero e = e
-before_end (y ∷ ys) z x (suc k) e = before_end ys z x k e
-
 at_end : {X : Type 0} (zs : List X) (z : X) (k : ℕ) → k ≡ length zs → slice_get (zs ++ z ∷ []) k ≡ Some z
 at_end [] z zero e = refl
 at_end [] z (suc k) e = absurd (omega (arith, e))
@@ -67,7 +63,7 @@ module _ {X Y Z : Type 0} (F : X → Y → Z) (xs : List X) (ys : List Y) where
   made_step zs n a b z h ia ib is = record { count = end_length zs z ∙ ap suc h.count ∙ sym (add-one n); each = λ k x y lt at here. by k x y lt at here (dec_lt k n) }
     where
       by : (k : ℕ) (x : X) (y : Y) → k < n + 1 → slice_get xs k ≡ Some x → slice_get ys k ≡ Some y → Dec (k < n) → slice_get (zs ++ z ∷ []) k ≡ Some (F x y)
-      by k x y lt at here (yes l) = before_end zs z (F x y) k (h.each k x y l at here)
+      by k x y lt at here (yes l) = in_left zs (z ∷ []) k (F x y) (h.each k x y l at here)
       by k x y lt at here (no m) =
           let e : k ≡ n = omega (arith, m) in
           let first : a ≡ x = ia ∙ get_or_from_slice_get xs n x a (subst (λ i. slice_get xs i ≡ Some x) e at) in

@@ -20,7 +20,7 @@ use Rattle.dcx_graph.specs.declared.origin.Origin.{Origin}
 use Rattle.dcx_graph.specs.Program.{Program}
 use Rattle.dcx_graph.specs.Answers.{rows_of, IsSameAnswer}
 use Rattle.dcx_cache.specs.Answers.{IsAnswerOf}
-use Rattle.dcx_cache.proofs.OneEnd.{one_program, has_one_end, same_ok}
+use Rattle.dcx_cache.proofs.OneEnd.{same_program as one_program_of, has_one_end}
 use Rattle.dcx_cert_build.specs.Built.{values_in, IsBuilt, PassesAt}
 use Rattle.dcx_cert_build.proofs.OneCert.{one_cert}
 use Rattle.dcx_cert_runs.specs.Sections.{IsCertAt, HasNoCert, stopped, passes, IsSectionAt}
@@ -59,7 +59,7 @@ module _ (p : Problem) (limit : ℕ) (ok : IsAccepted p) where
   -- a setting whose answer has a certificate has no weight that passes
   module _ (s : Pairs) (q r : Program Frac) (t u : Solved) (a b : Answer) (x : IsAnswerOf p s limit q t a) (y : IsAnswerOf p s limit r u b) where
     same_program : q ≡ r
-    same_program = same_ok q r (one_program p s (Ok q) (Ok r) x.program y.program)
+    same_program = one_program_of p s limit q r x.program y.program
 
     same_rows : t.answer ≡ u.answer
     same_rows = (answers_are_one limit (rows_of q) t u x.is_solved (subst (λ (z : Program Frac). IsSolved limit (rows_of z) u) (sym same_program) y.is_solved)).answer

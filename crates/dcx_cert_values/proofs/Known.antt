@@ -1,12 +1,10 @@
 -- Each variable and parameter of a problem is among its names, and has an array where setting and point give one.
-use Rattle.std.proofs.Common.{◌≡◌, ℕ, true, List, Option, Some, None, option_map, slice_get, refl, sym, ap, ◌∙◌}
+use Rattle.std.proofs.Common.{◌≡◌, ℕ, true, List, Some, option_map, slice_get, refl, ap, ◌∙◌}
 use Rattle.std.proofs.Props.{props}
 use Rattle.std.specs.List.{list_any}
 use mathlib.Core.Logic.{∥∥₁_map, ∥∥₁_elim}
-use Rattle.std.proofs.lemmas.Option.{none-some, same_Some, slice_get-map}
-use Rattle.dcx_shape.specs.declared.shape.Sides.{Sides}
+use Rattle.std.proofs.lemmas.Option.{slice_get-map}
 use Rattle.dcx_shape.specs.Shape.{sides_of}
-use Rattle.dcx_atom.specs.declared.array.Array.{Array}
 use Rattle.dcx_point.specs.Pairs.{Pairs, same_name, array_of}
 use Rattle.dcx_point.proofs.Puts.{same_name-refl, same_name-true}
 use Rattle.dcx_arena.specs.Nodes.{IsNode}
@@ -15,6 +13,7 @@ use Rattle.dcx_call.specs.declared.attribute.Parameter.{Parameter}
 use Rattle.dcx_call.specs.declared.call.Call.{Call}
 use Rattle.dcx_call.specs.declared.call.Call.TheVariants as calls
 use Rattle.dcx_call.specs.Values.{HasArray, IsGiven}
+use Rattle.dcx_call.proofs.Given.{one_array}
 use Rattle.dcx_tree.specs.declared.problem.Problem.{Problem}
 use Rattle.dcx_tree.specs.Nodes.{Node}
 use Rattle.dcx_tree.specs.Problems.{IsListed}
@@ -31,15 +30,6 @@ found names name d at =
     let test : list_any (λ n. same_name n name) names ≡ true = ∥∥₁_elim d (hlevel props) (λ x. at_any (λ n. same_name n name) names (at x).0 name (at x).1 (same_name-refl name)) in
     let (k, x, there, same) = any_at (λ n. same_name n name) names test in
     (k, there ∙ ap Some (same_name-true x name same))
-
--- there is one array, or none, under a name
-pub one_array : {D : Type 0} (given : Pairs) (name : List ℕ) (sides : Sides) (o : Option Array) → array_of given name ≡ o → ∥ D ∥₁ → (D → HasArray given name sides) → HasArray given name sides
-one_array given name sides None e d f = absurd (∥∥₁_elim d (hlevel props) (λ x. none-some (f x).array (sym e ∙ (f x).there)))
-one_array given name sides (Some a) e d f = record {
-  array = a;
-  there = e;
-  shape = ∥∥₁_elim d (hlevel props) (λ x. ap (λ (b : Array). sides_of b.shape) (same_Some a (f x).array (sym e ∙ (f x).there)) ∙ (f x).shape);
-}
 
 module _ (p : Problem) where
   -- ---- of a call that is listed

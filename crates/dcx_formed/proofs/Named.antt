@@ -1,13 +1,10 @@
 -- The nodes of a problem name variables and parameters that are declared.
-use Rattle.std.proofs.Common.{◌≡◌, ℕ, option_map, sym, ap, ◌∙◌, subst}
+use Rattle.std.proofs.Common.{◌≡◌, ℕ, sym, subst}
 use Rattle.std.proofs.Math.Logic.{∥∥₁_elim}
-use Rattle.std.proofs.lemmas.Option.{slice_get-map}
 use Rattle.dcx_math.specs.Rational.{ℚ}
 use Rattle.dcx_math.proofs.Orders.{≡ℚ_prop}
 use Rattle.dcx_arena.specs.Nodes.{IsNode}
 use Rattle.dcx_call.specs.declared.attribute.Variable.{Variable}
-use Rattle.dcx_call.specs.declared.attribute.Parameter.{Parameter}
-use Rattle.dcx_call.specs.declared.call.Call.{Call}
 use Rattle.dcx_call.specs.declared.call.Call.TheVariants as calls
 use Rattle.dcx_tree.specs.declared.problem.Problem.{Problem}
 use Rattle.dcx_tree.specs.Nodes.{Node, number_in}
@@ -15,21 +12,14 @@ use Rattle.dcx_tree.specs.Problems.{IsListed}
 use Rattle.dcx_tree.specs.Meaning.{names_in}
 use Rattle.dcx_tree.specs.Values.{IsNamed}
 use Rattle.dcx_tree.proofs.Sublists.{contains_at}
+use Rattle.dcx_tree.proofs.Values.{listed_named}
 use Rattle.dcx_unknowns.specs.Laws.{IsVariable}
 use Rattle.dcx_unknowns.proofs.Domains.{number_is}
 
 module _ (p : Problem) where
-  named : (call : Call) → IsListed p.variables p.parameters call → IsNamed (names_in p) call
-  named (calls.Variable v) l = let (k, at) = contains_at p.variables v l in (k, slice_get-map (λ (w : Variable). w.name) p.variables k ∙ ap (option_map (λ (w : Variable). w.name)) at)
-  named (calls.Parameter q) l = let (k, at) = contains_at p.parameters q l in (k, slice_get-map (λ (w : Parameter). w.name) p.parameters k ∙ ap (option_map (λ (w : Parameter). w.name)) at)
-  named (calls.Constant x) l = tt
-  named (calls.Atom m) l = tt
-  named (calls.Linear m) l = tt
-  named (calls.Pairing m) l = tt
-
   -- what follows for two numbers where the call of node i is named
   pub where_named : (i : ℕ) (n : Node) → IsNode p.tree i n → (x y : ℚ) → (IsNamed (names_in p) n.call → x ≡ y) → x ≡ y
-  where_named i n at x y h = ∥∥₁_elim p.declared (≡ℚ_prop x y) (λ d. h (named n.call (d.listed i n at)))
+  where_named i n at x y h = ∥∥₁_elim p.declared (≡ℚ_prop x y) (λ d. h (listed_named p.variables p.parameters n.call (d.listed i n at)))
 
   -- what follows for two numbers where a variable is declared at the position of its name
   pub where_declared : (i : ℕ) (n : Node) (v : Variable) → IsNode p.tree i n → n.call ≡ calls.Variable v → (x y : ℚ) → (IsVariable p.variables (number_in (names_in p).variables v.name) v → x ≡ y)

@@ -116,7 +116,8 @@ module _ (p : Problem) (s : Setting) (q : Program Frac) (a : LpAnswer) (known : 
   carries : CarriesOver p s (linear_program (rows_of q))
   carries = answers_carry_over is.reduced.rules p s (linear_program (rows_of q)) is.reduced.accepted is.reduced.fits is.reduced.reduction
 
-  right_rows : (t : LpStatus) → a.status ≡ t → IsRightForRowsAs t (rows_of q) is.integer a
+  -- the answer is right for the rows
+  pub right_rows : (t : LpStatus) → a.status ≡ t → IsRightForRowsAs t (rows_of q) is.integer a
   right_rows t e = subst (λ t. IsRightForRowsAs t (rows_of q) is.integer a) e (shown_of (rows_of q) is.integer known (scaled_program (rows_of q) is.integer is.made) a is.right)
 
   -- what is read is right

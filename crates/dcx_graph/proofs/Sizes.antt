@@ -1,13 +1,12 @@
 -- How many rows a program has, and what is so of its forms: that they are no wider than those of the nodes, and whatever else sums
 -- and changes keep.
-use Rattle.std.proofs.Common.{◌≡◌, ℕ, ◌+◌, ◌<◌, ◌≤◌, ◌^◌, List, [], ◌∷◌, length, map, Option, Some, Result, Ok, slice_get, slice_index_or, sym, ap, ap₂, ◌∙◌, subst, arith, length-append}
+use Rattle.std.proofs.Common.{◌≡◌, ℕ, ◌+◌, ◌<◌, ◌≤◌, ◌^◌, List, [], ◌∷◌, length, map, Option, Result, Ok, slice_index_or, sym, ap, ap₂, ◌∙◌, subst, arith, length-append}
 use Rattle.std.specs.Prelude.{sum_by}
 use Rattle.std.specs.List.{All}
 use Rattle.std.proofs.lemmas.List.{length-map}
 use Rattle.std.proofs.lemmas.List.Elements.{All-head, All-tail, All-append, All-map}
-use Rattle.std.proofs.lemmas.Option.{slice_get-get_or}
 use native.Mathlib.Decide.{dec_lt}
-use Rattle.dcx_math.proofs.Lists.{holds_at}
+use Rattle.dcx_math.proofs.Lists.{holds_at, all_from_at}
 use Rattle.dcx_frac.specs.declared.fraction.Frac.{Frac}
 use Rattle.dcx_frac.specs.declared.fraction.Passes.{Passes}
 use Rattle.dcx_tree.specs.declared.problem.Problem.{Problem}
@@ -29,10 +28,6 @@ use Rattle.dcx_entries.proofs.Past.{past_end}
 use Rattle.dcx_graph.specs.Program.{Program, minus_one, constraint_entries, entry_origin, graph_origin, graph_row, form_at, Least, RowOf, IsProgramWith}
 use Rattle.dcx_graph.specs.Reduced.{HasOrigins}
 use Rattle.dcx_graph.proofs.Entries.{HasBoth, entries-length, entries_have}
-
--- what holds of what stands at each place, holds of each item
-all_from_at : {A : Type 0} (P : A → Type 0) (xs : List A) → ((i : ℕ) (x : A) → slice_get xs i ≡ Some x → P x) → All P xs
-all_from_at P xs h = λ i d lt. h i (slice_index_or xs i d) (slice_get-get_or xs i d lt)
 
 -- a row is as wide as its form
 abbrev IsRowWithin : {C : Type 0} → ℕ → Row C → Type 0

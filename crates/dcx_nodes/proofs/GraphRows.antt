@@ -5,7 +5,7 @@ use Rattle.std.proofs.lemmas.List.{take_more}
 use Rattle.dcx_frac.specs.declared.fraction.Frac.{Frac}
 use Rattle.dcx_atom.specs.declared.array.Array.{Array}
 use Rattle.dcx_atom.specs.Arrays.{list_below, joined_below}
-use Rattle.dcx_atom.proofs.Lists.{joined_below-next, list_below-same}
+use Rattle.dcx_atom.proofs.Lists.{joined_below-next, list_below-same, joined_below-same}
 use Rattle.dcx_linear.specs.declared.form.Form.{Form}
 use Rattle.dcx_linear.specs.Forms.{is_constant}
 use Rattle.dcx_entries.specs.declared.entries.EntryForms.{EntryForms}
@@ -17,10 +17,6 @@ use Rattle.dcx_entries.specs.Nodes.{Table}
 use Rattle.dcx_nodes.specs.Formed.{value_entries}
 
 -- ---- lists by number
-pub joined_alike : {A : Type 0} (n : ℕ) (f g : ℕ → List A) → ((k : ℕ) → k < n → f k ≡ g k) → joined_below n f ≡ joined_below n g
-joined_alike zero f g h = refl
-joined_alike (suc n) f g h = ap₂ ◌++◌ (joined_alike n f g (λ k b. h k (omega (arith, b)))) (h n (omega arith))
-
 joined_none : {A : Type 0} (n : ℕ) (f : ℕ → List A) → ((k : ℕ) → k < n → f k ≡ []) → joined_below n f ≡ []
 joined_none zero f h = refl
 joined_none (suc n) f h = ap₂ ◌++◌ (joined_none n f (λ k b. h k (omega (arith, b)))) (h n (omega arith))
@@ -111,6 +107,6 @@ module _ {C : Type 0} (of_number : Frac → C) where
       let many : length (table ++ es ∷ []) ≡ suc (length table) = omega (arith, length-append table (es ∷ [])) in
       ap (λ n. joined_below n (λ i. node_rows of_number i (slice_index_or (table ++ es ∷ []) i []))) many
       ∙ ap₂ ◌++◌
-      (joined_alike (length table) (λ i. node_rows of_number i (slice_index_or (table ++ es ∷ []) i [])) (λ i. node_rows of_number i (slice_index_or table i []))
+      (joined_below-same (length table) (λ i. node_rows of_number i (slice_index_or (table ++ es ∷ []) i [])) (λ i. node_rows of_number i (slice_index_or table i []))
       (λ k b. ap (node_rows of_number k) (get_before table es [] k b)))
       (ap (node_rows of_number (length table)) (get_last table es []))

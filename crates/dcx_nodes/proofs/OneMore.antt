@@ -8,6 +8,7 @@ use Rattle.std.proofs.lemmas.Bool.{cases_eq, cases_lt}
 use Rattle.std.proofs.lemmas.List.{length-map, map_push, get_or_append_left, get_or_push}
 use Rattle.std.proofs.lemmas.List.Elements.{All-contains, Contains-get_or}
 use Rattle.std.proofs.lemmas.Option.{none-some, same_Some, slice_get-map, unwrap_or-slice_get}
+use Rattle.dcx_math.proofs.Lists.{in_left}
 use Rattle.dcx_frac.specs.declared.fraction.Frac.{Frac}
 use Rattle.dcx_frac.specs.declared.fraction.Passes.{Passes}
 use Rattle.dcx_shape.specs.Sides.{entries_of}
@@ -53,11 +54,6 @@ forms_in of_number (Numbers x) = by x.entries
     by (x ∷ xs) = ap (λ fs. is_constant (of_number x) ∷ fs) (by xs)
 
 -- ---- lists
-get-push_left : {A : Type 0} (xs : List A) (x y : A) (i : ℕ) → slice_get xs i ≡ Some y → slice_get (xs ++ x ∷ []) i ≡ Some y
-get-push_left [] x y i e = absurd (none-some y e)
-get-push_left (z ∷ zs) x y zero e = e
-get-push_left (z ∷ zs) x y (suc i) e = get-push_left zs x y i e
-
 -- lists that are the same at a place, with one element more
 pushed_alike : {A : Type 0} (fs gs : List (List A)) (f g : List A) (k : ℕ) → length fs ≡ k → length gs ≡ k → f ≡ g → (a : ℕ) → a < k + 1 → (a < k → slice_index_or fs a [] ≡ slice_index_or gs a []) →
     slice_index_or (fs ++ f ∷ []) a [] ≡ slice_index_or (gs ++ g ∷ []) a []
@@ -140,7 +136,7 @@ module _ {C : Type 0} (of_number : Frac → C) (number_of : C → Option Frac) (
               | inl e ↦ emptied_here a e (subst (IsUse p a) e at_last)
               | inr ne ↦
                   back.others a ne
-                  ∙ get-push_left old.standing.items kept (Forms []) a
+                  ∙ in_left old.standing.items (kept ∷ []) a (Forms [])
                   (so_far.given_back a i use_is (λ more. let past = more.1 in let b = last.last a more.0 more.2 in ne (omega (arith, le, past, b))))
             ]
           ]

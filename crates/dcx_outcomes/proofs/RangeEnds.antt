@@ -5,6 +5,7 @@ use Rattle.std.proofs.Props.{props}
 use mathlib.Core.HLevel.{is_prop→PathP}
 use Rattle.dcx_frac.specs.declared.fraction.Frac.{Frac}
 use Rattle.dcx_point.specs.Pairs.{Pairs}
+use Rattle.dcx_arena.proofs.Results.{same_Ok}
 use Rattle.dcx_call.specs.declared.attribute.Parameter.{Parameter}
 use Rattle.dcx_tree.specs.declared.problem.Problem.{Problem}
 use Rattle.dcx_tree.specs.Meaning.{IsFitting, setting_of}
@@ -40,11 +41,8 @@ use Rattle.dcx_outcomes.specs.RangeLaws.{RangeIsTold, HadMemory, RangesAreRight,
 use Rattle.dcx_outcomes.proofs.Asked.{are_right, same_end, are_one, right_there}
 
 -- ---- the program with affine coefficients
-same_ok : {A E : Type 0} (x y : A) → ◌≡◌ {A = Result A E} (Ok x) (Ok y) → x ≡ y
-same_ok x y e = cc
-
 pub one_map : (p : Problem) (q r : Program ParamForm) → IsMapOf p q → IsMapOf p r → q ≡ r
-one_map p q r m n = same_ok q r (one_affine p [] (Ok q) (Ok r) m.reduces n.reduces)
+one_map p q r m n = same_Ok q r (one_affine p [] (Ok q) (Ok r) m.reduces n.reduces)
 
 one_kept : (p : Problem) (o r : Option (Program ParamForm)) → IsKeptProgram p o → IsKeptProgram p r → o ≡ r
 one_kept p (Some q) (Some r) h k = ap Some (one_map p q r h k)

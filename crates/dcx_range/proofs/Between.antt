@@ -6,7 +6,7 @@ use Rattle.std.proofs.lemmas.Bool.{cases_eq, leb-false, leb-true}
 use Rattle.dcx_math.specs.Rational.{ℚ, whole, ◌+ℚ◌, ◌-ℚ◌, ◌*ℚ◌, ◌/ℚ◌, neg_ℚ, rat_le, rat_eq, ◌≤ℚ◌, ◌<ℚ◌}
 use Rattle.dcx_math.proofs.Orders.{≡-from_difference, ≤ℚ_trans, ≤ℚ_antisym, ≤ℚ_total, ≤ℚ-from_≡, ≤ℚ-≢, <ℚ-≤ℚ, <ℚ-from_not, neg_ℚ-<ℚ, neg_ℚ-zero, *ℚ-≤ℚ, linear, linear_eq}
 use Rattle.dcx_math.proofs.Products.{*ℚ-≤ℚ_turned, *ℚ-≤ℚ_cancel, *ℚ-zero_factor, /ℚ-*ℚ}
-use Rattle.dcx_math.proofs.Ratios.{IsTrue-rat_le, IsTrue-rat_eq}
+use Rattle.dcx_math.proofs.Ratios.{IsTrue-rat_le, IsTrue-rat_eq, rat_eq-false}
 use Rattle.dcx_math.proofs.Ring.{ring, reads}
 use Rattle.dcx_frac.specs.declared.fraction.Frac.{Frac}
 use Rattle.dcx_frac.specs.Frac.{value}
@@ -38,9 +38,6 @@ least a b e = by (≤ℚ_total a b)
 
 is_zero : (a : ℚ) → rat_eq a (whole (pos 0)) ≡ true → a ≡ whole (pos 0)
 is_zero a e = (IsTrue-rat_eq a (whole (pos 0))).0 e
-
-pub not_zero : (a : ℚ) → rat_eq a (whole (pos 0)) ≡ false → a ≢ whole (pos 0)
-not_zero a e h = let t = (IsTrue-rat_eq a (whole (pos 0))).1 h in cc
 
 -- ---- one end more
 greater_in : (end : Option Frac) (x : Frac) (v : ℚ) → IsFrom (Some (greater end x)) v → IsFrom end v × (value x ≤ℚ v)
@@ -217,7 +214,7 @@ module _ (t : Table) (i : ℕ) (s : IsSettled t i) (at d : Frac) (e f : Ends) (v
       let x = both_formed (zero_of at right d) (λ y. Ok (with_end d y e)) f g in
       let last = x.2 in
       let same : with_end d x.0 e ≡ f = cc in
-      end_in x.0 (leb-false t.plain (basic_at t.basis i) q) (not_zero (value d) p) x.1 (rat_le (value d) (value zero_frac)) refl (subst (λ (y : Ends). Within y v) (sym same) b)
+      end_in x.0 (leb-false t.plain (basic_at t.basis i) q) (rat_eq-false (value d) (whole (pos 0)) p) x.1 (rat_le (value d) (value zero_frac)) refl (subst (λ (y : Ends). Within y v) (sym same) b)
 
   pub row_in : row_ends t i at d e ≡ Ok f → Within f v → Within e v × IsAllowed t i (value at) (value d) v
   unfolding Holds
@@ -244,13 +241,13 @@ module _ (t : Table) (i : ℕ) (s : IsSettled t i) (at d : Frac) (e f : Ends) (v
       let l = leb-true t.plain (basic_at t.basis i) q in
       let here : v ≡ value at = ≡-from_difference
       (either (v -ℚ value at) (value d) (*ℚ-zero_factor (v -ℚ value at) (value d) (moved_zero (whole (right_at t i)) (v -ℚ value at) (value d) (s.artificial l) (h.artificial l)))
-      (not_zero (value d) p)) in
+      (rat_eq-false (value d) (whole (pos 0)) p)) in
       subst (λ (x : Ends). Within x v) same (up_out at (from_on at e) v (from_out at e v w (≤ℚ-from_≡ (sym here))) (≤ℚ-from_≡ here))
   by_out false false p q g w h =
       let x = both_formed (zero_of at right d) (λ y. Ok (with_end d y e)) f g in
       let last = x.2 in
       let same : with_end d x.0 e ≡ f = cc in
-      subst (λ (y : Ends). Within y v) same (end_out x.0 (not_zero (value d) p) x.1 w h (rat_le (value d) (value zero_frac)) refl)
+      subst (λ (y : Ends). Within y v) same (end_out x.0 (rat_eq-false (value d) (whole (pos 0)) p) x.1 w h (rat_le (value d) (value zero_frac)) refl)
 
   pub row_out : row_ends t i at d e ≡ Ok f → Within e v → IsAllowed t i (value at) (value d) v → Within f v
   row_out g w h = by_out (rat_eq (value d) (whole (pos 0))) (nat_le t.plain (basic_at t.basis i)) refl refl g w h

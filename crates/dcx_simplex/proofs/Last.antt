@@ -6,7 +6,7 @@ use Rattle.dcx_math.specs.Rational.{ℚ, whole, ◌+ℚ◌, ◌*ℚ◌, ◌/ℚ�
 use Rattle.dcx_math.specs.Sums.{rat_dot, rat_at, rat_sum_below}
 use Rattle.dcx_math.proofs.Points.{wholes}
 use Rattle.dcx_math.proofs.Ring.{ring, reads, /ℚ-is}
-use Rattle.dcx_math.proofs.Orders.{zero-*ℚ, *ℚ_comm, *ℚ_idr, ≤ℚ-from_≡, whole-≤ℤ, neg_ℚ-≤ℚ, neg_ℚ-zero}
+use Rattle.dcx_math.proofs.Orders.{zero-*ℚ, *ℚ_comm, *ℚ_idr, ≤ℚ-from_≡, whole-≤ℤ, neg_ℚ-nonnegative, neg_ℚ-zero}
 use Rattle.dcx_math.proofs.Products.{/ℚ-*ℚ, /ℚ-≤ℚ, ≤ℚ-/ℚ, whole-<ℤ}
 use Rattle.dcx_math.proofs.Sums.{rat_sum_below-one, rat_sum_below-same, rat_sum_below-zero, rat_sum_below-monotone, rat_at-get_or}
 use Rattle.dcx_tab.specs.Rows.{Row, entry, row_at, basic_at}
@@ -78,9 +78,6 @@ quotient_zero a l e = ap (λ z. whole z /ℚ whole l) e ∙ zero_over (whole l)
 
 pub back : (a l : ℤ) → pos 0 <ℤ l → whole l *ℚ (whole a /ℚ whole l) ≡ whole a
 back a l h = *ℚ_comm (whole l) (whole a /ℚ whole l) ∙ /ℚ-*ℚ (whole a) (whole l) (lead_some_of l h)
-
-pub negative_high : (x : ℚ) → x ≤ℚ whole (pos 0) → whole (pos 0) ≤ℚ neg_ℚ x
-negative_high x h = subst (λ u. u ≤ℚ neg_ℚ x) neg_ℚ-zero (neg_ℚ-≤ℚ h)
 
 cost_cancelled : (d l r : ℚ) → d ≡ whole (pos 0) → l *ℚ (r /ℚ l) ≡ r → (d +ℚ l *ℚ (r /ℚ l)) +ℚ r *ℚ whole (negsuc 0) ≡ whole (pos 0)
 cost_cancelled d l r e f = ap₂ (λ a b. (a +ℚ b) +ℚ r *ℚ whole (negsuc 0)) e f ∙ ring (r ∷ []) (search reads depth 30) tt
@@ -257,7 +254,7 @@ module _ (equations : List Row) (t : Table) (start : IsStart equations t) (u : T
         let g = b.1 in
         subst (λ x. whole (pos 0) ≤ℚ x) (sym ((columns j h).basic b.0 g b.2))
         (subst (λ k. whole (pos 0) ≤ℚ neg_ℚ (whole (entry_at u b.0 c) /ℚ whole (entry_at u b.0 k))) b.2
-        (negative_high _ (quotient_low (entry_at u b.0 c) (entry_at u b.0 (basic_at u.basis b.0)) (low b.0 g) (is_readable.positive b.0 g))))
+        (neg_ℚ-nonnegative _ (quotient_low (entry_at u b.0 c) (entry_at u b.0 (basic_at u.basis b.0)) (low b.0 g) (is_readable.positive b.0 g))))
     changes_high_by low j h (inr m) (inr n) = ≤ℚ-from_≡ (sym ((columns j h).other n m))
 
     -- no basic column falls where no row may leave

@@ -10,7 +10,7 @@ use Rattle.dcx_math.specs.Sums.{rat_dot, rat_at, rat_sum_below, rat_scaled, alon
 use Rattle.dcx_math.specs.IntegerSums.{int_dot}
 use Rattle.dcx_math.proofs.Points.{wholes}
 use Rattle.dcx_math.proofs.Ring.{ring, reads, /ℚ-is}
-use Rattle.dcx_math.proofs.Orders.{+ℚ_comm, +ℚ_idr, +ℚ_idl, -ℚ_idr, *ℚ-zero, *ℚ_comm, ≤ℚ-from_≡, +ℚ-nonnegative, linear_eq, whole-≤ℤ}
+use Rattle.dcx_math.proofs.Orders.{+ℚ_comm, +ℚ_idr, +ℚ_idl, -ℚ_idr, *ℚ-zero, *ℚ_comm, ≤ℚ-from_≡, +ℚ-nonnegative, linear_eq, whole-≤ℤ, neg_ℚ-nonnegative}
 use Rattle.dcx_math.proofs.Products.{/ℚ-unique, whole-<ℤ, *ℚ-nonnegative, *ℚ-nonpositive, *ℚ-positive, inverse-positive}
 use Rattle.dcx_math.proofs.Orders.{<ℚ-≤ℚ}
 use Rattle.dcx_math.proofs.Sums.{rat_sum_below-same, rat_sum_below-zero}
@@ -44,7 +44,7 @@ use Rattle.dcx_simplex.proofs.OwnColumns.{own_column, own_column_is}
 use Rattle.dcx_simplex.proofs.Bounds.{short, put_out, length_put_out, dot_put_out, rest, put_out_solves, rates, cost_bound, first_solved, first_cost, lead_some_of}
 use Rattle.dcx_simplex.proofs.Multipliers.{HasNotes, combined_is, factor_positive}
 use Rattle.dcx_simplex.proofs.Sides.{columns_opposite, not_both}
-use Rattle.dcx_simplex.proofs.Last.{rat_at-past, dot_none, dot_low, quotient_low, negative_high, at_cost_of, at_phase_of}
+use Rattle.dcx_simplex.proofs.Last.{rat_at-past, dot_none, dot_low, quotient_low, at_cost_of, at_phase_of}
 use Rattle.dcx_simplex.proofs.Last.{numbers_solve, numbers_high, numbers_none, changes_solve, changes_high, changes_none}
 
 -- ---- facts of rationals
@@ -200,7 +200,7 @@ module _ (p : Program) (u : Table) (end : IsEnded (first_tableau p).rows (first_
           let l = slack_low p.columns c.column i c.is in
           let own : IsOwnColumn p.columns i c.column = record { kind = λ n. absurd (n c.is); first = λ q e. c.is } in
           let r = reduced i c.column h own in
-          let high = negative_high _ (quotient_low (entry_at u k c.column) (lead_at u k) (none c.column (slack_plain i c.column c.is l)) positive) in
+          let high = neg_ℚ-nonnegative _ (quotient_low (entry_at u k c.column) (lead_at u k) (none c.column (slack_plain i c.column c.is l)) positive) in
           let f = ap (λ xs. rat_at xs i) reading.factors in
           sign_of (is_inequality p.columns i) _ a.status _ _ t (no_offset a.status) (subst (λ x. whole (pos 0) ≤ℚ x) (sym r) high)
           (subst (λ x. whole (pos 0) ≤ℚ x) (sym f) (<ℚ-≤ℚ (factor_positive p i h)))

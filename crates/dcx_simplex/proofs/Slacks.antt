@@ -1,6 +1,7 @@
 -- The own column of each row, found in the list of kinds.
 use Rattle.std.proofs.Common.{◌≡◌, ◌≢◌, ℕ, zero, suc, ◌<◌, Bool, true, false, nat_eq, List, [], ◌∷◌, length, refl, sym, ap, ◌∙◌, subst, ℤ, pos, negsuc, ◌⊎◌, inl, inr}
-use Rattle.std.specs.Prelude.{◌||◌, if◌then◌else◌}
+use Rattle.std.specs.Prelude.{if◌then◌else◌}
+use Rattle.std.proofs.lemmas.Bool.{or_left, or_right, or_from, eq-eqb}
 use Rattle.dcx_tab.specs.declared.rows.ColumnKind.{ColumnKind}
 use Rattle.dcx_tab.specs.declared.rows.ColumnKind.TheVariants.{Unknown, Slack, Artificial}
 use Rattle.dcx_tab.specs.declared.program.Program.{Program}
@@ -11,11 +12,11 @@ use Rattle.dcx_simplex.specs.Reading.{IsOwnColumn}
 use Rattle.dcx_lp_answer.specs.Right.{is_slack_of, is_inequality}
 use Rattle.dcx_simplex.proofs.ReadLists.{starts_by}
 use Rattle.dcx_simplex.proofs.Owns.{slack_or, own_low}
-use Rattle.dcx_simplex.proofs.Starts.{different, same_test, told_artificial_own}
+use Rattle.dcx_simplex.proofs.Starts.{different, told_artificial_own}
 
 slack_test : (k : ColumnKind) (i : ℕ) → k ≡ Slack i → is_slack_of i k ≡ true
 slack_test (Unknown u n) i e = cc
-slack_test (Slack r) i e = let f : i ≡ r = cc in subst (λ x. nat_eq r x ≡ true) (sym f) (same_test r)
+slack_test (Slack r) i e = let f : i ≡ r = cc in eq-eqb r i (sym f)
 slack_test (Artificial r) i e = cc
 
 not_slack_test : (k : ColumnKind) (i : ℕ) → k ≢ Slack i → is_slack_of i k ≡ false
@@ -33,18 +34,6 @@ pub record HasNone (kinds : List ColumnKind) (i : ℕ) : Type 0 where
   pub none : (j : ℕ) → kind_at kinds j ≢ Slack i
   pub equality : is_inequality kinds i ≡ false
 
-or_left : (a b : Bool) → a ≡ true → a || b ≡ true
-or_left true b h = refl
-or_left false b h = cc
-
-or_right : (a b : Bool) → b ≡ true → a || b ≡ true
-or_right true b h = refl
-or_right false b h = h
-
-or_none : (a b : Bool) → a ≡ false → b ≡ false → a || b ≡ false
-or_none true b h k = cc
-or_none false b h k = k
-
 none_more : (k : ColumnKind) (kinds : List ColumnKind) (i : ℕ) → k ≢ Slack i → ((j : ℕ) → kind_at kinds j ≢ Slack i) → (j : ℕ) → kind_at (k ∷ kinds) j ≢ Slack i
 none_more k kinds i n h zero = n
 none_more k kinds i n h (suc j) = h j
@@ -52,7 +41,7 @@ none_more k kinds i n h (suc j) = h j
 find_by : (k : ColumnKind) (kinds : List ColumnKind) (i : ℕ) → (k ≡ Slack i) ⊎ (k ≢ Slack i) → HasSlack kinds i ⊎ HasNone kinds i → HasSlack (k ∷ kinds) i ⊎ HasNone (k ∷ kinds) i
 find_by k kinds i (inl e) h = inl (record { column = 0; is = e; inequality = or_left _ _ (slack_test k i e) })
 find_by k kinds i (inr n) (inl s) = inl (record { column = suc s.column; is = s.is; inequality = or_right (is_slack_of i k) _ s.inequality })
-find_by k kinds i (inr n) (inr s) = inr (record { none = none_more k kinds i n s.none; equality = or_none _ _ (not_slack_test k i n) s.equality })
+find_by k kinds i (inr n) (inr s) = inr (record { none = none_more k kinds i n s.none; equality = or_from _ _ (not_slack_test k i n) s.equality })
 
 pub find_slack : (kinds : List ColumnKind) (i : ℕ) → HasSlack kinds i ⊎ HasNone kinds i
 find_slack [] i = inr (record { none = λ j e. cc; equality = refl })
@@ -107,7 +96,7 @@ module _ (p : Program) where
 
   own_slack : (k : ColumnKind) (i : ℕ) (negated : Bool) (z : ℤ) → k ≡ Slack i → told_entry i negated k z ≡ (if negated then negsuc 0 else pos 1)
   own_slack (Unknown u n) i negated z e = cc
-  own_slack (Slack r) i negated z e = let f : r ≡ i = cc in let d = subst (λ q. nat_eq q i ≡ true) (sym f) (same_test i) in rw d refl
+  own_slack (Slack r) i negated z e = let f : r ≡ i = cc in let d : nat_eq r i ≡ true = eq-eqb r i f in rw d refl
   own_slack (Artificial r) i negated z e = cc
 
   none_cost : (k : ColumnKind) (i : ℕ) (z : ℤ) → (k ≡ Slack i) ⊎ (k ≡ Artificial i) → unknown_entry k z ≡ pos 0

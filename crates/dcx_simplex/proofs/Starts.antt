@@ -3,7 +3,7 @@ use Rattle.std.proofs.Common.{◌≡◌, ◌≢◌, ℕ, zero, suc, ◌+◌, ◌
 use Rattle.std.proofs.Common.{◌+ℤ◌, ◌-ℤ◌, ◌<ℤ◌, ◌≤ℤ◌, unsigned_abs, arith, refl, sym, ap, ap₂, ◌∙◌, subst, ◌⊎◌, inl, inr}
 use Rattle.std.specs.Prelude.{Some, slice_get, nat_le, if◌then◌else◌}
 use Rattle.std.proofs.lemmas.Int.{ints}
-use Rattle.std.proofs.lemmas.Bool.{and_parts, cases_lt, cases_eq, eqb-true, le-leb, leb-true}
+use Rattle.std.proofs.lemmas.Bool.{and_parts, cases_lt, cases_eq, eqb-true, le-leb, leb-true, eq-eqb}
 use Rattle.std.proofs.lemmas.Bool.Decides.{nat_tests}
 use Rattle.std.proofs.lemmas.List.{get_or_append_left, get_or_at, get_or-append_right}
 use native.Mathlib.Nat.{eq-one_of_dvd-one}
@@ -133,9 +133,6 @@ dot_combination plain (r ∷ rows) last x e h =
 pub different : (a b : ℕ) → a ≢ b → nat_eq a b ≡ false
 different a b n = grind (arith, nat_tests)
 
-pub same_test : (a : ℕ) → nat_eq a a ≡ true
-same_test a = grind (arith, nat_tests)
-
 told_other : (k : ColumnKind) (i l : ℕ) (start negated : Bool) (z : ℤ) → may_start i start k ≡ true → l ≢ i → told_entry l negated k z ≡ pos 0
 told_other (Unknown u n) i l start negated z h m = cc
 told_other (Slack r) i l start negated z h m = let e = eqb-true r i (and_parts (nat_eq r i) (not start) h).0 in let d = different r l (λ q. m (sym q ∙ e)) in rw d refl
@@ -161,7 +158,7 @@ told_artificial (Artificial s) r l negated z e m = let f : s ≡ r = cc in let d
 pub told_artificial_own : (k : ColumnKind) (r : ℕ) (negated : Bool) (z : ℤ) → k ≡ Artificial r → told_entry r negated k z ≡ pos 1
 told_artificial_own (Unknown u n) r negated z e = cc
 told_artificial_own (Slack s) r negated z e = cc
-told_artificial_own (Artificial s) r negated z e = let f : s ≡ r = cc in let d = subst (λ q. nat_eq q r ≡ true) (sym f) (same_test r) in rw d refl
+told_artificial_own (Artificial s) r negated z e = let f : s ≡ r = cc in let d : nat_eq s r ≡ true = eq-eqb s r f in rw d refl
 
 module _ (rows : List IntRow) (kinds : List ColumnKind) (objective phase : CostRow) (form : IsProgram rows kinds objective phase) where
   -- the start column of a row

@@ -6,7 +6,7 @@ use Rattle.std.proofs.Common.{eq-eqb}
 use Rattle.std.proofs.lemmas.List.{get_or-map}
 use Rattle.dcx_math.specs.Rational.{ℚ, whole, ◌+ℚ◌, ◌*ℚ◌, neg_ℚ, rat_max, ◌≤ℚ◌}
 use Rattle.dcx_math.specs.Sums.{rat_at, rat_sum_by, rat_sum_below, rat_scaled, along}
-use Rattle.dcx_math.proofs.Orders.{+ℚ_idl, +ℚ_idr, ≤ℚ_refl, ≤ℚ_antisym, neg_ℚ-≤ℚ, neg_ℚ-zero, neg_ℚ-neg_ℚ, zero_shifted}
+use Rattle.dcx_math.proofs.Orders.{+ℚ_idl, +ℚ_idr, ≤ℚ_refl, ≤ℚ_antisym, neg_ℚ-neg_ℚ, zero_shifted, neg_ℚ-nonnegative, neg_ℚ-nonpositive}
 use Rattle.dcx_math.proofs.Bounds.{rat_max-cases, ≤ℚ-rat_max_left}
 use Rattle.dcx_math.proofs.Ring.{ring, reads}
 use Rattle.dcx_math.proofs.Sums.{rat_sum_below-first, rat_sum_below-same, rat_sum_below-+ℚ, rat_sum_below-*ℚ, rat_sum_by-++, rat_at-get_or}
@@ -62,22 +62,16 @@ no_part z h = by (rat_max-cases (whole (pos 0)) z)
     by (inl e) = e.0 ∙ ≤ℚ_antisym h e.1
     by (inr e) = e.0
 
-negative_low : (z : ℚ) → whole (pos 0) ≤ℚ z → neg_ℚ z ≤ℚ whole (pos 0)
-negative_low z h = subst (λ q. neg_ℚ z ≤ℚ q) neg_ℚ-zero (neg_ℚ-≤ℚ h)
-
-negative_high : (z : ℚ) → z ≤ℚ whole (pos 0) → whole (pos 0) ≤ℚ neg_ℚ z
-negative_high z h = subst (λ q. q ≤ℚ neg_ℚ z) neg_ℚ-zero (neg_ℚ-≤ℚ h)
-
 two_parts : (z : ℚ) → rat_max (whole (pos 0)) z +ℚ (neg_ℚ (rat_max (whole (pos 0)) (neg_ℚ z)) +ℚ whole (pos 0)) ≡ z
 two_parts z = by (rat_max-cases (whole (pos 0)) z)
   where
     by : ((rat_max (whole (pos 0)) z ≡ z) × (whole (pos 0) ≤ℚ z)) ⊎ ((rat_max (whole (pos 0)) z ≡ whole (pos 0)) × (z ≤ℚ whole (pos 0)))
         → rat_max (whole (pos 0)) z +ℚ (neg_ℚ (rat_max (whole (pos 0)) (neg_ℚ z)) +ℚ whole (pos 0)) ≡ z
-    by (inl e) = ap₂ (λ a b. a +ℚ (neg_ℚ b +ℚ whole (pos 0))) e.0 (no_part (neg_ℚ z) (negative_low z e.1)) ∙ ring (z ∷ []) (search reads depth 30) tt
-    by (inr e) = ap₂ (λ a b. a +ℚ (neg_ℚ b +ℚ whole (pos 0))) e.0 (positive_part (neg_ℚ z) (negative_high z e.1)) ∙ ring (z ∷ []) (search reads depth 30) tt
+    by (inl e) = ap₂ (λ a b. a +ℚ (neg_ℚ b +ℚ whole (pos 0))) e.0 (no_part (neg_ℚ z) (neg_ℚ-nonpositive z e.1)) ∙ ring (z ∷ []) (search reads depth 30) tt
+    by (inr e) = ap₂ (λ a b. a +ℚ (neg_ℚ b +ℚ whole (pos 0))) e.0 (positive_part (neg_ℚ z) (neg_ℚ-nonnegative z e.1)) ∙ ring (z ∷ []) (search reads depth 30) tt
 
 minus_part : (z : ℚ) → z ≤ℚ whole (pos 0) → neg_ℚ (rat_max (whole (pos 0)) (neg_ℚ z)) +ℚ whole (pos 0) ≡ z
-minus_part z h = +ℚ_idr (neg_ℚ (rat_max (whole (pos 0)) (neg_ℚ z))) ∙ ap neg_ℚ (positive_part (neg_ℚ z) (negative_high z h)) ∙ neg_ℚ-neg_ℚ z
+minus_part z h = +ℚ_idr (neg_ℚ (rat_max (whole (pos 0)) (neg_ℚ z))) ∙ ap neg_ℚ (positive_part (neg_ℚ z) (neg_ℚ-nonnegative z h)) ∙ neg_ℚ-neg_ℚ z
 
 -- ---- the unknowns of an assignment
 module _ (slacks : ℕ → ℚ) (y : Unknowns) (u : ℕ) where

@@ -2,7 +2,7 @@
 use Rattle.std.proofs.Common.{◌≡◌, ◌≢◌, ℕ, zero, suc, ◌+◌, ◌<◌, ◌≤◌, Bool, true, false, List, [], ◌∷◌, ◌++◌, map, length, get_or, Some, refl, sym, ap, ◌∙◌, subst, arith}
 use Rattle.std.specs.Prelude.{⊤, ◌||◌, slice_get}
 use Rattle.std.specs.List.{All, Contains}
-use Rattle.std.proofs.Common.{eq-eqb}
+use Rattle.std.proofs.lemmas.Bool.{eq-eqb, or_right}
 use Rattle.std.proofs.lemmas.List.{get_or_default}
 use Rattle.std.proofs.lemmas.List.Elements.{All-cons, All-nil}
 use Rattle.dcx_linear.specs.declared.row.UnknownKind.{UnknownKind}
@@ -77,11 +77,7 @@ allowed a (Nonpos ∷ kinds) (suc j) (suc i) minus kind l e s = let d : a + suc 
 inequality_of : (ks : List ColumnKind) (i j : ℕ) → j < length ks → kind_at ks j ≡ Slack i → has_slack_column ks i ≡ true
 inequality_of [] i j l e = absurd (omega (arith, l))
 inequality_of (k ∷ ks) i zero l e = ap (λ c. is_slack_of i c || has_slack_column ks i) e ∙ ap (λ b. b || has_slack_column ks i) (eq-eqb i i refl)
-inequality_of (k ∷ ks) i (suc j) l e = ap (λ b. is_slack_of i k || b) (inequality_of ks i j (omega (arith, l)) e) ∙ or_true (is_slack_of i k)
-  where
-    or_true : (b : Bool) → (b || true) ≡ true
-    or_true true = refl
-    or_true false = refl
+inequality_of (k ∷ ks) i (suc j) l e = ap (λ b. is_slack_of i k || b) (inequality_of ks i j (omega (arith, l)) e) ∙ or_right (is_slack_of i k) true refl
 
 module _ (kinds : List UnknownKind) (starts : List Start) where
   all_between : All (IsBetween 0 (length kinds)) (columns_of kinds starts)

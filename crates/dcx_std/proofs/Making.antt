@@ -8,6 +8,7 @@ use Rattle.std.proofs.lemmas.List.{map-append, take-append-drop, take_more, appe
 use Rattle.std.proofs.lemmas.List.Sums.{sum_by-cons}
 use Rattle.std.proofs.lemmas.Option.{slice_get-map}
 use Rattle.std.proofs.lemmas.List.Elements.{All-head, All-tail, All-cons, All-nil}
+use Rattle.dcx_math.proofs.Lists.{taken_more}
 use Rattle.dcx_frac.specs.declared.fraction.Frac.{Frac}
 use Rattle.dcx_frac.specs.declared.fraction.Passes.{Passes}
 use Rattle.dcx_linear.specs.declared.row.Row.{Row}
@@ -106,9 +107,6 @@ made_widths columns n i (w ∷ ws) (r ∷ rs) h =
     (made_widths columns n (suc i) ws rs h.1)
 
 -- ---- one more row
-pub taken_more : {A : Type 0} (xs : List A) (i : ℕ) (x : A) → i < length xs → x ≡ get_or xs i x → take (i + 1) xs ≡ take i xs ++ x ∷ []
-taken_more xs i x l is = take_more xs i x l ∙ ap (λ y. take i xs ++ y ∷ []) (sym is)
-
 pub row_made_more : (columns : List ColumnKind) (n : ℕ) (ws : List WholeRow) (i : ℕ) (w : WholeRow) (rs ss : List IntRow) (r : IntRow) → i < length ws → w ≡ get_or ws i w
     → AreMadeOf columns n 0 (take i ws) rs → IsMadeOf columns n i w r → ss ≡ rs ++ r ∷ [] → AreMadeOf columns n 0 (take (i + 1) ws) ss
 row_made_more columns n ws i w rs ss r l is h m e =

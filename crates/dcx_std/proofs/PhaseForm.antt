@@ -1,5 +1,5 @@
 -- The phase 1 row adds up the rows that start with an artificial.
-use Rattle.std.proofs.Common.{◌≡◌, ℕ, zero, suc, ◌+◌, ◌-◌, ◌<◌, ◌≤◌, ◌^◌, Bool, true, false, List, [], ◌∷◌, ◌++◌, map, length, get_or}
+use Rattle.std.proofs.Common.{◌≡◌, ℕ, ◌+◌, ◌-◌, ◌<◌, ◌≤◌, ◌^◌, Bool, true, false, List, [], ◌∷◌, ◌++◌, map, length, get_or}
 use Rattle.std.proofs.Common.{drop, Result, Ok, Err, refl, sym, ap, ap₂, ◌∙◌, subst, ℤ, pos, unsigned_abs, lit<, arith}
 use Rattle.std.specs.Prelude.{nat_le, if◌then◌else◌, filter, replicate, ◌+ℤ◌}
 use Rattle.std.specs.List.{All, range_with_len}
@@ -25,6 +25,7 @@ use Rattle.dcx_tab.specs.declared.rows.CostRow.{CostRow}
 use Rattle.dcx_tab.specs.declared.rows.ColumnKind.{ColumnKind}
 use Rattle.dcx_tab.specs.Rows.{entry, AllSmall}
 use Rattle.dcx_tab.specs.Program.{IsPhase, plain_count, sum_started, right_of}
+use Rattle.dcx_tab.proofs.RowLaws.{zeros_at}
 use Rattle.dcx_std.specs.WholeRows.{numerators}
 use Rattle.dcx_std.specs.IntegerRows.{starts_artificial, number_at, added_number, column_sum, phase_of, phase_made}
 use Rattle.dcx_lp_answer.proofs.Fractions.{value-whole}
@@ -101,11 +102,6 @@ phase_parts plain width rows c e = by (numerators (map (column_sum plain rows) (
 numerator_at : (rs : List (Result Frac Passes)) (ys : List Frac) (j : ℕ) → rs ≡ map Ok ys → j < length rs → (y : Frac) × (get_or rs j (Ok zero_frac) ≡ Ok y) × (get_or ys j zero_frac ≡ y)
 numerator_at rs ys j e l =
     (get_or ys j zero_frac, ap (λ s. get_or s j (Ok zero_frac)) e ∙ get_or-map Ok ys j zero_frac (Ok zero_frac) (subst (λ n. j < n) (ap length e ∙ length-map {B = Result Frac Passes} ys Ok) l), refl)
-
-zeros_at : (n j : ℕ) → entry (replicate n (pos 0)) j ≡ pos 0
-zeros_at zero j = refl
-zeros_at (suc n) zero = refl
-zeros_at (suc n) (suc j) = zeros_at n j
 
 zeros_small : (n : ℕ) → AllSmall (replicate n (pos 0))
 zeros_small n j = rw (zeros_at n j) (lit< tt)

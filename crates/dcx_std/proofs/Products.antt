@@ -18,6 +18,7 @@ use Rattle.dcx_frac.proofs.Results.{is_product_of}
 use Rattle.dcx_atom.specs.Formed.{zero_frac, frac_at, and_then}
 use Rattle.dcx_atom.proofs.FormedSums.{value-zero_frac, frac_at-zero}
 use Rattle.dcx_tab.specs.Rows.{entry}
+use Rattle.dcx_tab.proofs.RowLaws.{zeros_at}
 use Rattle.dcx_linear.specs.declared.form.Form.{Form}
 use Rattle.dcx_linear.specs.declared.form.FormTerm.{FormTerm}
 use Rattle.dcx_linear.specs.FormTerms.{unknown_of}
@@ -108,11 +109,6 @@ zero_product : (by : Frac) → product_of by zero_frac ≡ Ok zero_frac
 zero_product by =
     let exact : value zero_frac ≡ value by *ℚ value zero_frac = value-zero_frac ∙ sym (ap (λ q. value by *ℚ q) value-zero_frac ∙ *ℚ-zero (value by)) in
     sym (is_product_of by zero_frac (Ok zero_frac) (record { exact = exact; fits = ((λ s. subst IsRepresentable exact (value_representable zero_frac)), (λ k. refl)); told = tt }))
-
-zeros_at : (n j : ℕ) → entry (replicate n (pos 0)) j ≡ pos 0
-zeros_at zero j = refl
-zeros_at (suc n) zero = refl
-zeros_at (suc n) (suc j) = zeros_at n j
 
 module _ (by : Frac) (is_turned : Bool) where
   -- where no term is listed, all products are 0

@@ -83,6 +83,19 @@ starts_slacks n (r ∷ rows) (w ∷ ws) e =
     ∙ ap₂ ◌+◌ (ap slacks_for (whole_kind r.kind r.form (row_numbers n r.form) w (formed_by r.kind r.form (row_numbers n r.form) w m))) (starts_slacks n rows ws q)
     ∙ sym (sum_by-cons (λ (s : Row Frac). slacks_for s.kind) r rows)
 
+-- ---- the numbers of a cost
+module _ (n : ℕ) (f : Form Frac) where
+  pub coefficients_count : length (coefficients n f) ≡ n
+  coefficients_count = length-map-range_with_len (coefficient_at f.terms) 0 n
+
+  pub opposites_count : length (map opposite (coefficients n f)) ≡ n
+  opposites_count = length-map (coefficients n f) opposite ∙ coefficients_count
+
+  -- the coefficient of z is the last number
+  pub cost_lead : get_or (cost_numbers n f) (suc n) zero_frac ≡ one_frac
+  cost_lead = let e : suc n ≡ length (map opposite (coefficients n f)) + 1 = omega (arith, opposites_count) in ap (λ j. get_or (cost_numbers n f) j zero_frac) e
+      ∙ get_or-append-add (map opposite (coefficients n f)) (f.constant ∷ one_frac ∷ []) 1 zero_frac
+
 -- ---- the objective row is primitive
 module _ (n : ℕ) (kinds : List UnknownKind) (starts : List Start) (f : Form Frac) (w : WholeRow) (c : CostRow) (count : length kinds ≡ n) (made : cost_made n f ≡ Ok w)
     (cost : IsCostOf (columns_of kinds starts) n w c) where
@@ -90,17 +103,7 @@ module _ (n : ℕ) (kinds : List UnknownKind) (starts : List Start) (f : Form Fr
   formed = formed_by Equal f (cost_numbers n f) w made
 
   numbers_count : length (cost_numbers n f) ≡ n + 2
-  numbers_count = omega (arith, length-append (map opposite (coefficients n f)) (f.constant ∷ one_frac ∷ []), length-map (coefficients n f) opposite, coefficients_count)
-    where
-      coefficients_count : length (coefficients n f) ≡ n
-      coefficients_count = length-map-range_with_len (coefficient_at f.terms) 0 n
-
-  -- the coefficient of z is the last number
-  last_number : get_or (cost_numbers n f) (suc n) zero_frac ≡ one_frac
-  last_number =
-      let l : length (map opposite (coefficients n f)) ≡ n = length-map (coefficients n f) opposite ∙ length-map-range_with_len (coefficient_at f.terms) 0 n in
-      let e : suc n ≡ length (map opposite (coefficients n f)) + 1 = omega (arith, l) in
-      ap (λ j. get_or (cost_numbers n f) j zero_frac) e ∙ get_or-append-add (map opposite (coefficients n f)) (f.constant ∷ one_frac ∷ []) 1 zero_frac
+  numbers_count = omega (arith, length-append (map opposite (coefficients n f)) (f.constant ∷ one_frac ∷ []), opposites_count n f)
 
   multiple_small : unsigned_abs (pos formed.multiple) < 2 ^ 127
   multiple_small = (multiple_facts Equal f (cost_numbers n f) w formed).small
@@ -123,7 +126,7 @@ module _ (n : ℕ) (kinds : List UnknownKind) (starts : List Start) (f : Form Fr
       let count : length made.fractions ≡ n + 2 = sym (length-map made.fractions Ok) ∙ sym (ap length made.are) ∙ length-map (cost_numbers n f) (product_of by) ∙ numbers_count in
       let y = get_or made.fractions (suc n) zero_frac in
       let here : get_or rs (suc n) (Ok zero_frac) ≡ product_of by one_frac = get_or-map (product_of by) (cost_numbers n f) (suc n) zero_frac (Ok zero_frac)
-      (omega (arith, numbers_count)) ∙ ap (product_of by) last_number in
+      (omega (arith, numbers_count)) ∙ ap (product_of by) (cost_lead n f) in
       let there : get_or rs (suc n) (Ok zero_frac) ≡ Ok y = ap (λ s. get_or s (suc n) (Ok zero_frac)) made.are ∙ get_or-map Ok made.fractions (suc n) zero_frac (Ok zero_frac) (omega (arith, count)) in
       ap (λ zs. entry zs (suc n)) made.numerators ∙ get_or-map num_of made.fractions (suc n) zero_frac (pos 0) (omega (arith, count)) ∙ product_one y (sym here ∙ there)
 

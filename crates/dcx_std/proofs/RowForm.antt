@@ -4,7 +4,7 @@ use Rattle.std.specs.Prelude.{not, ◌||◌, ◌&&◌, nat_eq, int_lt, if◌then
 use Rattle.std.proofs.lemmas.Int.{ints}
 use Rattle.std.proofs.lemmas.List.{length-map, get_or-map}
 use Rattle.std.proofs.lemmas.Option.{slice_get_within, get_or_from_slice_get}
-use Rattle.std.proofs.lemmas.Bool.Decides.{nat_tests}
+use Rattle.std.proofs.lemmas.Bool.{eq-eqb}
 use Rattle.dcx_math.specs.Rational.{whole, ◌<ℚ◌}
 use Rattle.dcx_math.proofs.IntegerLaws.{unsigned_abs-neg}
 use Rattle.dcx_frac.specs.Frac.{value}
@@ -91,9 +91,6 @@ not_below z = by (int_lt z (pos 0)) refl
     by true e = omega (arith, ints)
     by false e = omega (arith, ints)
 
-same_row : (i : ℕ) → nat_eq i i ≡ true
-same_row i = grind (arith, nat_tests)
-
 -- a row may start with its column
 starts_so : (i : ℕ) (s : Start) → may_start i s.negated (start_column i s) ≡ true
 starts_so i s = by (needs_artificial s) refl
@@ -103,8 +100,8 @@ starts_so i s = by (needs_artificial s) refl
     kept false k e = refl
 
     by : (b : Bool) → needs_artificial s ≡ b → may_start i s.negated (if b then Artificial i else Slack i) ≡ true
-    by true e = same_row i
-    by false e = ap (λ t. t && not s.negated) (same_row i) ∙ kept s.negated (has_slack s) e
+    by true e = eq-eqb i i refl
+    by false e = ap (λ t. t && not s.negated) (eq-eqb i i refl) ∙ kept s.negated (has_slack s) e
 
 module _ (columns : List ColumnKind) (n i : ℕ) (w : WholeRow) (r : IntRow) (made : IsMadeOf columns n i w r) (small : AllSmall w.numbers) where
   abbrev negated : Bool

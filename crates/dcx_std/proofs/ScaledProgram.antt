@@ -1,8 +1,8 @@
 -- The program that is made has the rows of fractions times their factors.
 use Rattle.std.proofs.Common.{◌≡◌, ℕ, suc, ◌+◌, ◌<◌, Bool, true, false, List, [], ◌∷◌, length, map, get_or, Some, Ok, refl, sym, ap, ap₂, ◌∙◌, subst, arith, ℤ, pos, lit<}
 use Rattle.std.specs.Prelude.{slice_get}
-use Rattle.std.proofs.lemmas.List.{length-map, get_or_append_left, get_or-append-add, get_or_at, get_or-map}
-use Rattle.std.proofs.lemmas.List.FromFn.{length-map-range_with_len, get_or-map-range_with_len}
+use Rattle.std.proofs.lemmas.List.{get_or_append_left, get_or_at, get_or-map}
+use Rattle.std.proofs.lemmas.List.FromFn.{get_or-map-range_with_len}
 use Rattle.std.proofs.lemmas.Option.{slice_get_within, get_or_from_slice_get}
 use Rattle.dcx_math.specs.Rational.{ℚ, whole, ◌*ℚ◌, neg_ℚ}
 use Rattle.dcx_math.specs.Sums.{rat_scaled}
@@ -31,7 +31,7 @@ use Rattle.dcx_std.proofs.WholeRows.{IsFormedBy, formed_by, whole_kind, multiple
 use Rattle.dcx_std.proofs.Scaled.{scaled_numbers, scaled_at, value-opposite, whole_row_numbers, whole_cost_numbers}
 use Rattle.dcx_std.proofs.ColumnKinds.{unknown_below}
 use Rattle.dcx_std.proofs.RowForm.{mapped_entry, made_at, made_count}
-use Rattle.dcx_std.proofs.ProgramForm.{whole_of, wholes_count}
+use Rattle.dcx_std.proofs.ProgramForm.{whole_of, wholes_count, coefficients_count, opposites_count, cost_lead}
 
 -- a turned integer is the turned number
 whole-turned : (t : Bool) (z : ℤ) → whole (turned t z) ≡ turned_if t (whole z)
@@ -58,32 +58,22 @@ kinds_kept n (r ∷ rows) (w ∷ ws) e =
 
 -- ---- the numbers of a row
 module _ (n : ℕ) (f : Form Frac) where
-  coefficients_count : length (coefficients n f) ≡ n
-  coefficients_count = length-map-range_with_len (coefficient_at f.terms) 0 n
-
   coefficient_there : (u : ℕ) → u < n → get_or (coefficients n f) u zero_frac ≡ coefficient_at f.terms u
   coefficient_there u l = get_or-map-range_with_len (coefficient_at f.terms) 0 n u u zero_frac l (omega arith)
 
   row_coefficient : (u : ℕ) → u < n → get_or (row_numbers n f) u zero_frac ≡ coefficient_at f.terms u
-  row_coefficient u l = get_or_append_left (coefficients n f) (opposite f.constant ∷ []) zero_frac u (omega (arith, l, coefficients_count)) ∙ coefficient_there u l
+  row_coefficient u l = get_or_append_left (coefficients n f) (opposite f.constant ∷ []) zero_frac u (omega (arith, l, coefficients_count n f)) ∙ coefficient_there u l
 
   row_right : get_or (row_numbers n f) n zero_frac ≡ opposite f.constant
-  row_right = get_or_at (coefficients n f) (opposite f.constant) [] zero_frac n coefficients_count
-
-  opposites_count : length (map opposite (coefficients n f)) ≡ n
-  opposites_count = length-map (coefficients n f) opposite ∙ coefficients_count
+  row_right = get_or_at (coefficients n f) (opposite f.constant) [] zero_frac n (coefficients_count n f)
 
   cost_coefficient : (u : ℕ) → u < n → get_or (cost_numbers n f) u zero_frac ≡ opposite (coefficient_at f.terms u)
   cost_coefficient u l =
-      get_or_append_left (map opposite (coefficients n f)) (f.constant ∷ one_frac ∷ []) zero_frac u (omega (arith, l, opposites_count))
-      ∙ get_or-map opposite (coefficients n f) u zero_frac zero_frac (omega (arith, l, coefficients_count)) ∙ ap opposite (coefficient_there u l)
+      get_or_append_left (map opposite (coefficients n f)) (f.constant ∷ one_frac ∷ []) zero_frac u (omega (arith, l, opposites_count n f))
+      ∙ get_or-map opposite (coefficients n f) u zero_frac zero_frac (omega (arith, l, coefficients_count n f)) ∙ ap opposite (coefficient_there u l)
 
   cost_right : get_or (cost_numbers n f) n zero_frac ≡ f.constant
-  cost_right = get_or_at (map opposite (coefficients n f)) f.constant (one_frac ∷ []) zero_frac n opposites_count
-
-  cost_lead : get_or (cost_numbers n f) (suc n) zero_frac ≡ one_frac
-  cost_lead = let e : suc n ≡ length (map opposite (coefficients n f)) + 1 = omega (arith, opposites_count) in ap (λ j. get_or (cost_numbers n f) j zero_frac) e
-      ∙ get_or-append-add (map opposite (coefficients n f)) (f.constant ∷ one_frac ∷ []) 1 zero_frac
+  cost_right = get_or_at (map opposite (coefficients n f)) f.constant (one_frac ∷ []) zero_frac n (opposites_count n f)
 
 module _ (rows : GivenRows) (q : Program) (m : IsMade rows q) where
   abbrev n : ℕ

@@ -1,5 +1,6 @@
 -- Entries, products and common divisors of rows that are scaled, divided and mixed.
-use Rattle.std.proofs.Common.{◌≡◌, ◌≢◌, ℕ, zero, suc, ◌<◌, List, [], ◌∷◌, length, ℤ, pos, negsuc, ◌+ℤ◌, ◌-ℤ◌, ◌*ℤ◌, neg_ℤ, unsigned_abs, arith, refl, sym, ap, ap₂, ◌∙◌, subst, ⊎_elim, eq-zero-or-pos}
+use Rattle.std.proofs.Common.{◌≡◌, ◌≢◌, ℕ, zero, suc, ◌<◌, List, [], ◌∷◌, length, replicate, ℤ, pos, negsuc, ◌+ℤ◌, ◌-ℤ◌, ◌*ℤ◌, neg_ℤ}
+use Rattle.std.proofs.Common.{unsigned_abs, arith, refl, sym, ap, ap₂, ◌∙◌, subst, ⊎_elim, eq-zero-or-pos}
 use Rattle.std.specs.Prelude.{int_div}
 use Rattle.std.proofs.lemmas.Int.{ints}
 use native.Mathlib.Nat.{eq-zero_of_zero-dvd, dvd-zero}
@@ -26,6 +27,12 @@ pub entry-less : (p : ℤ) (xs : List ℤ) (q : ℤ) (ys : List ℤ) (j : ℕ) �
 entry-less p xs q ys j =
     entry-added (int_scaled p xs) (int_scaled (neg_ℤ q) ys) j ∙ ap (λ z. z +ℤ entry (int_scaled (neg_ℤ q) ys) j) (entry-scaled p xs j)
     ∙ less_is (p *ℤ entry xs j) (entry (int_scaled (neg_ℤ q) ys) j) q (entry ys j) (entry-scaled (neg_ℤ q) ys j)
+
+-- all entries of a row of zeros are 0
+pub zeros_at : (n j : ℕ) → entry (replicate n (pos 0)) j ≡ pos 0
+zeros_at zero j = refl
+zeros_at (suc n) zero = refl
+zeros_at (suc n) (suc j) = zeros_at n j
 
 pub length-mixed : (p r : ℤ) (xs ys : List ℤ) → length xs ≡ length ys → length (int_mixed p r xs ys) ≡ length xs
 length-mixed p r xs ys e =

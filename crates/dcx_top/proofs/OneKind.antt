@@ -1,5 +1,6 @@
 -- Runs of different kinds are of different commands.
 use Rattle.std.proofs.Common.{◌≡◌, ◌||◌, inl, inr, ℕ, Bool, true, false, List, Some, refl, sym, ap, ◌∙◌, true≢false}
+use Rattle.std.proofs.lemmas.Bool.{or_right}
 use Rattle.std.proofs.lemmas.Option.{none-some, same_Some}
 use Rattle.dcx_tree.specs.declared.constraint.Sense.{Sense}
 use Rattle.dcx_host.specs.Files.{Files}
@@ -33,10 +34,6 @@ may_be k (run.Filtered outcomes) = is_same filters k
 may_be k (run.Ranged parameter sense outcomes) = is_same ranges k
 may_be k run.ReadFault = true
 may_be k run.Memory = true
-
-or_true : (b : Bool) → (b || true) ≡ true
-or_true true = refl
-or_true false = refl
 
 module _ (words : List (List ℕ)) (files : Files) where
   -- ---- what the words of a run ask for
@@ -79,7 +76,7 @@ module _ (words : List (List ℕ)) (files : Files) where
       one_may_be (run.Checked c) h = same_kind checks (ask_checks c h.0)
       one_may_be (run.Solved word sense outcomes warm) h = same_kind solves (ask_solves old new (run.Solved word sense outcomes warm) h)
       one_may_be (run.Certificates text stopped) (inl h) = ap (λ b. b || is_same migrates k) (same_kind writes (ask_writes old new text stopped h))
-      one_may_be (run.Certificates text stopped) (inr (h, off, still)) = ap (λ b. is_same writes k || b) (same_kind migrates (ask_migrates text h)) ∙ or_true (is_same writes k)
+      one_may_be (run.Certificates text stopped) (inr (h, off, still)) = ap (λ b. is_same writes k || b) (same_kind migrates (ask_migrates text h)) ∙ or_right (is_same writes k) true refl
       one_may_be (run.Certified n) h = same_kind certifies (ask_certifies n h.0)
       one_may_be (run.CertRefused section fault) (misread c x h, still) = reading c x.name x.asked.form x.named
       one_may_be (run.CertRefused section fault) (failed c list x h, still) = reading c x.files.name x.files.asked.form x.files.named

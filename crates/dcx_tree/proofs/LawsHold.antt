@@ -6,9 +6,6 @@ use Rattle.std.proofs.lemmas.Option.{slice_get-map, same_Some}
 use Rattle.dcx_arena.specs.Nodes.{IsNode}
 use Rattle.dcx_arena.specs.Gather.{order_of, StandFor}
 use Rattle.dcx_call.specs.declared.attribute.Variable.{Variable}
-use Rattle.dcx_call.specs.declared.attribute.Parameter.{Parameter}
-use Rattle.dcx_call.specs.declared.call.Call.{Call}
-use Rattle.dcx_call.specs.declared.call.Call.TheVariants as calls
 use Rattle.dcx_convex.specs.Nodes.{Setting}
 use Rattle.dcx_convex.specs.Rules.{Plain}
 use Rattle.dcx_convex.proofs.LawsHold as convex
@@ -19,10 +16,9 @@ use Rattle.dcx_tree.specs.Gather.{positions_of, declared_in, has_variable}
 use Rattle.dcx_tree.specs.Meaning.{names_in, convex_problem}
 use Rattle.dcx_tree.specs.Laws.{TreesAreLawful, SignsAreTrue, AcceptedIsConvex, AnswersAgree, GatheringKeepsValues}
 use Rattle.dcx_tree.proofs.Lawful.{tree_lawful, problem_lawful}
-use Rattle.dcx_tree.proofs.Sublists.{contains_at}
 use Rattle.dcx_tree.proofs.Parts.{listed_whole, declared_kept}
 use Rattle.dcx_tree.specs.Values.{IsNamed}
-use Rattle.dcx_tree.proofs.Values.{part_value}
+use Rattle.dcx_tree.proofs.Values.{listed_named, part_value}
 
 pub trees_are_lawful : TreesAreLawful
 trees_are_lawful names nodes are = tree_lawful names nodes are
@@ -39,19 +35,6 @@ answers_agree p s =
     record { one_value = a.one_value; not_infeasible = a.not_infeasible; not_unbounded = a.not_unbounded; not_both = a.not_both }
 
 -- ---- gathering
--- what is listed is named
-named : (vs : List Variable) (ps : List Parameter) (call : Call) → IsListed vs ps call → IsNamed (record { variables = map (λ v. v.name) vs; parameters = map (λ q. q.name) ps }) call
-named vs ps (calls.Variable v) h =
-    let (k, at) = contains_at vs v h in
-    (k, slice_get-map (λ (x : Variable). x.name) vs k ∙ ap (option_map (λ (x : Variable). x.name)) at)
-named vs ps (calls.Parameter q) h =
-    let (k, at) = contains_at ps q h in
-    (k, slice_get-map (λ (x : Parameter). x.name) ps k ∙ ap (option_map (λ (x : Parameter). x.name)) at)
-named vs ps (calls.Constant x) h = tt
-named vs ps (calls.Atom m) h = tt
-named vs ps (calls.Linear l) h = tt
-named vs ps (calls.Pairing p) h = tt
-
 -- positions that stand for each other
 stand_at : (order xs' xs : List ℕ) (k i h : ℕ) → StandFor order xs' xs → slice_get xs k ≡ Some i → slice_get xs' k ≡ Some h → slice_get order h ≡ Some i
 stand_at order xs' xs k i h e at at' =
@@ -69,6 +52,6 @@ gathering_keeps_values source roots p are decl of setting point k i h at at' j =
     let l' : IsListed p.variables p.parameters n.call =
     subst (λ vs. IsListed vs p.parameters n.call) (sym of.variables)
     (subst (λ ps. IsListed (filter (λ (v : Variable). has_variable p.tree v.name) roots.variables) ps n.call) (sym of.parameters) (kept.listed t n in_part)) in
-    (named roots.variables roots.parameters n.call l, named p.variables p.parameters n.call l') in
+    (listed_named roots.variables roots.parameters n.call l, listed_named p.variables p.parameters n.call l') in
     ap (λ f. f j) (part_value source (positions_of roots) p.tree (roots_of p.objective p.constraints) are p.nodes g (declared_in roots) (names_in p) both setting point h i
     (stand_at (order_of source (positions_of roots)) (roots_of p.objective p.constraints) (positions_of roots) k i h g.roots_stand at at'))

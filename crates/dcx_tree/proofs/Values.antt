@@ -18,12 +18,16 @@ use Rattle.dcx_convex.specs.Nodes.{Numbers, first_of, value_by}
 use Rattle.dcx_convex.proofs.LawsHold.{nodes_are_told}
 use Rattle.dcx_call.specs.declared.call.Call.{Call}
 use Rattle.dcx_call.specs.declared.call.Call.TheVariants as calls
+use Rattle.dcx_call.specs.declared.attribute.Variable.{Variable}
+use Rattle.dcx_call.specs.declared.attribute.Parameter.{Parameter}
 use Rattle.dcx_call.specs.Calls.{shape_of}
 use Rattle.dcx_call.specs.Values.{given_by}
 use Rattle.dcx_tree.specs.Nodes.{Names, Node, number_in, head_of, arg_sides, convex_node, convex_nodes, numbers_by}
 use Rattle.dcx_tree.specs.Values.{IsNamed}
+use Rattle.dcx_tree.specs.Problems.{IsListed}
 use Rattle.dcx_tree.proofs.Parts.{part_node}
 use Rattle.dcx_tree.proofs.Lawful.{tree_lawful}
+use Rattle.dcx_tree.proofs.Sublists.{contains_at}
 
 -- ---- names and their numbers
 -- a name is found at its number
@@ -40,6 +44,19 @@ number_at (n ∷ names) k name e = by (λ h. number_at names h name) k e (same_n
 -- the numbers of a name are those that it is given
 pub taken : (names : List (List ℕ)) (given : Pairs) (k : ℕ) (name : List ℕ) → slice_get names k ≡ Some name → numbers_by names given (number_in names name) ≡ given_by given name
 taken names given k name e = ap (given_by given) (number_at names k name e)
+
+-- what is listed is named
+pub listed_named : (vs : List Variable) (ps : List Parameter) (call : Call) → IsListed vs ps call → IsNamed (record { variables = map (λ v. v.name) vs; parameters = map (λ q. q.name) ps }) call
+listed_named vs ps (calls.Variable v) h =
+    let (k, at) = contains_at vs v h in
+    (k, slice_get-map (λ (x : Variable). x.name) vs k ∙ ap (option_map (λ (x : Variable). x.name)) at)
+listed_named vs ps (calls.Parameter q) h =
+    let (k, at) = contains_at ps q h in
+    (k, slice_get-map (λ (x : Parameter). x.name) ps k ∙ ap (option_map (λ (x : Parameter). x.name)) at)
+listed_named vs ps (calls.Constant x) h = tt
+listed_named vs ps (calls.Atom m) h = tt
+listed_named vs ps (calls.Linear l) h = tt
+listed_named vs ps (calls.Pairing p) h = tt
 
 -- a head has one value, by whichever names
 same_head : (a b : Names) (setting point : Pairs) (call : Call) (args : List Sides) (sides : Sides) (values : List Numbers) → IsNamed a call → IsNamed b call →

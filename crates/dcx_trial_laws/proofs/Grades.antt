@@ -1,5 +1,6 @@
 -- The grades of what the rules say, where parameters are affine, of the nodes of a trial.
-use Rattle.std.proofs.Common.{◌≡◌, Bool, true, false, ◌&&◌, ◌||◌, [], ◌∷◌, refl, ap, ap₂, ◌∙◌}
+use Rattle.std.proofs.Common.{◌≡◌, Bool, true, false, ◌&&◌, [], ◌∷◌, refl, ap, ap₂, ◌∙◌}
+use Rattle.std.proofs.lemmas.Bool.{or_right}
 use Rattle.std.specs.List.{list_all}
 use Rattle.dcx_shape.specs.declared.shape.Shape.{Shape}
 use Rattle.dcx_atom.specs.declared.array.Array.{Array}
@@ -160,10 +161,6 @@ times-weight g h (n, u, e) (σ, f, v, d) =
     by false f true = refl
     by false f false = refl
 
-either : (b : Bool) → (b || true) ≡ true
-either true = refl
-either false = refl
-
 pub plus-end : (g h : Judgement) → IsCup g → IsEnd h → IsEnd (judged plus (g ∷ h ∷ []))
 plus-end g h (σ, f, v, e) (τ, k, u, w, d) =
     let j = of_two plus (said σ f true true v) (said τ k u true w) in
@@ -173,7 +170,7 @@ plus-end g h (σ, f, v, e) (τ, k, u, w, d) =
     all_constant v w = list_all (is_constant Parametrized) (said σ f true true v ∷ said τ k u true w ∷ [])
 
     by : (v w : Bool) → (of_two plus (said σ f true true v) (said τ k u true w)).convex ≡ true
-    by true true = either (all_constant true true)
-    by true false = either (all_constant true false)
-    by false true = either (all_constant false true)
-    by false false = either (all_constant false false)
+    by true true = or_right (all_constant true true) true refl
+    by true false = or_right (all_constant true false) true refl
+    by false true = or_right (all_constant false true) true refl
+    by false false = or_right (all_constant false false) true refl

@@ -5,7 +5,8 @@ use Rattle.std.proofs.lemmas.Option.{none-some, same_Some}
 use Rattle.std.proofs.lemmas.List.{length-append}
 use Rattle.dcx_atom.specs.Arrays.{joined_below}
 use Rattle.dcx_atom.proofs.BoundRows.{below_or_last}
-use Rattle.dcx_unknowns.proofs.Places.{in_left, in_right}
+use Rattle.dcx_math.proofs.Lists.{in_left}
+use Rattle.dcx_unknowns.proofs.Places.{in_right}
 
 -- P holds of each item
 abbrev pub Each : {A : Type 0} → (A → Type 0) → List A → Type 0

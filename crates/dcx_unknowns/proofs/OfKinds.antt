@@ -13,7 +13,8 @@ use Rattle.dcx_linear.specs.declared.row.UnknownKind.TheVariants as kinds
 use Rattle.dcx_linear.specs.FormTerms.{Unknowns}
 use Rattle.dcx_linear.specs.Rows.{IsOfKind, AreOfKinds}
 use Rattle.dcx_unknowns.specs.Layout.{aux_kind}
-use Rattle.dcx_unknowns.proofs.Places.{in_left, in_right, in_either}
+use Rattle.dcx_math.proofs.Lists.{in_left}
+use Rattle.dcx_unknowns.proofs.Places.{in_right, in_either}
 use Rattle.dcx_unknowns.specs.Equations.{is_nonneg, is_nonpos}
 use Rattle.dcx_unknowns.proofs.Lists.{flat_first, zip_at}
 

@@ -18,7 +18,8 @@ use Rattle.dcx_linear.specs.Size.{columns_for}
 use Rattle.dcx_unknowns.specs.Own.{own_count, own_before}
 use Rattle.dcx_unknowns.specs.Unknowns.{demanded, sides_in, own_of, Owner, owners_from, variable_unknowns, kind_of, own_kinds, variable_kinds, first_unknown, AreFirstsOf}
 use Rattle.dcx_unknowns.specs.Laws.{IsVariable, HasOwn, AreNumbered}
-use Rattle.dcx_unknowns.proofs.Places.{in_left, in_right, in_either, own_at, own_listed, own_count_is, own_before-le, places_next}
+use Rattle.dcx_math.proofs.Lists.{in_left}
+use Rattle.dcx_unknowns.proofs.Places.{in_right, in_either, own_at, own_listed, own_count_is, own_before-le, places_next}
 
 -- the unknowns of one variable
 abbrev pub count_of : Variable → ℕ

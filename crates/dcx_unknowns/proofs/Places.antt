@@ -6,7 +6,7 @@ use Rattle.std.proofs.lemmas.List.{map-id, append-nil}
 use Rattle.std.proofs.lemmas.List.Concat.{flat_map-append}
 use Rattle.std.proofs.lemmas.List.FromFn.{length-range_with_len, get_or-range_with_len, map-range_with_len_more}
 use Rattle.std.proofs.lemmas.List.Sums.{sum_by-cons, sum_by_push, length-filter, count_by-le-length}
-use Rattle.std.proofs.lemmas.Option.{none-some, slice_get_within, get_or_from_slice_get}
+use Rattle.std.proofs.lemmas.Option.{slice_get_within, get_or_from_slice_get}
 use Rattle.dcx_shape.specs.declared.shape.Sides.{Sides}
 use Rattle.dcx_shape.specs.Sides.{entries_of}
 use Rattle.dcx_shape.specs.Places.{places_below}
@@ -37,11 +37,6 @@ summed_next f k = ap (sum_by f) (places_next k) ∙ sum_by_push f (places_below 
 
 -- ---- lists that are joined
 module _ {A : Type 0} where
-  pub in_left : (xs ys : List A) (k : ℕ) (x : A) → slice_get xs k ≡ Some x → slice_get (xs ++ ys) k ≡ Some x
-  in_left [] ys k x e = absurd (none-some x e)
-  in_left (y ∷ xs) ys zero x e = e
-  in_left (y ∷ xs) ys (suc k) x e = in_left xs ys k x e
-
   pub in_right : (xs ys : List A) (k : ℕ) → slice_get (xs ++ ys) (length xs + k) ≡ slice_get ys k
   in_right [] ys k = ap (slice_get ys) (zero-add k)
   in_right (x ∷ xs) ys k =

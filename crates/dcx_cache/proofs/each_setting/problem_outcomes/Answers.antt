@@ -3,7 +3,8 @@ use Rattle.std.proofs.Common.{ℕ, List, length, Option, None, sym, subst}
 use Rattle.std.proofs.lemmas.Result.{IfOk-weaker}
 use Rattle.dcx_tree.specs.declared.problem.Problem.{Problem}
 use Rattle.dcx_cache.specs.InTurn.{EndInTurn}
-use Rattle.dcx_cache.proofs.Counting.{on_ok, counts, no_more, no_setting}
+use Rattle.dcx_arena.proofs.Results.{on_ok}
+use Rattle.dcx_cache.proofs.Counting.{counts, no_more, no_setting}
 use Rattle.dcx_cache.proofs.each_setting.problem_outcomes.Goals as goal
 
 pub session_outcomes-outcomes-requires : goal.session_outcomes-outcomes-requires

@@ -3,7 +3,7 @@ use Rattle.std.proofs.lemmas.Result.{err_from_is_err_and}
 use Rattle.dcx_cert_sections.proofs.Turns.{second_checked, first_failed}
 use Rattle.dcx_cert_values.specs.Forming.{divisors}
 use Rattle.dcx_cert_check.specs.SingleChecks.{parameters_fit}
-use Rattle.dcx_cert_check.proofs.Steps.{on_ok}
+use Rattle.dcx_arena.proofs.Results.{on_ok}
 use Rattle.dcx_cert_check.proofs.Given.{arrays_given}
 use Rattle.dcx_cert_check.proofs.fit.check_fit.Goals as goal
 

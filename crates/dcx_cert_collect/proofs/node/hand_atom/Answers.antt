@@ -5,10 +5,11 @@ use Rattle.dcx_shape.specs.Shape.{sides_of}
 use Rattle.dcx_atom.specs.Arrays.{sides_list}
 use Rattle.dcx_atom.specs.Steps.{AreSlopesOf, IsSlopeStop}
 use Rattle.dcx_arena.specs.Nodes.{positions}
+use Rattle.dcx_arena.proofs.Results.{on_ok}
 use Rattle.dcx_call.specs.Atoms.{atom_meaning}
 use Rattle.dcx_cert_collect.specs.Calls.{atom_shares}
 use Rattle.dcx_cert_collect.specs.Pass.{IsOrMemory, handed}
-use Rattle.dcx_cert_collect.proofs.Handing.{slopes_fit, on_ok, sized, atom_told, atom_stops, handed_ok, handed_stop}
+use Rattle.dcx_cert_collect.proofs.Handing.{slopes_fit, sized, atom_told, atom_stops, handed_ok, handed_stop}
 use Rattle.dcx_cert_collect.proofs.node.hand_atom.Goals as goal
 
 pub returns-in-Ok-clause-ok : goal.returns-in-Ok-clause-ok

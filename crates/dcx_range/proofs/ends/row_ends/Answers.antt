@@ -1,13 +1,13 @@
 -- Each row's ends are those of its case.
-use Rattle.std.proofs.Common.{rules, to_z-of_z, SFits, ◌≤◌, ◌<◌, ◌+◌, Ok, sym, ap, ◌∙◌, arith}
+use Rattle.std.proofs.Common.{rules, to_z-of_z, SFits, ◌≤◌, ◌<◌, ◌+◌, Ok, sym, ap, ◌∙◌, pos, arith}
 use Rattle.std.specs.Int.{w128}
 use Rattle.dcx_math.specs.Rational.{whole}
+use Rattle.dcx_math.proofs.Ratios.{rat_eq-false}
 use Rattle.dcx_atom.specs.Formed.{frac_at, and_then}
 use Rattle.dcx_tab.specs.Rows.{basic_at}
 use Rattle.dcx_tab.specs.Table.{entry_at}
 use Rattle.dcx_range.specs.Operations.{up_to, with_end}
 use Rattle.dcx_frac.specs.Frac.{value}
-use Rattle.dcx_range.proofs.Between.{not_zero}
 use Rattle.dcx_range.proofs.Changes.{ends_zero, ends_artificial, ends_plain}
 use Rattle.dcx_range.proofs.ends.row_ends.Goals as goal
 
@@ -42,4 +42,4 @@ returns-in-Err g c =
     ∙ ap (λ r. and_then r (λ x. Ok (with_end c.args.change x c.args.ends))) c.in-Err.is)
 
 pub zero_of-requires : goal.zero_of-requires
-zero_of-requires g c = not_zero (value c.args.change) (sym c.if-is_zero.ensures)
+zero_of-requires g c = rat_eq-false (value c.args.change) (whole (pos 0)) (sym c.if-is_zero.ensures)
