@@ -14,8 +14,7 @@
 //! | a node stands for one finite expression, and no other node for that one | `laws::sharing` |
 //! | the order of a part has the reached nodes, each once; its nodes stand for the expressions that they stood for | `laws::parts` |
 //!
-//! That a push takes no longer in a large tree, and that a part is made in linear time, is by design and in no contract: a
-//! test makes 20,000 nodes.
+//! That a push takes no longer in a large tree, and that a part is made in linear time, is by design and in no contract.
 #![tactic(auto)]
 
 mod fault;

@@ -1,5 +1,5 @@
 //! Rows are solved exactly: they are made whole, and the simplex method solves them over the linked tableau, by Bland's rule from the
-//! first basis, or, where that ends optimal, by a warm run from the basic columns of an earlier answer.
+//! first basis, or by a warm run from the basic columns of an earlier answer, where such a run ends optimal.
 //!
 //! `solve_rows` is the whole way by Bland's rule. Who has columns makes the scaled program of the rows once (`integer_rows` of
 //! `dcx_std`), and has it solved by `solve_warm`, and where that gives nothing by `solve_program`.

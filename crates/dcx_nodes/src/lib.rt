@@ -21,7 +21,7 @@
 //! | rows keep their node, their entry and their number | `rows` |
 //! | nodes are formed in one way, where the entries of parameters have one answer | `laws::one_forming` |
 //! | the forms of a node stand while it is asked for, and behind its last use an empty list | `forming`, `release`, `uses`, `specs/Uses.antt` |
-//! | one step is counted for each node that is begun | `form_nodes` |
+//! | one step is counted for each node where all are formed, and else at most one for each | `form_nodes`: `steps`, `begun` |
 #![tactic(auto)]
 
 mod calls;

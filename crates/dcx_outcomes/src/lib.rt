@@ -2,7 +2,7 @@
 //!
 //! | what must hold | where |
 //! |---|---|
-//! | an outcome has a place exactly where its stop names a node | `Outcome`, `FilterOutcome`, `RangeOutcome`, `names_node` of `specs/NodeStops.antt` |
+//! | an outcome has a place exactly where its stop names a node | `Outcome`, `FilterOutcome`, `RangeOutcome`, `names_node` of `dcx_answer` |
 //! | there is one outcome for each setting, in order: the session's answer, or its stop with the place of the node that it names | `outcomes`, `specs/Outcomes.antt`: `AreOutcomes` |
 //! | each answer among them is right for the problem at its setting, which fits; its points have an array of its shape for each variable, in order, and its multipliers the shapes of the constraints | `laws::outcomes_are_right`, `specs/Right.antt`: `AreRight`, by `IsRightAnswer` of `dcx_right` |
 //! | settings have one list of outcomes, with all their numbers; want of memory is free | `laws::outcomes_are_one` |
