@@ -1,10 +1,9 @@
 -- Arrays of numbers that are there.
-use Rattle.std.specs.Prelude.{◌≡◌, ◌≢◌, ℕ, ◌+◌, ◌/◌, ◌%◌, ◌<◌, ◌≤◌, nat_eq, false, pos, List, length, slice_index, Some, Result, Ok, Err}
+use Rattle.std.specs.Prelude.{◌≡◌, ◌≢◌, ℕ, ◌+◌, ◌/◌, ◌%◌, ◌<◌, ◌≤◌, pos, List, length, slice_index, Some, Result, Ok, Err}
 use Rattle.std.specs.Result.{result_ok}
 use Rattle.std.specs.List.{All}
 use Rattle.std.proofs.Common.{refl, sym, ap, ◌∙◌, arith, inl, inr, get_or, set, mul_comm}
-use Rattle.std.proofs.lemmas.Bool.{eq-eqb, cases_lt}
-use Rattle.std.proofs.lemmas.Bool.Decides.{nat_tests}
+use Rattle.std.proofs.lemmas.Bool.{eq-eqb, cases_lt, ne_eqb}
 use Rattle.std.proofs.lemmas.List.{get_or_default, length-set, get_or-set_same, get_or-set_other}
 use Rattle.dcx_math.specs.Rational.{whole, neg_ℚ}
 use Rattle.dcx_frac.specs.declared.fraction.Frac.{Frac}
@@ -68,14 +67,11 @@ picked_gives a picks shape places told answered h x e g =
     (formed_given shape (λ k. entry a (slice_index told k)) ∙ ap (λ ps. Ok (filled shape (λ k. entry a (slice_index ps k)))) e ∙ sym meant)
 
 -- ---- diagonals
-differs : (m n : ℕ) → ¬ (m ≡ n) → nat_eq m n ≡ false
-differs m n h = grind (arith, nat_tests)
-
 pub on_diagonal : (n k : ℕ) (one : Frac) → k / n ≡ k % n → value one ≡ whole (pos 1) → one ≡ identity_entry n k
 on_diagonal n k one e v = rw (eq-eqb (k / n) (k % n) e) (sym (ap frac_at (sym v) ∙ frac_at-value one))
 
 pub off_diagonal : (n k : ℕ) (zero : Frac) → ¬ (k / n ≡ k % n) → value zero ≡ whole (pos 0) → zero ≡ identity_entry n k
-off_diagonal n k zero e v = rw (differs (k / n) (k % n) e) (zero_frac-unique zero v)
+off_diagonal n k zero e v = rw (ne_eqb (k / n) (k % n) e) (zero_frac-unique zero v)
 
 -- ---- transposes
 pub transposed_entries : (s : Sides) → entries_of (transposed_sides s) ≡ entries_of s

@@ -1,10 +1,11 @@
 -- No entry of a divisor is 0 where all nodes are formed.
-use Rattle.std.proofs.Common.{◌≡◌, ◌≢◌, ℕ, ◌<◌, arith, Bool, true, false, not, ◌||◌, IsTrue, List, [], ◌∷◌, length, map, Option, Some, Result, Ok, Err, refl, sym, ap, ◌∙◌, subst, inl, inr, pos}
+use Rattle.std.proofs.Common.{◌≡◌, ◌≢◌, ℕ, ◌<◌, arith, Bool, true, false, not, IsTrue, List, [], ◌∷◌, length, map, Option, Some, Result, Ok, Err, refl, sym, ap, ◌∙◌, subst, inl, inr, pos}
 use Rattle.std.specs.List.{list_all, list_any, All}
 use Rattle.std.specs.Prelude.{if◌then◌else◌}
 use Rattle.std.proofs.lemmas.Bool.{and_parts}
 use Rattle.std.proofs.lemmas.List.Elements.{All-head, All-tail}
 use Rattle.std.proofs.lemmas.Option.{slice_get_within}
+use mathlib.Core.Bool.{or-false}
 use Rattle.dcx_math.specs.Rational.{ℚ, whole, rat_eq}
 use Rattle.dcx_math.proofs.Ratios.{rat_eq-false}
 use Rattle.dcx_frac.specs.declared.fraction.Frac.{Frac}
@@ -62,10 +63,6 @@ divided_nonzero j x y z e = by (rat_eq y (whole (pos 0))) refl e
     by : (t : Bool) → rat_eq y (whole (pos 0)) ≡ t → (if t then Err (stops.ZeroDivisor j) else or_passes j (quotient_of (frac_at x) (frac_at y))) ≡ Ok z → y ≢ whole (pos 0)
     by true d g = absurd (cc)
     by false d g = rat_eq-false y (whole (pos 0)) d
-
-alone_false : (b : Bool) → (b || false) ≡ false → b ≡ false
-alone_false true e = e
-alone_false false e = refl
 
 -- ---- constants
 second_constant : (rules : Rules) (args : List Judgement) → IsTrue (list_all (is_constant rules) args) → length args ≡ 2 → IsTrue (is_constant rules (argument args 1))
@@ -147,7 +144,7 @@ module _ {C : Type 0} (value_at : C → Parameters → ℚ) (of_number : Frac �
         by : (b : Bool) → list_any (has_zero_divisor number_of Divisor (args_among of_number forms n.args)) (record { left = j; right = j } ∷ []) ≡ b →
             PairEntryBy of_number number_of Sums Changes b Divisor (args_among of_number forms n.args) (record { left = j; right = j } ∷ []) j (Ok entry) → divisor j ≢ whole (pos 0)
         by true e g = absurd (cc)
-        by false e g = rat_eq-false (divisor j) (whole (pos 0)) (alone_false (rat_eq (divisor j) (whole (pos 0))) e)
+        by false e g = rat_eq-false (divisor j) (whole (pos 0)) (sym (or-false (rat_eq (divisor j) (whole (pos 0)))) ∙ e)
 
     number_nonzero : (j : ℕ) (x : Frac) → entry_formed n.call (given_by setting) (given_by []) (arg_sides p.tree n) (numbers_in number_of (args_among of_number forms n.args)) j ≡ Ok x
         → divisor j ≢ whole (pos 0)

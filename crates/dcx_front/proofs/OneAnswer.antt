@@ -3,6 +3,7 @@ use Rattle.std.proofs.Common.{◌≡◌, ◌≢◌, ◌⊎◌, inl, inr, ℕ, Li
 use Rattle.std.specs.Prelude.{Result}
 use Rattle.dcx_tokens.specs.declared.fault.ReadFault.{ReadFault}
 use Rattle.dcx_tokens.specs.declared.fault.ReadFault.TheVariants as reads
+use Rattle.dcx_arena.proofs.Results.{same_Ok}
 use Rattle.dcx_syntax.specs.declared.tree.Script.{Script}
 use Rattle.dcx_syntax.specs.View.{script_view}
 use Rattle.dcx_read.specs.Parses.{IsReading}
@@ -110,9 +111,6 @@ failed elabs.Memory given n h = absurd (n refl)
 same_work : (w v : Work) → w.problem ≡ v.problem → w.events ≡ v.events → w.last ≡ v.last → w ≡ v
 same_work w v p e l = λ i. record { problem = p i; events = e i; last = l i }
 
-same_meant : (x y : State × Asked) → ◌≡◌ {A = Result (State × Asked) ElabFault} (Ok x) (Ok y) → x ≡ y
-same_meant x y e = cc
-
 module _ (script other : Script) (view : script_view script ≡ script_view other) where
   same_meaning : (a b : Result (State × Asked) ElabFault) → meaning (script_view script) ≡ a → meaning (script_view other) ≡ b → a ≡ b
   same_meaning a b h k = sym h ∙ ap meaning view ∙ k
@@ -120,7 +118,7 @@ module _ (script other : Script) (view : script_view script ≡ script_view othe
   -- a script stands for one problem, with one list of settings
   pub one_work : (w v : Work) → Elaborates (Ok w) script → Elaborates (Ok v) other → w ≡ v
   one_work w v (s, (q, (m, is_w))) (t, (u, (n, is_v))) =
-      let both : (t, u) ≡ (s, q) = same_meant (t, u) (s, q) (sym (same_meaning (Ok (s, q)) (Ok (t, u)) m n)) in
+      let both : (t, u) ≡ (s, q) = same_Ok {A = State × Asked} {E = ElabFault} (t, u) (s, q) (sym (same_meaning (Ok (s, q)) (Ok (t, u)) m n)) in
       let also : IsWork s q v = subst (λ (x : State × Asked). IsWork x.0 x.1 v) both is_v in
       same_work w v (one_problem s.nodes (roots_in s q) w.problem v.problem is_w.problem also.problem) (is_w.events ∙ sym also.events) (is_w.last ∙ sym also.last)
 

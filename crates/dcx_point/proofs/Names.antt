@@ -1,11 +1,11 @@
 -- The names of pairs, and what stands under them.
-use Rattle.std.proofs.Common.{◌≡◌, ℕ, zero, suc, ◌<◌, true, false, List, [], ◌∷◌, length, Some, None, sym, ap, ◌∙◌, subst, true≢false, arith}
+use Rattle.std.proofs.Common.{◌≡◌, ℕ, zero, suc, ◌<◌, true, false, List, [], ◌∷◌, length, Some, None, ap, ◌∙◌, subst, arith}
 use Rattle.std.specs.Prelude.{slice_get}
 use Rattle.std.specs.List.{AllByRecursion, IsDistinct}
 use Rattle.std.proofs.lemmas.Option.{none-some, same_Some}
 use Rattle.dcx_atom.specs.declared.array.Array.{Array}
 use Rattle.dcx_point.specs.Pairs.{Pairs, same_name, names_of, array_of, AreDistinct}
-use Rattle.dcx_point.proofs.Puts.{same_name-refl, same_name-false}
+use Rattle.dcx_point.proofs.Puts.{same_name-refl, same_name-sym}
 
 -- the pair that has a name
 pub pair_at : (ps : Pairs) (i : ℕ) (name : List ℕ) → slice_get (names_of ps) i ≡ Some name → (a : Array) × (slice_get ps i ≡ Some (name, a))
@@ -27,7 +27,7 @@ all_at P (p ∷ ps) (suc i) x all e = all_at P ps i x all.1 e
 
 -- names that differ one way differ the other
 pub unlike : (a b : List ℕ) → same_name a b ≡ false → same_name b a ≡ false
-unlike a b e = same_name-false b a (λ f. true≢false (sym (same_name-refl a) ∙ ap (same_name a) (sym f) ∙ e))
+unlike a b e = same_name-sym b a ∙ e
 
 -- its array is that of its name
 pub array_at : (ps : Pairs) (i : ℕ) (x : List ℕ × Array) → AreDistinct ps → slice_get ps i ≡ Some x → array_of ps x.0 ≡ Some x.1

@@ -1,10 +1,10 @@
 -- A push of the tree is that of the definition, with the same fault.
-use Rattle.std.proofs.Common.{◌≡◌, ℕ, ◌+◌, Bool, true, false, nat_le, nat_eq, List, [], ◌∷◌, ◌++◌, length, map, Option, Some, None, Result, Ok, Err}
+use Rattle.std.proofs.Common.{◌≡◌, ℕ, ◌+◌, Bool, true, nat_le, nat_eq, List, [], ◌∷◌, ◌++◌, length, map, Option, Some, None, Result, Ok, Err}
 use Rattle.std.proofs.Common.{refl, sym, ap, ap₂, ◌∙◌, subst, arith, inl, inr}
 use Rattle.std.specs.Bool.{Decides}
 use Rattle.std.specs.List.{position_from}
 use Rattle.std.specs.Cmp.Lexicographic.{pointwise, bytes_decides}
-use Rattle.std.proofs.lemmas.Bool.{le-leb, lt-leb}
+use Rattle.std.proofs.lemmas.Bool.{le-leb, lt-leb, false_from_ne_true}
 use Rattle.dcx_shape.specs.declared.place.Place.{Place}
 use Rattle.dcx_shape.specs.declared.shape.Sides.{Sides}
 use Rattle.dcx_shape.specs.Sides.{entries_of}
@@ -27,27 +27,24 @@ use Rattle.dcx_script_values.specs.View.{Fails, Gives}
 use Rattle.dcx_script_state.proofs.SameCalls.{two, calls_decide}
 use Rattle.dcx_script_state.proofs.Found.{position_none, position_some}
 
-not_true : (b : Bool) → ¬ (b ≡ true) → b ≡ false
-not_true true h = absurd (h refl)
-not_true false h = refl
+-- whether a node is this call of these arguments
+pub is_of-decides : (call : Call) (args : List ℕ) (n : Node Call) → Decides (is_of call args n) (IsOf n call args)
+is_of-decides call args n =
+    two (same_call n.call call) (pointwise nat_eq n.args args) (calls_decide n.call call) (bytes_decides n.args args)
+    (λ e f. record { same_call = e; same_args = f }) (λ r. r.same_call) (λ r. r.same_args)
 
 module _ (s : State) (place : Place) (call : Call) (args : List ℕ) (are : AreNodes shape_of s.nodes) (there : are_there s.nodes args ≡ true) where
   -- ---- the node that is there
-  is_of-decides : (n : Node Call) → Decides (is_of call args n) (IsOf n call args)
-  is_of-decides n =
-      two (same_call n.call call) (pointwise nat_eq n.args args) (calls_decide n.call call) (bytes_decides n.args args)
-      (λ e f. record { same_call = e; same_args = f }) (λ r. r.same_call) (λ r. r.same_args)
-
   found_at : (i : ℕ) → Holds s.nodes call args i → position_from (is_of call args) 0 s.nodes ≡ Some i
   found_at i (n, at, of) =
-      position_some (is_of call args) 0 s.nodes i n at ((is_of-decides n).1 of)
+      position_some (is_of call args) 0 s.nodes i n at ((is_of-decides call args n).1 of)
       (λ j m at' t.
-      let of' = (is_of-decides m).0 t in
+      let of' = (is_of-decides call args m).0 t in
       are.distinct j i m n at' at (record { same_call = of'.same_call ∙ sym of.same_call; same_args = of'.same_args ∙ sym of.same_args }))
       ∙ ap Some (omega arith)
 
   new_none : IsNew s.nodes call args → position_from (is_of call args) 0 s.nodes ≡ None
-  new_none new = position_none (is_of call args) 0 s.nodes (λ i n at. not_true (is_of call args n) (λ t. new i (n, at, (is_of-decides n).0 t)))
+  new_none new = position_none (is_of call args) 0 s.nodes (λ i n at. false_from_ne_true (is_of call args n) (λ t. new i (n, at, (is_of-decides call args n).0 t)))
 
   -- ---- the definition, step by step
   abbrev node : Sides → Node Call

@@ -2,7 +2,7 @@
 use Rattle.std.proofs.Common.{◌≡◌, Bool, true, false, ◌&&◌, nat_eq, refl, ap, ap₂}
 use Rattle.std.specs.Bool.{Decides}
 use Rattle.std.specs.Cmp.Lexicographic.{pointwise, pointwise_decides, bytes_decides}
-use Rattle.std.proofs.lemmas.Bool.{and_parts}
+use Rattle.std.proofs.lemmas.Bool.{and_parts, and_from}
 use Rattle.std.proofs.lemmas.Bool.Decides.{Decides-eqb}
 use Rattle.dcx_math.specs.Rational.{rat_eq}
 use Rattle.dcx_math.proofs.Ratios.{IsTrue-rat_eq}
@@ -36,14 +36,9 @@ use Rattle.dcx_array.proofs.Equals.{index_from_parts}
 use Rattle.dcx_shape.proofs.OneShape.{shape_from_sides}
 use Rattle.dcx_atom.proofs.OneArray.{array_from_parts}
 
-joined : (a b : Bool) → a ≡ true → b ≡ true → (a && b) ≡ true
-joined true true e f = refl
-joined true false e f = f
-joined false b e f = e
-
 -- two tests that decide the parts decide the whole
 pub two : {P Q R : Type 0} (a b : Bool) → Decides a P → Decides b Q → (P → Q → R) → (R → P) → (R → Q) → Decides (a && b) R
-two a b p q whole first second = (λ e. let t = and_parts a b e in whole (p.0 t.0) (q.0 t.1), λ r. joined a b (p.1 (first r)) (q.1 (second r)))
+two a b p q whole first second = (λ e. let t = and_parts a b e in whole (p.0 t.0) (q.0 t.1), λ r. and_from a b (p.1 (first r)) (q.1 (second r)))
 
 -- a test of a part that is all of the whole
 one : {P R : Type 0} (a : Bool) → Decides a P → (P → R) → (R → P) → Decides a R

@@ -1,9 +1,10 @@
 -- Rows of numbers: as many numbers as their array has entries.
-use Rattle.std.specs.Prelude.{◌≡◌, ℕ, ◌*◌, ◌<◌, ◌≤◌, take, nat_eq, Bool, true, false, ◌||◌, List, [], ◌∷◌, map, length, None, if◌then◌else◌}
+use Rattle.std.specs.Prelude.{◌≡◌, ℕ, ◌*◌, ◌<◌, ◌≤◌, take, nat_eq, Bool, true, false, List, [], ◌∷◌, map, length, None, if◌then◌else◌}
 use Rattle.std.specs.List.{list_all, flat_map}
-use Rattle.std.proofs.Common.{refl, ap, ◌∙◌, arith, length-append, take_all}
+use Rattle.std.proofs.Common.{refl, ap, ◌∙◌, arith, length-append, take_all, sym}
 use Rattle.std.proofs.lemmas.Bool.{eqb-true, and_parts}
 use Rattle.std.proofs.lemmas.List.{length-map}
+use mathlib.Core.Bool.{or-false}
 use Rattle.dcx_frac.specs.declared.fraction.Frac.{Frac}
 use Rattle.dcx_shape.specs.declared.shape.Sides.TheVariants.{Vector, Matrix}
 use Rattle.dcx_shape.specs.Sides.{entries_of, HasFewEntries}
@@ -14,10 +15,6 @@ use Rattle.dcx_script_values.specs.Meant.{meant}
 use Rattle.dcx_script_values.proofs.ShapesAsked.{few_sides}
 use Rattle.dcx_script_values.specs.Values.{Value, plain, list, items_of}
 use Rattle.dcx_script_values.specs.Kinds.{is_number, number_of, is_list, list_items, is_long, are_rows, rows_sides, row_numbers, rows_array}
-
-or_false : (b : Bool) → (b || false) ≡ true → b ≡ true
-or_false true e = refl
-or_false false e = cc
 
 -- a row has as many numbers as it is long
 row_length : (n : ℕ) (v : Value) → is_long n v ≡ true → length (row_numbers v) ≡ n
@@ -46,7 +43,7 @@ numbers_length (v ∷ vs) e =
 pub length-rows : (vs : List Value) → are_rows vs ≡ true → length (flat_map row_numbers vs) ≡ entries_of (rows_sides vs)
 length-rows [] e = refl
 length-rows (list ws ∷ vs) e = rows_length (length (items_of ws)) (list ws ∷ vs) e
-length-rows (plain a ∷ vs) e = numbers_length (plain a ∷ vs) (or_false (list_all is_number (plain a ∷ vs)) e)
+length-rows (plain a ∷ vs) e = numbers_length (plain a ∷ vs) (sym (or-false (list_all is_number (plain a ∷ vs))) ∙ e)
 length-rows (v ∷ vs) e = cc
 
 -- ---- the array of rows

@@ -1,9 +1,8 @@
 -- What is read so far is spelled by the tokens so far, and is good.
 use Rattle.std.proofs.Common.{◌≡◌, ℕ, ◌+◌, ◌*◌, ◌<◌, ◌≤◌, Bool, true, false, not, IsTrue, ℤ, pos, List, [], ◌∷◌, ◌++◌, map, length, Option, Some, None, Result, Ok}
 use Rattle.std.proofs.Common.{Err, refl, sym, ap, ◌∙◌, subst, arith, append_assoc}
-use Rattle.std.specs.Prelude.{⊤, nat_le, nat_eq, if◌then◌else◌}
-use Rattle.std.proofs.lemmas.Bool.{and_from, and_parts, leb-true}
-use Rattle.std.proofs.lemmas.Bool.Decides.{nat_tests}
+use Rattle.std.specs.Prelude.{⊤, nat_le, if◌then◌else◌}
+use Rattle.std.proofs.lemmas.Bool.{and_from, and_parts, leb-true, eqb-true}
 use Rattle.std.proofs.lemmas.List.{append-nil, map-append, length-append}
 use Rattle.dcx_settings.specs.Terminal.{Terminal, name, digits, decimal, minus, slash, equal, comma, semicolon, open_square, close_square, open_curly, close_curly, newline}
 use Rattle.dcx_settings.specs.Grammar.{integer, point, quotient, sign_text, Number, number_text, Value, one, matrix, preceded, separated, row_text, value_text}
@@ -200,13 +199,10 @@ row_sound : (is : List Item) (n : List ℕ) (o : Outer) (xs : List Number) → I
 row_sound is n no_matrix xs g h r l e = (g, (r, l))
 row_sound is n (rows_before []) xs g h r l e = (g, record { some = omega arith; rows_are = ((r, refl), tt) }, omega (arith, l))
 row_sound is n (rows_before (first ∷ rs)) xs g h r l e =
-    let same : length xs ≡ length first = equal_lengths (length xs) (length first) e in
+    let same : length xs ≡ length first = eqb-true (length xs) (length first) e in
     let more = length-append (first ∷ rs) (xs ∷ []) in
     let k = h.1 in
     (g, record { some = omega (arith, more); rows_are = every_more (λ ys. IsGoodRow ys × (length ys ≡ length first)) (first ∷ rs) xs h.0.rows_are (r, same) }, rw more k)
-  where
-    equal_lengths : (a b : ℕ) → nat_eq a b ≡ true → a ≡ b
-    equal_lengths a b e = grind (arith, nat_tests)
 
 numbers_more : (xs : List Number) (x : Number) → followed comma (map number_text (xs ++ x ∷ [])) ≡ followed comma (map number_text xs) ++ (number_text x ++ comma ∷ [])
 numbers_more xs x = ap (followed comma) (map-append number_text xs (x ∷ [])) ∙ followed-more comma (map number_text xs) (number_text x)

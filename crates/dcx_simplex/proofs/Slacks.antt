@@ -1,7 +1,7 @@
 -- The own column of each row, found in the list of kinds.
 use Rattle.std.proofs.Common.{◌≡◌, ◌≢◌, ℕ, zero, suc, ◌<◌, Bool, true, false, nat_eq, List, [], ◌∷◌, length, refl, sym, ap, ◌∙◌, subst, ℤ, pos, negsuc, ◌⊎◌, inl, inr}
 use Rattle.std.specs.Prelude.{if◌then◌else◌}
-use Rattle.std.proofs.lemmas.Bool.{or_left, or_right, or_from, eq-eqb}
+use Rattle.std.proofs.lemmas.Bool.{or_left, or_right, or_from, eq-eqb, ne_eqb}
 use Rattle.dcx_tab.specs.declared.rows.ColumnKind.{ColumnKind}
 use Rattle.dcx_tab.specs.declared.rows.ColumnKind.TheVariants.{Unknown, Slack, Artificial}
 use Rattle.dcx_tab.specs.declared.program.Program.{Program}
@@ -12,7 +12,7 @@ use Rattle.dcx_simplex.specs.Reading.{IsOwnColumn}
 use Rattle.dcx_lp_answer.specs.Right.{is_slack_of, is_inequality}
 use Rattle.dcx_simplex.proofs.ReadLists.{starts_by}
 use Rattle.dcx_simplex.proofs.Owns.{slack_or, own_low}
-use Rattle.dcx_simplex.proofs.Starts.{different, told_artificial_own}
+use Rattle.dcx_simplex.proofs.Starts.{told_artificial_own}
 
 slack_test : (k : ColumnKind) (i : ℕ) → k ≡ Slack i → is_slack_of i k ≡ true
 slack_test (Unknown u n) i e = cc
@@ -21,7 +21,7 @@ slack_test (Artificial r) i e = cc
 
 not_slack_test : (k : ColumnKind) (i : ℕ) → k ≢ Slack i → is_slack_of i k ≡ false
 not_slack_test (Unknown u n) i m = refl
-not_slack_test (Slack r) i m = different r i (λ e. m (ap Slack e))
+not_slack_test (Slack r) i m = ne_eqb r i (λ e. m (ap Slack e))
 not_slack_test (Artificial r) i m = refl
 
 -- a row has a slack or none
@@ -86,13 +86,13 @@ module _ (p : Program) where
 
   none_slack : (k : ColumnKind) (l i : ℕ) (negated : Bool) (z : ℤ) → k ≡ Slack i → l ≢ i → told_entry l negated k z ≡ pos 0
   none_slack (Unknown u n) l i negated z e m = cc
-  none_slack (Slack r) l i negated z e m = let f : r ≡ i = cc in let d = different r l (λ q. m (sym q ∙ f)) in rw d refl
+  none_slack (Slack r) l i negated z e m = let f : r ≡ i = cc in let d = ne_eqb r l (λ q. m (sym q ∙ f)) in rw d refl
   none_slack (Artificial r) l i negated z e m = cc
 
   none_artificial : (k : ColumnKind) (l i : ℕ) (negated : Bool) (z : ℤ) → k ≡ Artificial i → l ≢ i → told_entry l negated k z ≡ pos 0
   none_artificial (Unknown u n) l i negated z e m = cc
   none_artificial (Slack r) l i negated z e m = cc
-  none_artificial (Artificial r) l i negated z e m = let f : r ≡ i = cc in let d = different r l (λ q. m (sym q ∙ f)) in rw d refl
+  none_artificial (Artificial r) l i negated z e m = let f : r ≡ i = cc in let d = ne_eqb r l (λ q. m (sym q ∙ f)) in rw d refl
 
   own_slack : (k : ColumnKind) (i : ℕ) (negated : Bool) (z : ℤ) → k ≡ Slack i → told_entry i negated k z ≡ (if negated then negsuc 0 else pos 1)
   own_slack (Unknown u n) i negated z e = cc

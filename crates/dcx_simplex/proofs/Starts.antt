@@ -3,8 +3,7 @@ use Rattle.std.proofs.Common.{◌≡◌, ◌≢◌, ℕ, zero, suc, ◌+◌, ◌
 use Rattle.std.proofs.Common.{◌+ℤ◌, ◌-ℤ◌, ◌<ℤ◌, ◌≤ℤ◌, unsigned_abs, arith, refl, sym, ap, ap₂, ◌∙◌, subst, ◌⊎◌, inl, inr}
 use Rattle.std.specs.Prelude.{Some, slice_get, nat_le, if◌then◌else◌}
 use Rattle.std.proofs.lemmas.Int.{ints}
-use Rattle.std.proofs.lemmas.Bool.{and_parts, cases_lt, cases_eq, eqb-true, le-leb, leb-true, eq-eqb}
-use Rattle.std.proofs.lemmas.Bool.Decides.{nat_tests}
+use Rattle.std.proofs.lemmas.Bool.{and_parts, cases_lt, cases_eq, eqb-true, le-leb, leb-true, eq-eqb, ne_eqb}
 use Rattle.std.proofs.lemmas.List.{get_or_append_left, get_or_at, get_or-append_right}
 use native.Mathlib.Nat.{eq-one_of_dvd-one}
 use Prim.Native.Nat.{◌∣◌}
@@ -130,13 +129,10 @@ dot_combination plain (r ∷ rows) last x e h =
     (int_dot-added (tableau_row r) (combination plain rows last) x ∙ omega (arith, ints, d, ih)) ih
 
 -- ---- kinds of columns
-pub different : (a b : ℕ) → a ≢ b → nat_eq a b ≡ false
-different a b n = grind (arith, nat_tests)
-
 told_other : (k : ColumnKind) (i l : ℕ) (start negated : Bool) (z : ℤ) → may_start i start k ≡ true → l ≢ i → told_entry l negated k z ≡ pos 0
 told_other (Unknown u n) i l start negated z h m = cc
-told_other (Slack r) i l start negated z h m = let e = eqb-true r i (and_parts (nat_eq r i) (not start) h).0 in let d = different r l (λ q. m (sym q ∙ e)) in rw d refl
-told_other (Artificial r) i l start negated z h m = let e = eqb-true r i h in let d = different r l (λ q. m (sym q ∙ e)) in rw d refl
+told_other (Slack r) i l start negated z h m = let e = eqb-true r i (and_parts (nat_eq r i) (not start) h).0 in let d = ne_eqb r l (λ q. m (sym q ∙ e)) in rw d refl
+told_other (Artificial r) i l start negated z h m = let e = eqb-true r i h in let d = ne_eqb r l (λ q. m (sym q ∙ e)) in rw d refl
 
 told_own : (k : ColumnKind) (i : ℕ) (negated : Bool) (z : ℤ) → may_start i negated k ≡ true → told_entry i negated k z ≡ pos 1
 told_own (Unknown u n) i negated z h = cc
@@ -153,7 +149,7 @@ unknown_none (Artificial r) i start z h = refl
 told_artificial : (k : ColumnKind) (r l : ℕ) (negated : Bool) (z : ℤ) → k ≡ Artificial r → l ≢ r → told_entry l negated k z ≡ pos 0
 told_artificial (Unknown u n) r l negated z e m = cc
 told_artificial (Slack s) r l negated z e m = cc
-told_artificial (Artificial s) r l negated z e m = let f : s ≡ r = cc in let d = different s l (λ q. m (sym q ∙ f)) in rw d refl
+told_artificial (Artificial s) r l negated z e m = let f : s ≡ r = cc in let d = ne_eqb s l (λ q. m (sym q ∙ f)) in rw d refl
 
 pub told_artificial_own : (k : ColumnKind) (r : ℕ) (negated : Bool) (z : ℤ) → k ≡ Artificial r → told_entry r negated k z ≡ pos 1
 told_artificial_own (Unknown u n) r negated z e = cc

@@ -1,9 +1,8 @@
 -- A program's rows, columns and first tableau, place by place.
 use Rattle.std.proofs.Common.{◌≡◌, ◌≢◌, ℕ, zero, suc, ◌+◌, ◌-◌, ◌*◌, ◌<◌, ◌≤◌, Bool, true, false, List, [], ◌∷◌, ◌++◌, map, length, get_or, arith, refl, sym, ap, ◌∙◌, subst, ℤ, ◌⊎◌, inl, inr}
-use Rattle.std.specs.Prelude.{Some, slice_get, nat_lt, if◌then◌else◌}
+use Rattle.std.specs.Prelude.{Some, slice_get, if◌then◌else◌}
 use Rattle.std.proofs.lemmas.List.{length-map, length-append, get_or_append_left, get_or-append_right, get_or_at}
-use Rattle.std.proofs.lemmas.Bool.{cases_lt}
-use Rattle.std.proofs.lemmas.Bool.Decides.{nat_tests}
+use Rattle.std.proofs.lemmas.Bool.{cases_lt, le-ltb}
 use Rattle.dcx_tab.specs.declared.rows.ColumnKind.{ColumnKind}
 use Rattle.dcx_tab.specs.declared.rows.ColumnKind.TheVariants.{Unknown, Slack, Artificial}
 use Rattle.dcx_tab.specs.declared.rows.IntRow.{IntRow}
@@ -51,10 +50,7 @@ plain_count_le (k ∷ kinds) = by (is_plain k) (plain_count kinds) (length kinds
 
 module _ (rows : List IntRow) (kinds : List ColumnKind) (objective phase : CostRow) (form : IsProgram rows kinds objective phase) where
   pub from_plain : (j : ℕ) → plain_count kinds ≤ j → j < length kinds → IsArtificial kinds j
-  from_plain j h l = artificial_by kinds j (kind_at kinds j) refl (form.ordered j l ∙ past j (plain_count kinds) h)
-    where
-      past : (a b : ℕ) → b ≤ a → nat_lt a b ≡ false
-      past a b h = grind (arith, nat_tests)
+  from_plain j h l = artificial_by kinds j (kind_at kinds j) refl (form.ordered j l ∙ le-ltb j (plain_count kinds) h)
 
   artificial_row : (i : ℕ) → i < length kinds - plain_count kinds → IsArtificial kinds (plain_count kinds + i)
   artificial_row i h = from_plain (plain_count kinds + i) (omega arith) (omega arith)

@@ -1,27 +1,10 @@
 -- Tests of characters and numbers, and constructors that differ or are the same.
-use Rattle.std.proofs.Common.{◌≡◌, ◌≢◌, ℕ, ◌<◌, Bool, true, false, eqb, ◌&&◌, List, [], ◌∷◌, ◌++◌, Option, Some, None, refl, sym, ◌∙◌, arith}
+use Rattle.std.proofs.Common.{◌≡◌, ◌≢◌, ℕ, ◌<◌, Bool, true, false, eqb, List, [], ◌∷◌, ◌++◌, Option, Some, None, refl, sym, ◌∙◌, arith}
 use Rattle.std.proofs.lemmas.Bool.Decides.{nat_tests}
 use Rattle.dcx_tokens.specs.Front.{ends_line}
 
 pub never_both : (b : Bool) → b ≡ true → b ≡ false → ⊥
 never_both b e f = cc
-
-pub left : (a b : Bool) → (a && b) ≡ true → a ≡ true
-left true b e = refl
-left false b e = cc
-
-pub right : (a b : Bool) → (a && b) ≡ true → b ≡ true
-right true b e = e
-right false b e = absurd (cc)
-
-pub is_char : (c n : ℕ) → eqb c n ≡ true → c ≡ n
-is_char c n e = grind (arith, nat_tests)
-
-pub not_char : (c n : ℕ) → eqb c n ≡ false → c ≢ n
-not_char c n e = grind (arith, nat_tests)
-
-pub other_char : (c n : ℕ) → c ≢ n → eqb c n ≡ false
-other_char c n h = grind (arith, nat_tests)
 
 -- a line feed ends a line, whatever comes behind it
 pub feed_ends : (cs : List ℕ) → ends_line 10 cs ≡ true
@@ -31,14 +14,8 @@ feed_ends (c ∷ cs) = refl
 pub not_zero : (n : ℕ) → eqb n 0 ≡ false → 0 < n
 not_zero n e = grind (arith, nat_tests)
 
-pub none_is : {A : Type 0} (a : A) → ◌≡◌ {A = Option A} None (Some a) → ⊥
-none_is a e = cc
-
 pub some_is : {A : Type 0} (a : A) (o : Option A) → Some a ≡ o → o ≢ None
 some_is a o e none = let no : ◌≡◌ {A = Option _} (Some a) None = e ∙ none in cc
-
-pub same_some : {A : Type 0} (a b : A) → ◌≡◌ {A = Option A} (Some a) (Some b) → a ≡ b
-same_some a b e = cc
 
 -- ---- lists
 pub nil_not : {A : Type 0} (x : A) (xs : List A) → ◌≡◌ {A = List A} [] (x ∷ xs) → ⊥

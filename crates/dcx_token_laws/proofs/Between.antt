@@ -3,7 +3,7 @@ use Rattle.std.proofs.Common.{◌≡◌, inl, inr, ℕ, zero, suc, ◌+◌, ◌-
 use Rattle.std.specs.Prelude.{IsTrue, not, nat_lt, get_or, ◌≤◌}
 use Rattle.std.specs.List.{All, prefix_len}
 use Rattle.std.proofs.Math.Numerals.{one-add}
-use Rattle.std.proofs.lemmas.Bool.{ltb-true, ltb-false}
+use Rattle.std.proofs.lemmas.Bool.{ltb-true, ltb-false, eqb-true}
 use Rattle.std.proofs.lemmas.Bool.Decides.{nat_tests}
 use Rattle.std.proofs.lemmas.List.Elements.{All-nil, All-cons}
 use Rattle.std.proofs.lemmas.List.{take-append-drop}
@@ -12,7 +12,7 @@ use Rattle.std.proofs.lemmas.List.Sums.{prefix_len_stops}
 use Rattle.std.proofs.lemmas.List.Folds.{length-prefix_len}
 use Rattle.dcx_tokens.specs.Front.{run_of, is_blank, ends_line, line_end_len, up_to_line_end, is_not_line_feed}
 use Rattle.dcx_token_laws.specs.Cut.{AreBlanks, IsLineEnd, EndsLine, HasNoLineEnd, IsComment}
-use Rattle.dcx_token_laws.proofs.Basics.{is_char, never_both}
+use Rattle.dcx_token_laws.proofs.Basics.{never_both}
 
 -- those that are counted from the front on pass
 pub run_passes : (p : ℕ → Bool) (cs : List ℕ) → All (λ c. IsTrue (p c)) (take (prefix_len p cs) cs)
@@ -34,16 +34,16 @@ are_blanks c cs n b count =
 -- ---- line ends
 pub is_line_end : (c : ℕ) (cs : List ℕ) (n : ℕ) → ends_line c cs ≡ true → n ≡ line_end_len c → IsLineEnd (take n (c ∷ cs))
 is_line_end c [] n l count =
-    let c10 = is_char c 10 l in
+    let c10 = eqb-true c 10 l in
     let one : n ≡ 1 = count ∙ ap line_end_len c10 in
     inl (rw (one, c10) refl)
 is_line_end c (d ∷ ds) n l count = by (eqb c 10) (eqb c 13) (eqb d 10) refl refl refl l
   where
     by : (a b e : Bool) → eqb c 10 ≡ a → eqb c 13 ≡ b → eqb d 10 ≡ e → (a || (b && e)) ≡ true → IsLineEnd (take n (c ∷ d ∷ ds))
-    by true b e ea eb ee h = let c10 = is_char c 10 ea in let one : n ≡ 1 = count ∙ ap line_end_len c10 in inl (rw (one, c10) refl)
+    by true b e ea eb ee h = let c10 = eqb-true c 10 ea in let one : n ≡ 1 = count ∙ ap line_end_len c10 in inl (rw (one, c10) refl)
     by false true true ea eb ee h =
-        let c13 = is_char c 13 eb in
-        let d10 = is_char d 10 ee in
+        let c13 = eqb-true c 13 eb in
+        let d10 = eqb-true d 10 ee in
         let two : n ≡ 2 = count ∙ ap line_end_len c13 in
         inr (rw (two, c13, d10) refl)
     by false true false ea eb ee h = absurd (cc)
@@ -118,7 +118,7 @@ return_next cs n some within is e =
     let m = n - 1 in
     let next : suc m ≡ n = omega arith in
     let feed : get_or cs n 0 ≡ 10 = line_feed (get_or cs n 0) (subst (λ i. is_not_line_feed (get_or cs i 0) ≡ false) (sym is) (prefix_len_stops is_not_line_feed cs 0 (omega arith))) in
-    let return : get_or cs m 0 ≡ 13 = is_char (get_or cs m 0) 13 e in
+    let return : get_or cs m 0 ≡ 13 = eqb-true (get_or cs m 0) 13 e in
     let first : drop m cs ≡ get_or cs m 0 ∷ drop (suc m) cs = drop-cons cs m 0 (omega arith) in
     let second : drop n cs ≡ get_or cs n 0 ∷ drop (suc n) cs = drop-cons cs n 0 within in
     let both : drop m cs ≡ 13 ∷ 10 ∷ drop (suc n) cs =
@@ -146,4 +146,4 @@ comment_by c cs n run false b d h is ea eb ed e =
 pub is_comment : (c : ℕ) (cs : List ℕ) (n : ℕ) → eqb c 35 ≡ true → n ≡ 1 + up_to_line_end cs → IsComment (take n (c ∷ cs)) (drop n (c ∷ cs))
 is_comment c cs n h count =
     let run = run_of is_not_line_feed cs in
-    comment_by c cs n run (nat_lt 0 run) (nat_lt run (length cs)) (eqb (get_or cs (run - 1) 0) 13) (is_char c 35 h) (run_is is_not_line_feed cs) refl refl refl count
+    comment_by c cs n run (nat_lt 0 run) (nat_lt run (length cs)) (eqb (get_or cs (run - 1) 0) 13) (eqb-true c 35 h) (run_is is_not_line_feed cs) refl refl refl count

@@ -9,6 +9,7 @@ use Rattle.std.proofs.lemmas.Bool.Decides.{nat_tests}
 use Rattle.std.proofs.lemmas.List.{take-append-drop}
 use Rattle.std.proofs.lemmas.List.Elements.{All-nil, All-cons, All-head, All-tail, All-weaker, All-replicate}
 use Rattle.std.proofs.lemmas.Option.{slice_get-get_or}
+use Rattle.std.proofs.lemmas.Bool.{ne_eqb}
 use Rattle.dcx_shape.specs.declared.place.Place.{Place}
 use Rattle.dcx_tokens.specs.declared.fault.ReadFault.{ReadFault}
 use Rattle.dcx_tokens.specs.declared.token.Keyword.{Keyword}
@@ -36,7 +37,7 @@ use Rattle.dcx_token_laws.proofs.Forms.{HasBegun, IsLed, Turned, deeper, back, t
 use Rattle.dcx_token_laws.proofs.Rising.{IsRising, deeper_turns, deeper_rising, back_turns, back_rising}
 use Rattle.dcx_token_laws.proofs.Steps as steps
 use Rattle.dcx_token_laws.proofs.Steps.{IsToken, Step, stepped}
-use Rattle.dcx_token_laws.proofs.Basics.{head_is, never_both, other_char, some_is, tail_is}
+use Rattle.dcx_token_laws.proofs.Basics.{head_is, never_both, some_is, tail_is}
 
 -- ---- columns
 is_one : (c : ℕ) → is_blank c ≡ true → (c ≡ 32) ⊎ (c ≡ 9)
@@ -69,7 +70,7 @@ line_end_column s cs (inr is) = rw is refl
 same_row : (s : State) (cs : List ℕ) → HasNoFeed cs → (moved_over s.at cs).place.line ≡ s.at.place.line
 same_row s [] h = refl
 same_row s (c ∷ cs) h =
-    let stays : (next_at s.at c).place.line ≡ s.at.place.line = let other = other_char c 10 (All-head (λ d. d ≢ 10) c cs h) in rw other refl in
+    let stays : (next_at s.at c).place.line ≡ s.at.place.line = let other = ne_eqb c 10 (All-head (λ d. d ≢ 10) c cs h) in rw other refl in
     same_row (record s { at = next_at s.at c }) cs (All-tail (λ d. d ≢ 10) c cs h) ∙ stays
 
 blank_other : (c : ℕ) → is_blank c ≡ true → c ≢ 10

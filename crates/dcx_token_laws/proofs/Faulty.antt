@@ -5,6 +5,7 @@ use Rattle.std.specs.Str.{chars}
 use Rattle.std.proofs.lemmas.Bool.Decides.{nat_tests}
 use Rattle.std.proofs.lemmas.List.{append-nil, take-append-drop}
 use Rattle.std.proofs.lemmas.List.Elements.{All-head}
+use Rattle.std.proofs.lemmas.Option.{none-some}
 use Rattle.dcx_shape.specs.declared.place.Place.{Place}
 use Rattle.dcx_tokens.specs.declared.fault.ReadFault.{ReadFault}
 use Rattle.dcx_tokens.specs.declared.fault.ReadFault.TheVariants as fault
@@ -19,7 +20,7 @@ use Rattle.dcx_token_laws.specs.Cut.{IsLineEnd, IsBetween, place_behind, Cut}
 use Rattle.dcx_token_laws.specs.Faults.{BadCharsBeginNothing, BeginsNothing}
 use Rattle.dcx_token_laws.specs.Fine.{IsFineUpTo}
 use Rattle.dcx_token_laws.specs.Words.{IsSign, IsWord}
-use Rattle.dcx_token_laws.proofs.Basics.{feed_ends, head_is, tail_is, none_is, never_both}
+use Rattle.dcx_token_laws.proofs.Basics.{feed_ends, head_is, tail_is, never_both}
 use Rattle.dcx_token_laws.proofs.Begun.{lines_begin}
 use Rattle.dcx_token_laws.proofs.Forms.{IsFormed, HasBegun, IsLed}
 use Rattle.dcx_token_laws.proofs.Halts.{IsBegun, Starts, starts_token, starts_number, starts_text, LineHalts, tab, full, apart, Halts, char, line, bad_number, open_text, bracket, halted}
@@ -44,15 +45,15 @@ no_word_by c rest ws behind en ed eq eo e kind.Text h = never_both (is_quote c) 
 no_word_by c rest ws behind en ed eq eo e (kind.Sign s) h = no_sign ws e h
   where
     short_none : (xs : List ℕ) → sign_at c xs ≡ None → short_sign c ≡ Some s → ⊥
-    short_none [] none some = none_is s (sym none ∙ some)
+    short_none [] none some = none-some s (sym none ∙ some)
     short_none (x ∷ xs) none some = by (long_sign c x) none
       where
         by : (o : Option Symbol) → or_else o (short_sign c) ≡ None → ⊥
-        by (Some t) f = none_is t (sym f)
-        by None f = none_is s (sym f ∙ some)
+        by (Some t) f = none-some t (sym f)
+        by None f = none-some s (sym f ∙ some)
 
     long_none : (d : ℕ) (xs : List ℕ) → sign_at c (d ∷ xs) ≡ None → long_sign c d ≡ Some s → ⊥
-    long_none d xs none some = none_is s (sym none ∙ ap (λ o. or_else o (short_sign c)) some)
+    long_none d xs none some = none-some s (sym none ∙ ap (λ o. or_else o (short_sign c)) some)
 
     no_sign : (us : List ℕ) → rest ≡ us ++ behind → IsSign s (c ∷ us) → ⊥
     no_sign [] f i = short_none rest eo i

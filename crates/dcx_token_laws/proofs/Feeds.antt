@@ -8,6 +8,8 @@ use Rattle.std.proofs.Math.Numerals.{one-add}
 use Rattle.std.proofs.Math.Seq.{take-add}
 use Rattle.std.proofs.lemmas.Bool.Decides.{nat_tests}
 use Rattle.std.proofs.lemmas.List.Elements.{All-nil, All-cons, All-append, All-weaker}
+use Rattle.std.proofs.lemmas.Bool.{eqb-true, eqb-false, and_parts}
+use Rattle.std.proofs.lemmas.Option.{none-some, same_Some}
 use Prim.Native.String.{String}
 use Rattle.unicode_ident.specs.Ident.{is_xid_continue}
 use Rattle.unicode_ident.proofs.IdentLemmas.{is_xid_continue-ascii}
@@ -21,7 +23,7 @@ use Rattle.dcx_token_laws.proofs.Between.{run_passes, run_is}
 use Rattle.dcx_token_laws.proofs.Firsts.{long_len, short_len}
 use Rattle.dcx_token_laws.proofs.Numerals.{count_is}
 use Rattle.dcx_token_laws.proofs.Steps.{IsToken, name, number, text, sign}
-use Rattle.dcx_token_laws.proofs.Basics.{is_char, left, never_both, none_is, not_char, right, same_some}
+use Rattle.dcx_token_laws.proofs.Basics.{never_both}
 use Rattle.dcx_token_laws.proofs.Quotes.{one_more}
 
 abbrev pub HasNoFeed : List ℕ → Type 0
@@ -99,19 +101,19 @@ name_feeds c cs n h count =
 
 -- ---- texts
 quote_feeds : (quote : ℕ) (is_taken : Bool) (cs : List ℕ) (n : ℕ) → up_to_quote quote is_taken cs ≡ Some n → HasNoFeed (take n cs)
-quote_feeds quote is_taken [] n e = absurd (none_is n e)
+quote_feeds quote is_taken [] n e = absurd (none-some n e)
 quote_feeds quote is_taken (c ∷ cs) n e = by (eqb c 10) refl is_taken (eqb c quote) e (λ b m. quote_feeds quote b cs m)
   where
     counted : (b : Bool) → eqb c 10 ≡ false → option_map (λ m. 1 + m) (up_to_quote quote b cs) ≡ Some n
         → ((b : Bool) (m : ℕ) → up_to_quote quote b cs ≡ Some m → HasNoFeed (take m cs)) → HasNoFeed (take n (c ∷ cs))
-    counted b f h more = let m = one_more (up_to_quote quote b cs) n h in subst (λ i. HasNoFeed (take i (c ∷ cs))) (sym m.is) (first c m.count cs (not_char c 10 f) (more b m.count m.was))
+    counted b f h more = let m = one_more (up_to_quote quote b cs) n h in subst (λ i. HasNoFeed (take i (c ∷ cs))) (sym m.is) (first c m.count cs (eqb-false c 10 f) (more b m.count m.was))
 
     by : (l : Bool) → eqb c 10 ≡ l → (t q : Bool)
         → cond l None (cond t (option_map (λ m. 1 + m) (up_to_quote quote false cs)) (cond q (Some 1) (option_map (λ m. 1 + m) (up_to_quote quote (eqb c 92) cs)))) ≡ Some n →
         ((b : Bool) (m : ℕ) → up_to_quote quote b cs ≡ Some m → HasNoFeed (take m cs)) → HasNoFeed (take n (c ∷ cs))
-    by true f t q h more = absurd (none_is n h)
+    by true f t q h more = absurd (none-some n h)
     by false f true q h more = counted false f h more
-    by false f false true h more = subst (λ i. HasNoFeed (take i (c ∷ cs))) (same_some 1 n h) (one c (not_char c 10 f))
+    by false f false true h more = subst (λ i. HasNoFeed (take i (c ∷ cs))) (same_Some 1 n h) (one c (eqb-false c 10 f))
     by false f false false h more = counted (eqb c 92) f h more
 
 -- ---- signs
@@ -126,18 +128,18 @@ other_feed c e = grind (arith, nat_tests)
 
 text_second : (c d : ℕ) (xs : List ℕ) → second_fine xs ≡ true → pointwise nat_eq (c ∷ d ∷ []) xs ≡ true → d ≢ 10
 text_second c d [] all e = absurd (cc)
-text_second c d (x ∷ []) all e = absurd (let gone = right (nat_eq c x) false e in cc)
+text_second c d (x ∷ []) all e = absurd (let gone : false ≡ true = (and_parts (nat_eq c x) false e).1 in cc)
 text_second c d (x ∷ y ∷ ys) all e =
-    let same = is_char d y (left (nat_eq d y) (pointwise nat_eq [] ys) (right (nat_eq c x) (nat_eq d y && pointwise nat_eq [] ys) e)) in
+    let same = eqb-true d y (and_parts (nat_eq d y) (pointwise nat_eq [] ys) (and_parts (nat_eq c x) (nat_eq d y && pointwise nat_eq [] ys) e).1).0 in
     subst (λ z. z ≢ 10) (sym same) (other_feed y all)
 
 sign_second : (signs : List (String × Symbol)) (c d : ℕ) (s : Symbol) → list_all (λ (p : String × Symbol). second_fine (codes p.0)) signs ≡ true → sign_of signs (c ∷ d ∷ []) ≡ Some s → d ≢ 10
-sign_second [] c d s all e = absurd (none_is s e)
+sign_second [] c d s all e = absurd (none-some s e)
 sign_second (p ∷ ps) c d s all e = by (pointwise nat_eq (c ∷ d ∷ []) (codes p.0)) refl e
-    (sign_second ps c d s (right (second_fine (codes p.0)) (list_all (λ (p : String × Symbol). second_fine (codes p.0)) ps) all))
+    (sign_second ps c d s (and_parts (second_fine (codes p.0)) (list_all (λ (p : String × Symbol). second_fine (codes p.0)) ps) all).1)
   where
     by : (b : Bool) → pointwise nat_eq (c ∷ d ∷ []) (codes p.0) ≡ b → cond b (Some p.1) (sign_of ps (c ∷ d ∷ [])) ≡ Some s → (sign_of ps (c ∷ d ∷ []) ≡ Some s → d ≢ 10) → d ≢ 10
-    by true is h more = text_second c d (codes p.0) (left (second_fine (codes p.0)) (list_all (λ (p : String × Symbol). second_fine (codes p.0)) ps) all) is
+    by true is h more = text_second c d (codes p.0) (and_parts (second_fine (codes p.0)) (list_all (λ (p : String × Symbol). second_fine (codes p.0)) ps) all).0 is
     by false is h more = more h
 
 sign_feeds_at : (c : ℕ) (cs : List ℕ) (s : Symbol) → c ≢ 10 → sign_at c cs ≡ Some s → HasNoFeed (take (sign_len s) (c ∷ cs))
@@ -147,18 +149,18 @@ sign_feeds_at c (d ∷ ds) s h e = by (long_sign c d) refl e
   where
     by : (o : Option Symbol) → long_sign c d ≡ o → or_else o (short_sign c) ≡ Some s → HasNoFeed (take (sign_len s) (c ∷ d ∷ ds))
     by (Some t) is f =
-        let long : long_sign c d ≡ Some s = is ∙ ap (λ (u : Symbol). Some u) (same_some t s f) in
+        let long : long_sign c d ≡ Some s = is ∙ ap (λ (u : Symbol). Some u) (same_Some t s f) in
         subst (λ n. HasNoFeed (take n (c ∷ d ∷ ds))) (sym (long_len c d s long)) (All-cons (λ z. z ≢ 10) c (d ∷ []) h (one d (sign_second long_signs c d s refl long)))
     by None is f = subst (λ n. HasNoFeed (take n (c ∷ d ∷ ds))) (sym (short_len c s f)) (one c h)
 
 -- ---- all
 pub not_end : (c : ℕ) (cs : List ℕ) → ends_line c cs ≡ false → c ≢ 10
-not_end c [] e = not_char c 10 e
+not_end c [] e = eqb-false c 10 e
 not_end c (d ∷ ds) e = by (eqb c 10) refl e
   where
     by : (b : Bool) → eqb c 10 ≡ b → (b || (eqb c 13 && eqb d 10)) ≡ false → c ≢ 10
     by true is h = absurd (cc)
-    by false is h = not_char c 10 is
+    by false is h = eqb-false c 10 is
 
 pub token_feeds : (c : ℕ) (cs : List ℕ) (k : TokenKind) (n : ℕ) → ends_line c cs ≡ false → IsToken c cs k n → HasNoFeed (take n (c ∷ cs))
 token_feeds c cs k n l (name b count is) = name_feeds c cs n (not_end c cs l) count

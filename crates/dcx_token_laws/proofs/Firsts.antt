@@ -5,13 +5,13 @@ use Rattle.std.specs.List.{list_all}
 use Rattle.std.specs.Char.{is_ascii_digit, is_ascii_alphabetic}
 use Rattle.std.specs.Int.{is_in_range}
 use Rattle.std.specs.Cmp.Lexicographic.{pointwise}
-use Rattle.std.proofs.lemmas.Bool.{ltb-true}
+use Rattle.std.proofs.lemmas.Bool.{ltb-true, eqb-true, ne_eqb, and_parts}
 use Rattle.std.proofs.lemmas.Bool.Decides.{nat_tests}
+use Rattle.std.proofs.lemmas.Option.{none-some, same_Some}
 use Prim.Native.String.{String}
 use Rattle.unicode_ident.proofs.IdentLemmas.{is_xid_start-ascii}
 use Rattle.dcx_tokens.specs.declared.token.Symbol.{Symbol}
 use Rattle.dcx_tokens.specs.Front.{is_quote, begins_name, begins_number, long_signs, short_signs, sign_of, long_sign, short_sign, sign_len}
-use Rattle.dcx_token_laws.proofs.Basics.{is_char, left, none_is, other_char, right, same_some}
 
 -- a character of ASCII that begins no name, no number and no text
 abbrev pub is_plain : ℕ → Bool
@@ -26,16 +26,16 @@ module _ (test : ℕ → Bool) where
 
   text_passes : (c : ℕ) (cs xs : List ℕ) → first_passes xs ≡ true → pointwise nat_eq (c ∷ cs) xs ≡ true → test c ≡ true
   text_passes c cs [] all e = absurd (cc)
-  text_passes c cs (x ∷ xs) all e = subst (λ y. test y ≡ true) (sym (is_char c x (left (nat_eq c x) (pointwise nat_eq cs xs) e))) all
+  text_passes c cs (x ∷ xs) all e = subst (λ y. test y ≡ true) (sym (eqb-true c x (and_parts (nat_eq c x) (pointwise nat_eq cs xs) e).0)) all
 
   sign_passes : (signs : List (String × Symbol)) (c : ℕ) (cs : List ℕ) (s : Symbol) → list_all (λ (p : String × Symbol). first_passes (codes p.0)) signs ≡ true
       → sign_of signs (c ∷ cs) ≡ Some s → test c ≡ true
-  sign_passes [] c cs s all e = absurd (none_is s e)
+  sign_passes [] c cs s all e = absurd (none-some s e)
   sign_passes (p ∷ ps) c cs s all e = by (pointwise nat_eq (c ∷ cs) (codes p.0)) refl e
-      (sign_passes ps c cs s (right (first_passes (codes p.0)) (list_all (λ (p : String × Symbol). first_passes (codes p.0)) ps) all))
+      (sign_passes ps c cs s (and_parts (first_passes (codes p.0)) (list_all (λ (p : String × Symbol). first_passes (codes p.0)) ps) all).1)
     where
       by : (b : Bool) → pointwise nat_eq (c ∷ cs) (codes p.0) ≡ b → cond b (Some p.1) (sign_of ps (c ∷ cs)) ≡ Some s → (sign_of ps (c ∷ cs) ≡ Some s → test c ≡ true) → test c ≡ true
-      by true is h more = text_passes c cs (codes p.0) (left (first_passes (codes p.0)) (list_all (λ (p : String × Symbol). first_passes (codes p.0)) ps) all) is
+      by true is h more = text_passes c cs (codes p.0) (and_parts (first_passes (codes p.0)) (list_all (λ (p : String × Symbol). first_passes (codes p.0)) ps) all).0 is
       by false is h more = more h
 
 pub long_plain : (c d : ℕ) (s : Symbol) → long_sign c d ≡ Some s → is_plain c ≡ true
@@ -43,11 +43,12 @@ long_plain c d s e = sign_passes is_plain long_signs c (d ∷ []) s refl e
 
 -- how many characters the signs of a list have
 signs_len : (signs : List (String × Symbol)) (cs : List ℕ) (s : Symbol) (n : ℕ) → list_all (λ (p : String × Symbol). nat_eq (sign_len p.1) n) signs ≡ true → sign_of signs cs ≡ Some s → sign_len s ≡ n
-signs_len [] cs s n all e = absurd (none_is s e)
-signs_len (p ∷ ps) cs s n all e = by (pointwise nat_eq cs (codes p.0)) e (signs_len ps cs s n (right (nat_eq (sign_len p.1) n) (list_all (λ (p : String × Symbol). nat_eq (sign_len p.1) n) ps) all))
+signs_len [] cs s n all e = absurd (none-some s e)
+signs_len (p ∷ ps) cs s n all e =
+    by (pointwise nat_eq cs (codes p.0)) e (signs_len ps cs s n (and_parts (nat_eq (sign_len p.1) n) (list_all (λ (p : String × Symbol). nat_eq (sign_len p.1) n) ps) all).1)
   where
     by : (b : Bool) → cond b (Some p.1) (sign_of ps cs) ≡ Some s → (sign_of ps cs ≡ Some s → sign_len s ≡ n) → sign_len s ≡ n
-    by true h more = ap sign_len (sym (same_some p.1 s h)) ∙ is_char (sign_len p.1) n (left (nat_eq (sign_len p.1) n) (list_all (λ (p : String × Symbol). nat_eq (sign_len p.1) n) ps) all)
+    by true h more = ap sign_len (sym (same_Some p.1 s h)) ∙ eqb-true (sign_len p.1) n (and_parts (nat_eq (sign_len p.1) n) (list_all (λ (p : String × Symbol). nat_eq (sign_len p.1) n) ps) all).0
     by false h more = more h
 
 pub long_len : (c d : ℕ) (s : Symbol) → long_sign c d ≡ Some s → sign_len s ≡ 2
@@ -70,7 +71,7 @@ not_plain c p e = by (nat_lt c 128) (is_ascii_alphabetic c || eqb c 95) p e
 
 pub name_not_plain : (c : ℕ) → begins_name c ≡ true → is_plain c ≡ true → ⊥
 name_not_plain c e p =
-    let small = ltb-true c 128 (left (nat_lt c 128) (not (is_ascii_alphabetic c || eqb c 95) && (not (is_ascii_digit c) && (not (eqb c 46) && not (is_quote c)))) p) in
+    let small = ltb-true c 128 (and_parts (nat_lt c 128) (not (is_ascii_alphabetic c || eqb c 95) && (not (is_ascii_digit c) && (not (eqb c 46) && not (is_quote c)))) p).0 in
     not_plain c p (name_ascii c small e)
 
 -- ---- numbers
@@ -116,9 +117,9 @@ digit_other : (c : ℕ) → 48 ≤ c → c ≤ 57 → IsOther c
 digit_other c low high =
     let upper = below_range c 65 90 (omega arith) in
     let lower = below_range c 97 122 (omega arith) in
-    let line = other_char c 95 (omega arith) in
-    let single = other_char c 39 (omega arith) in
-    let double = other_char c 34 (omega arith) in
+    let line = ne_eqb c 95 (omega arith) in
+    let single = ne_eqb c 39 (omega arith) in
+    let double = ne_eqb c 34 (omega arith) in
     record { small = omega arith; name = rw (upper, lower, line) refl; quote = rw (single, double) refl }
 
 number_small : (c : ℕ) → (is_ascii_digit c || eqb c 46) ≡ true → IsOther c
@@ -126,7 +127,7 @@ number_small c e = by (is_ascii_digit c) (eqb c 46) refl refl e
   where
     by : (a b : Bool) → is_ascii_digit c ≡ a → eqb c 46 ≡ b → (a || b) ≡ true → IsOther c
     by true b ea eb h = let r = in_range c 48 57 ea in digit_other c r.0 r.1
-    by false true ea eb h = subst IsOther (sym (is_char c 46 eb)) (record { small = omega arith; name = refl; quote = refl })
+    by false true ea eb h = subst IsOther (sym (eqb-true c 46 eb)) (record { small = omega arith; name = refl; quote = refl })
     by false false ea eb h = absurd (cc)
 
 pub name_not_number : (c : ℕ) (cs : List ℕ) → begins_name c ≡ true → begins_number c cs ≡ true → ⊥
@@ -156,8 +157,8 @@ quote_small c e = by (eqb c 39) (eqb c 34) refl refl e
     of n is h = subst (λ m. (m < 128) × ((is_ascii_alphabetic m || eqb m 95) ≡ false)) (sym is) h
 
     by : (a b : Bool) → eqb c 39 ≡ a → eqb c 34 ≡ b → (a || b) ≡ true → (c < 128) × ((is_ascii_alphabetic c || eqb c 95) ≡ false)
-    by true b ea eb h = of 39 (is_char c 39 ea) (omega arith, refl)
-    by false true ea eb h = of 34 (is_char c 34 eb) (omega arith, refl)
+    by true b ea eb h = of 39 (eqb-true c 39 ea) (omega arith, refl)
+    by false true ea eb h = of 34 (eqb-true c 34 eb) (omega arith, refl)
     by false false ea eb h = absurd (cc)
 
 pub name_not_quote : (c : ℕ) → begins_name c ≡ true → is_quote c ≡ true → ⊥
@@ -177,16 +178,16 @@ not_true false e f = cc
 
 module _ (c : ℕ) (s : Symbol) (short : short_sign c ≡ Some s) where
   pub short_not_digit : is_ascii_digit c ≡ true → ⊥
-  short_not_digit e = not_true (is_ascii_digit c) (left (not (is_ascii_digit c)) (not (is_quote c) && (nat_lt c 128 && not (is_ascii_alphabetic c || eqb c 95))) (short_mark c s short)) e
+  short_not_digit e = not_true (is_ascii_digit c) (and_parts (not (is_ascii_digit c)) (not (is_quote c) && (nat_lt c 128 && not (is_ascii_alphabetic c || eqb c 95))) (short_mark c s short)).0 e
 
   rest : (not (is_quote c) && (nat_lt c 128 && not (is_ascii_alphabetic c || eqb c 95))) ≡ true
-  rest = right (not (is_ascii_digit c)) (not (is_quote c) && (nat_lt c 128 && not (is_ascii_alphabetic c || eqb c 95))) (short_mark c s short)
+  rest = (and_parts (not (is_ascii_digit c)) (not (is_quote c) && (nat_lt c 128 && not (is_ascii_alphabetic c || eqb c 95))) (short_mark c s short)).1
 
   pub short_not_quote : is_quote c ≡ true → ⊥
-  short_not_quote e = not_true (is_quote c) (left (not (is_quote c)) (nat_lt c 128 && not (is_ascii_alphabetic c || eqb c 95)) rest) e
+  short_not_quote e = not_true (is_quote c) (and_parts (not (is_quote c)) (nat_lt c 128 && not (is_ascii_alphabetic c || eqb c 95)) rest).0 e
 
   pub short_not_name : begins_name c ≡ true → ⊥
   short_not_name e =
-      let last = right (not (is_quote c)) (nat_lt c 128 && not (is_ascii_alphabetic c || eqb c 95)) rest in
-      let small = ltb-true c 128 (left (nat_lt c 128) (not (is_ascii_alphabetic c || eqb c 95)) last) in
-      not_true (is_ascii_alphabetic c || eqb c 95) (right (nat_lt c 128) (not (is_ascii_alphabetic c || eqb c 95)) last) (name_ascii c small e)
+      let last = (and_parts (not (is_quote c)) (nat_lt c 128 && not (is_ascii_alphabetic c || eqb c 95)) rest).1 in
+      let small = ltb-true c 128 (and_parts (nat_lt c 128) (not (is_ascii_alphabetic c || eqb c 95)) last).0 in
+      not_true (is_ascii_alphabetic c || eqb c 95) (and_parts (nat_lt c 128) (not (is_ascii_alphabetic c || eqb c 95)) last).1 (name_ascii c small e)

@@ -2,7 +2,7 @@
 use Rattle.std.proofs.Common.{◌≡◌, ◌⊎◌, inl, inr, ℕ, zero, suc, ◌+◌, ◌<◌, ◌≤◌, Bool, true, false, eqb, ◌||◌, List, [], ◌∷◌, ◌++◌, length, take, Option, Some, refl, sym, ap, ◌∙◌, subst, arith}
 use Rattle.std.specs.Prelude.{nat_lt}
 use Rattle.std.specs.List.{All, list_all, list_any}
-use Rattle.std.proofs.lemmas.Bool.{lt-ltb}
+use Rattle.std.proofs.lemmas.Bool.{lt-ltb, and_parts}
 use Rattle.std.proofs.lemmas.Bool.Decides.{nat_tests}
 use Rattle.std.proofs.lemmas.List.Elements.{All-head, All-tail}
 use Rattle.dcx_tokens.specs.declared.fault.ReadFault.{ReadFault}
@@ -23,7 +23,7 @@ use Rattle.dcx_token_laws.specs.Faults.{IndentsDoNotFollow, TooDeepAreAbove64, B
 use Rattle.dcx_token_laws.specs.Fine.{IsFineUpTo, IsLedBy}
 use Rattle.dcx_token_laws.specs.Lines.{StandsAt, Turns, deeper, back}
 use Rattle.dcx_token_laws.specs.Words.{IsSign}
-use Rattle.dcx_token_laws.proofs.Basics.{head_is, never_both, nil_not, right}
+use Rattle.dcx_token_laws.proofs.Basics.{head_is, never_both, nil_not}
 use Rattle.dcx_token_laws.proofs.Faulty.{Stopping, AtEnd, stopping, place_is, place_in, clash, starts_some}
 use Rattle.dcx_token_laws.proofs.Firsts.{long_len}
 use Rattle.dcx_token_laws.proofs.Forms.{HasBegun, IsLed}
@@ -163,7 +163,7 @@ too_deep text ts p lexed = by (stopping text ts (fault.TooDeep p) lexed)
       r,
       e,
       all_below (open_blocks [] ts) (length blanks)
-          (right (nat_lt 0 (length blanks)) (list_all (λ i. nat_lt i (length blanks)) (open_blocks [] ts)) (ap (λ bs. is_deeper bs (length blanks)) (sym blocks) ∙ d)),
+          (and_parts (nat_lt 0 (length blanks)) (list_all (λ i. nat_lt i (length blanks)) (open_blocks [] ts)) (ap (λ bs. is_deeper bs (length blanks)) (sym blocks) ∙ d)).1,
     )
     one_block s blanks blocks (apart e d st is) = absurd (clash (fault.TooDeep p) (fault.Indent s.at.place) is refl)
 

@@ -2,6 +2,7 @@
 use Rattle.std.proofs.Common.{◌≡◌, ◌⊎◌, inl, inr, ℕ, ◌+◌, ◌-◌, ◌<◌, Bool, true, false, cond, eqb, List, [], ◌∷◌, ◌++◌, length, take, refl, sym, ap, ◌∙◌, subst, arith, length-append}
 use Rattle.std.specs.Prelude.{Result, Ok, Err}
 use Rattle.std.proofs.lemmas.List.{length-take}
+use Rattle.std.proofs.lemmas.Bool.{eqb-true}
 use Rattle.dcx_tokens.specs.declared.fault.ReadFault.{ReadFault}
 use Rattle.dcx_tokens.specs.declared.fault.ReadFault.TheVariants as fault
 use Rattle.dcx_tokens.specs.declared.token.TokenKind.{TokenKind}
@@ -12,7 +13,7 @@ use Rattle.dcx_tokens.specs.Layout.{is_deeper, is_standing, opens, closes}
 use Rattle.dcx_tokens.specs.Position.{moved_over}
 use Rattle.dcx_tokens.specs.State.{State, Answer, moved, put, is_full, dedented, begin_line, line_begun_at, nested, line_ended, led, start}
 use Rattle.dcx_token_laws.proofs.Steps.{Step, line_end, blank, comment, word}
-use Rattle.dcx_token_laws.proofs.Basics.{is_char, not_zero}
+use Rattle.dcx_token_laws.proofs.Basics.{not_zero}
 
 -- the line has a token
 abbrev pub HasBegun : State → Type 0
@@ -121,7 +122,7 @@ pub begun_closes : (s t : State) (end : List ℕ) → HasBegun s → t ≡ line_
 begun_closes s t end is e = by (eqb (length s.brackets) 0) refl (e ∙ (rw is refl))
   where
     by : (b : Bool) → eqb (length s.brackets) 0 ≡ b → t ≡ cond {A = State} b (record (put s kind.Newline end) { line = start.line }) (moved s end) → Closes s t end
-    by true z same = over (is_char (length s.brackets) 0 z) same
+    by true z same = over (eqb-true (length s.brackets) 0 z) same
     by false z same = inside (not_zero (length s.brackets) z) same
 
 pub empty_ends : (s t : State) (end blanks : List ℕ) → IsLed blanks s → t ≡ line_ended s s.line end → t ≡ record (moved s end) { line = start.line }

@@ -5,6 +5,7 @@ use Rattle.std.specs.List.{prefix_len}
 use Rattle.std.proofs.Math.Numerals.{one-add}
 use Rattle.std.proofs.lemmas.List.{append-nil}
 use Rattle.std.proofs.lemmas.List.Elements.{All-head, All-tail}
+use Rattle.std.proofs.lemmas.Bool.{eqb-true}
 use Rattle.dcx_tokens.specs.declared.token.Token.{Token}
 use Rattle.dcx_tokens.specs.declared.token.TokenKind.{TokenKind}
 use Rattle.dcx_tokens.specs.declared.token.TokenKind.TheVariants as kind
@@ -12,7 +13,7 @@ use Rattle.dcx_tokens.specs.Front.{is_blank, ends_line}
 use Rattle.dcx_token_laws.specs.Cut as cuts
 use Rattle.dcx_token_laws.specs.Cut.{AreBlanks, IsLineEnd, EndsLine, HasNoLineEnd, IsComment, IsBetween, Spans, AreMarks, IsLast, Cut}
 use Rattle.dcx_token_laws.specs.Words.{IsWord, IsLongest}
-use Rattle.dcx_token_laws.proofs.Basics.{head_is, is_char, never_both, nil_not, tail_is}
+use Rattle.dcx_token_laws.proofs.Basics.{head_is, never_both, nil_not, tail_is}
 use Rattle.dcx_token_laws.proofs.OneKind.{IsBetweenTokens, space, tab, hash, feed, return, no_token, one_kind}
 
 -- ---- the first stretch that has characters
@@ -63,8 +64,8 @@ between_blank : (c : ℕ) → is_blank c ≡ true → IsBetweenTokens c
 between_blank c e = by (eqb c 32) (eqb c 9) refl refl e
   where
     by : (a b : Bool) → eqb c 32 ≡ a → eqb c 9 ≡ b → (a || b) ≡ true → IsBetweenTokens c
-    by true b ea eb h = space (is_char c 32 ea)
-    by false true ea eb h = tab (is_char c 9 eb)
+    by true b ea eb h = space (eqb-true c 32 ea)
+    by false true ea eb h = tab (eqb-true c 9 eb)
     by false false ea eb h = absurd (cc)
 
 end_first : (c : ℕ) (ys : List ℕ) → IsLineEnd (c ∷ ys) → (c ≡ 10) ⊎ (c ≡ 13)

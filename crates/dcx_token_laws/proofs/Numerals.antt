@@ -6,6 +6,7 @@ use Rattle.std.specs.List.{take_while, prefix_len}
 use Rattle.std.proofs.lemmas.List.{take-append-le, drop-append-le, drop-drop, length-drop}
 use Rattle.std.proofs.lemmas.List.Sums.{prefix_len-le-length}
 use Rattle.std.proofs.Math.Numerals.{one-add}
+use Rattle.std.proofs.lemmas.Bool.{eqb-true}
 use Rattle.unicode_ident.specs.Ident.{is_xid_continue}
 use Rattle.unicode_ident.proofs.IdentLemmas.{is_xid_continue-ascii}
 use Rattle.dcx_frac.specs.declared.fraction.Frac.{Frac}
@@ -13,7 +14,7 @@ use Rattle.dcx_tokens.specs.Front.{run_of}
 use Rattle.dcx_tokens.specs.Number.{digits, fraction_digits, fraction_len, begins_exponent, exponent_sign_len, exponent_digits, is_negative}
 use Rattle.dcx_tokens.specs.Number.{exponent_len, Spelling, mantissa_len, spelling_at, is_spoiled, frac_of_spelling, number_at}
 use Rattle.dcx_token_laws.proofs.Between.{run_is}
-use Rattle.dcx_token_laws.proofs.Basics.{is_char, never_both, not_zero}
+use Rattle.dcx_token_laws.proofs.Basics.{never_both, not_zero}
 
 -- ---- runs
 module _ (p : ℕ → Bool) where
@@ -67,8 +68,8 @@ spoils c cs e = by (eqb c 101) (eqb c 69) refl refl e
     of n small is goes = rw (is, goes) refl
 
     by : (a b : Bool) → eqb c 101 ≡ a → eqb c 69 ≡ b → (a || b) ≡ true → is_spoiled (c ∷ cs) ≡ true
-    by true b ea eb h = of 101 (omega arith) (is_char c 101 ea) (is_xid_continue-ascii 101 (omega arith))
-    by false true ea eb h = of 69 (omega arith) (is_char c 69 eb) (is_xid_continue-ascii 69 (omega arith))
+    by true b ea eb h = of 101 (omega arith) (eqb-true c 101 ea) (is_xid_continue-ascii 101 (omega arith))
+    by false true ea eb h = of 69 (omega arith) (eqb-true c 69 eb) (is_xid_continue-ascii 69 (omega arith))
     by false false ea eb h = absurd (cc)
 
 none_negative : (c : ℕ) (cs : List ℕ) → begins_exponent c ≡ false → is_negative (c ∷ cs) ≡ false

@@ -1,12 +1,12 @@
 -- Characters spell a token of one kind at most, and none where the first is a blank, # or of a line end.
 use Rattle.std.proofs.Common.{◌≡◌, ℕ, true, false, List, [], ◌∷◌, length, Option, Some, refl, sym, ap, ◌∙◌, subst, arith}
+use Rattle.std.proofs.lemmas.Option.{none-some, same_Some}
 use Rattle.dcx_frac.specs.declared.fraction.Frac.{Frac}
 use Rattle.dcx_tokens.specs.declared.token.Symbol.{Symbol}
 use Rattle.dcx_tokens.specs.declared.token.TokenKind.{TokenKind}
 use Rattle.dcx_tokens.specs.declared.token.TokenKind.TheVariants as kind
 use Rattle.dcx_tokens.specs.Front.{is_quote, begins_name, begins_number, long_sign, short_sign}
 use Rattle.dcx_token_laws.specs.Words.{IsSign, IsWord}
-use Rattle.dcx_token_laws.proofs.Basics.{none_is, same_some}
 use Rattle.dcx_token_laws.proofs.Firsts.{long_plain, name_ascii, name_not_plain, name_not_number, name_not_quote, number_not_plain}
 use Rattle.dcx_token_laws.proofs.Firsts.{number_not_quote, quote_not_plain, short_not_digit, short_not_quote, short_not_name}
 
@@ -27,21 +27,21 @@ sign_not_quote s c (d ∷ []) h b = quote_not_plain c b (long_plain c d s h)
 sign_not_quote s c (d ∷ e ∷ xs) h b = h
 
 same_sign : (s t : Symbol) (c : ℕ) (xs : List ℕ) → IsSign s (c ∷ xs) → IsSign t (c ∷ xs) → s ≡ t
-same_sign s t c [] h i = same_some s t (sym h ∙ i)
-same_sign s t c (d ∷ []) h i = same_some s t (sym h ∙ i)
+same_sign s t c [] h i = same_Some s t (sym h ∙ i)
+same_sign s t c (d ∷ []) h i = same_Some s t (sym h ∙ i)
 same_sign s t c (d ∷ e ∷ xs) h i = absurd h
 
 same_value : (x y : Frac) (n m : ℕ) → ◌≡◌ {A = Option (Frac × ℕ)} (Some (x, n)) (Some (y, m)) → x ≡ y
-same_value x y n m e = ap (λ (p : Frac × ℕ). p.0) (same_some (x, n) (y, m) e)
+same_value x y n m e = ap (λ (p : Frac × ℕ). p.0) (same_Some (x, n) (y, m) e)
 
 pub one_kind : (c : ℕ) (xs : List ℕ) (j k : TokenKind) → IsWord j (c ∷ xs) → IsWord k (c ∷ xs) → j ≡ k
 one_kind c xs kind.Name kind.Name h i = refl
-one_kind c xs kind.Name (kind.Keyword w) h i = absurd (none_is w (sym h.1 ∙ i.1))
+one_kind c xs kind.Name (kind.Keyword w) h i = absurd (none-some w (sym h.1 ∙ i.1))
 one_kind c xs kind.Name (kind.Number x) h i = absurd (name_not_number c xs h.0.0 i.0)
 one_kind c xs kind.Name kind.Text h i = absurd (name_not_quote c h.0.0 i.0)
 one_kind c xs kind.Name (kind.Sign s) h i = absurd (sign_not_name s c xs i h.0.0)
-one_kind c xs (kind.Keyword w) kind.Name h i = absurd (none_is w (sym i.1 ∙ h.1))
-one_kind c xs (kind.Keyword v) (kind.Keyword w) h i = ap kind.Keyword (same_some v w (sym h.1 ∙ i.1))
+one_kind c xs (kind.Keyword w) kind.Name h i = absurd (none-some w (sym i.1 ∙ h.1))
+one_kind c xs (kind.Keyword v) (kind.Keyword w) h i = ap kind.Keyword (same_Some v w (sym h.1 ∙ i.1))
 one_kind c xs (kind.Keyword w) (kind.Number x) h i = absurd (name_not_number c xs h.0.0 i.0)
 one_kind c xs (kind.Keyword w) kind.Text h i = absurd (name_not_quote c h.0.0 i.0)
 one_kind c xs (kind.Keyword w) (kind.Sign s) h i = absurd (sign_not_name s c xs i h.0.0)
@@ -115,19 +115,19 @@ number_13 [] e = false_true e
 number_13 (x ∷ xs) e = false_true e
 
 gap_32 : IsGap 32
-gap_32 = record { name = λ e. false_true (name_ascii 32 (omega arith) e); number = number_32; quote = false_true; short = none_is; long = λ d. none_is }
+gap_32 = record { name = λ e. false_true (name_ascii 32 (omega arith) e); number = number_32; quote = false_true; short = none-some; long = λ d. none-some }
 
 gap_9 : IsGap 9
-gap_9 = record { name = λ e. false_true (name_ascii 9 (omega arith) e); number = number_9; quote = false_true; short = none_is; long = λ d. none_is }
+gap_9 = record { name = λ e. false_true (name_ascii 9 (omega arith) e); number = number_9; quote = false_true; short = none-some; long = λ d. none-some }
 
 gap_35 : IsGap 35
-gap_35 = record { name = λ e. false_true (name_ascii 35 (omega arith) e); number = number_35; quote = false_true; short = none_is; long = λ d. none_is }
+gap_35 = record { name = λ e. false_true (name_ascii 35 (omega arith) e); number = number_35; quote = false_true; short = none-some; long = λ d. none-some }
 
 gap_10 : IsGap 10
-gap_10 = record { name = λ e. false_true (name_ascii 10 (omega arith) e); number = number_10; quote = false_true; short = none_is; long = λ d. none_is }
+gap_10 = record { name = λ e. false_true (name_ascii 10 (omega arith) e); number = number_10; quote = false_true; short = none-some; long = λ d. none-some }
 
 gap_13 : IsGap 13
-gap_13 = record { name = λ e. false_true (name_ascii 13 (omega arith) e); number = number_13; quote = false_true; short = none_is; long = λ d. none_is }
+gap_13 = record { name = λ e. false_true (name_ascii 13 (omega arith) e); number = number_13; quote = false_true; short = none-some; long = λ d. none-some }
 
 -- a blank, # or a character of a line end
 pub data IsBetweenTokens (c : ℕ) : Type 0 where

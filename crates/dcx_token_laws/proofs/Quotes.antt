@@ -1,8 +1,8 @@
 -- A text between quotes ends where its quote is closed, whatever stands behind.
 use Rattle.std.proofs.Common.{◌≡◌, ℕ, suc, ◌+◌, ◌≤◌, ◌<◌, Bool, true, false, cond, eqb, List, [], ◌∷◌, ◌++◌, length, Option, Some, None, refl, sym, ap, arith}
 use Rattle.std.specs.Prelude.{option_map}
+use Rattle.std.proofs.lemmas.Option.{none-some, same_Some}
 use Rattle.dcx_tokens.specs.Quoted.{up_to_quote}
-use Rattle.dcx_token_laws.proofs.Basics.{none_is, same_some}
 
 -- one more
 pub record More (o : Option ℕ) (n : ℕ) : Type 0 where
@@ -16,7 +16,7 @@ one_more (Some m) n e = record { count = m; was = refl; is = let same : ◌≡�
 
 -- it has characters, and they are there
 pub quote_some : (quote : ℕ) (is_taken : Bool) (xs : List ℕ) (n : ℕ) → up_to_quote quote is_taken xs ≡ Some n → (0 < n) × (n ≤ length xs)
-quote_some quote is_taken [] n e = absurd (none_is n e)
+quote_some quote is_taken [] n e = absurd (none-some n e)
 quote_some quote is_taken (c ∷ cs) n e = by (eqb c 10) is_taken (eqb c quote) e (λ b m. quote_some quote b cs m)
   where
     counted : (b : Bool) → option_map (λ m. 1 + m) (up_to_quote quote b cs) ≡ Some n
@@ -25,9 +25,9 @@ quote_some quote is_taken (c ∷ cs) n e = by (eqb c 10) is_taken (eqb c quote) 
 
     by : (l t q : Bool) → cond l None (cond t (option_map (λ m. 1 + m) (up_to_quote quote false cs)) (cond q (Some 1) (option_map (λ m. 1 + m) (up_to_quote quote (eqb c 92) cs)))) ≡ Some n →
         ((b : Bool) (m : ℕ) → up_to_quote quote b cs ≡ Some m → (0 < m) × (m ≤ length cs)) → (0 < n) × (n ≤ suc (length cs))
-    by true t q h more = absurd (none_is n h)
+    by true t q h more = absurd (none-some n h)
     by false true q h more = counted false h more
-    by false false true h more = let is = same_some 1 n h in (omega arith, omega arith)
+    by false false true h more = let is = same_Some 1 n h in (omega arith, omega arith)
     by false false false h more = counted (eqb c 92) h more
 
 pub quote_front : (quote : ℕ) (is_taken : Bool) (xs ys : List ℕ) (n : ℕ) → up_to_quote quote is_taken (xs ++ ys) ≡ Some n → n ≤ length xs → up_to_quote quote is_taken xs ≡ Some n
@@ -53,7 +53,7 @@ quote_front quote is_taken (c ∷ cs) ys n e le = by (eqb c 10) is_taken (eqb c 
 
 -- the quote that closes it closes it with more behind
 pub quote_longer : (quote : ℕ) (is_taken : Bool) (xs ys : List ℕ) (n : ℕ) → up_to_quote quote is_taken xs ≡ Some n → up_to_quote quote is_taken (xs ++ ys) ≡ Some n
-quote_longer quote is_taken [] ys n e = absurd (none_is n e)
+quote_longer quote is_taken [] ys n e = absurd (none-some n e)
 quote_longer quote is_taken (c ∷ cs) ys n e = by (eqb c 10) is_taken (eqb c quote) e (λ b m. quote_longer quote b cs ys m)
   where
     counted : (b : Bool) → option_map (λ m. 1 + m) (up_to_quote quote b cs) ≡ Some n → ((b : Bool) (m : ℕ) → up_to_quote quote b cs ≡ Some m → up_to_quote quote b (cs ++ ys) ≡ Some m) →

@@ -7,6 +7,7 @@ use Rattle.std.specs.List.{All, prefix_len}
 use Rattle.std.proofs.Math.Numerals.{one-add}
 use Rattle.std.proofs.lemmas.List.{take-append-drop, length-take-le}
 use Rattle.std.proofs.lemmas.List.Elements.{All-nil, All-cons, All-head, All-tail}
+use Rattle.std.proofs.lemmas.Option.{same_Some}
 use Rattle.unicode_ident.specs.Ident.{is_xid_continue}
 use Rattle.dcx_frac.specs.declared.fraction.Frac.{Frac}
 use Rattle.dcx_tokens.specs.declared.token.Keyword.{Keyword}
@@ -26,7 +27,7 @@ use Rattle.dcx_tokens.proofs.Lengths.{number_some}
 use Rattle.dcx_token_laws.proofs.Numerals.{number_front, number_within, point_long}
 use Rattle.dcx_token_laws.proofs.Quotes.{quote_front, quote_some}
 use Rattle.dcx_token_laws.proofs.Steps.{IsToken, name, number, text, sign}
-use Rattle.dcx_token_laws.proofs.Basics.{head_is, never_both, right_nil, same_some}
+use Rattle.dcx_token_laws.proofs.Basics.{head_is, never_both, right_nil}
 
 -- ---- where a run ends
 run_stops : (p : ℕ → Bool) (cs more rest : List ℕ) → drop (prefix_len p cs) cs ≡ more ++ rest → All (λ d. IsTrue (p d)) more → more ≡ []
@@ -108,7 +109,7 @@ sign_cases c (d ∷ ds) s e = by (long_sign c d) refl e
   where
     by : (o : Option Symbol) → long_sign c d ≡ o → or_else o (short_sign c) ≡ Some s → IsSign s (take (sign_len s) (c ∷ d ∷ ds))
     by (Some t) is h =
-        let long : long_sign c d ≡ Some s = is ∙ ap (λ (u : Symbol). Some u) (same_some t s h) in
+        let long : long_sign c d ≡ Some s = is ∙ ap (λ (u : Symbol). Some u) (same_Some t s h) in
         subst (λ n. IsSign s (take n (c ∷ d ∷ ds))) (sym (long_len c d s long)) long
     by None is h = subst (λ n. IsSign s (take n (c ∷ d ∷ ds))) (sym (short_len c s h)) h
 

@@ -5,6 +5,7 @@ use Rattle.std.specs.List.{All}
 use Rattle.std.proofs.Math.Numerals.{one-add}
 use Rattle.std.proofs.lemmas.List.{append-nil}
 use Rattle.std.proofs.lemmas.List.Elements.{All-nil, All-head, All-tail}
+use Rattle.std.proofs.lemmas.Bool.{eqb-true}
 use Rattle.dcx_tokens.specs.declared.token.TokenKind.{TokenKind}
 use Rattle.dcx_tokens.specs.declared.token.TokenKind.TheVariants as kind
 use Rattle.dcx_tokens.specs.Front.{is_blank, ends_line, up_to_line_end}
@@ -20,7 +21,7 @@ use Rattle.dcx_token_laws.proofs.Stacks.{LastOf, is_last, is_inner, last_of, som
 use Rattle.dcx_token_laws.proofs.Steps as steps
 use Rattle.dcx_token_laws.proofs.Steps.{IsToken, Step}
 use Rattle.dcx_token_laws.proofs.Totals.{token_long}
-use Rattle.dcx_token_laws.proofs.Basics.{is_char, never_both}
+use Rattle.dcx_token_laws.proofs.Basics.{never_both}
 use Rattle.dcx_token_laws.proofs.Spelled.{all_left, all_right}
 
 -- no line begins in front of blanks at the end of these characters
@@ -118,7 +119,7 @@ module _ (s t : State) (front : List ℕ) (c : ℕ) (cs : List ℕ) (n : ℕ) (s
       let some : n ≡ suc (up_to_line_end cs) = count ∙ one-add (up_to_line_end cs) in
       let feeds = comment_feeds (take n (c ∷ cs)) (drop n (c ∷ cs)) (is_comment c cs n h count) in
       subst (λ xs. NotLed (front ++ xs)) (sym (ap (λ i. take i (c ∷ cs)) some))
-      (not_led front c (take (up_to_line_end cs) cs) (ap is_blank (is_char c 35 h)) (subst HasNoFeed (ap (λ i. take i (c ∷ cs)) some) feeds))
+      (not_led front c (take (up_to_line_end cs) cs) (ap is_blank (eqb-true c 35 h)) (subst HasNoFeed (ap (λ i. take i (c ∷ cs)) some) feeds))
 
   word_apart : (k : TokenKind) → ends_line c cs ≡ false → is_blank c ≡ false → IsToken c cs k n → NotLed now
   word_apart k l b token = by n (token_long c cs k n token) (token_feeds c cs k n l token)

@@ -5,6 +5,7 @@ use Rattle.std.specs.Str.{chars}
 use Rattle.std.proofs.lemmas.List.{take-append-drop, append-nil}
 use Rattle.std.proofs.lemmas.List.Elements.{All-nil}
 use Rattle.std.specs.Prelude.{IsTrue}
+use Rattle.std.proofs.lemmas.Option.{none-some, same_Some}
 use Rattle.dcx_shape.specs.declared.place.Place.{Place}
 use Rattle.dcx_tokens.specs.declared.fault.ReadFault.{ReadFault}
 use Rattle.dcx_tokens.specs.declared.fault.ReadFault.TheVariants as fault
@@ -13,7 +14,6 @@ use Rattle.dcx_tokens.specs.Front.{is_blank}
 use Rattle.dcx_tokens.specs.Reading.{Reads, ends, stops, goes_on, IsLexed, fault_of}
 use Rattle.dcx_tokens.specs.State.{State, Answer, finished, finished_at, step, start}
 use Rattle.dcx_token_laws.specs.Cut.{Cut, ended}
-use Rattle.dcx_token_laws.proofs.Basics.{none_is, same_some}
 use Rattle.dcx_token_laws.proofs.Spots.{Spot, leads, spot_formed, leads_next}
 use Rattle.dcx_token_laws.proofs.Stacks.{StacksOf, no_stacks}
 use Rattle.dcx_token_laws.proofs.Steps.{stepped}
@@ -54,8 +54,8 @@ unfolding finished
 end_stops s f = by (slice_get s.brackets (length s.brackets - 1)) refl
   where
     by : (o : Option Place) → slice_get s.brackets (length s.brackets - 1) ≡ o → EndIf s f (finished_at s o)
-    by (Some opener) e g = record { opener = opener; last = e; is = sym (same_some (fault.Unclosed opener) f g); left = refl }
-    by None e g = absurd (none_is f g)
+    by (Some opener) e g = record { opener = opener; last = e; is = sym (same_Some (fault.Unclosed opener) f g); left = refl }
+    by None e g = absurd (none-some f g)
 
 -- behind a step
 pub walks_next : (text : List ℕ) (s t : State) (front : List ℕ) (c : ℕ) (cs : List ℕ) (n : ℕ) → Walks text s front (c ∷ cs) → step s c cs ≡ (t, Ok n)
@@ -84,7 +84,7 @@ reads_stopped {s = s} {ts = ts} text f front some walks (ends {t = t} e are is) 
       cut = record { new = []; tokens = sym are ∙ sym end.left ∙ sym (append-nil s.tokens); cut = ended };
     }
 reads_stopped {s = s} {cs = c ∷ cs} {ts = ts} text f front some walks (stops {t = t} {f = h} e are is) =
-    let same : f ≡ h = same_some f h (sym some ∙ sym is) in
+    let same : f ≡ h = same_Some f h (sym some ∙ sym is) in
     let formed = spot_formed s front (c ∷ cs) walks.spot in
     record {
       passed = front;

@@ -7,6 +7,8 @@ use Rattle.std.specs.List.{All}
 use Rattle.std.specs.Str.{chars}
 use Rattle.std.proofs.lemmas.List.{take-append-drop}
 use Rattle.std.proofs.lemmas.List.Elements.{All-head}
+use Rattle.std.proofs.lemmas.Bool.{eqb-true}
+use Rattle.std.proofs.lemmas.Option.{none-some}
 use Rattle.dcx_frac.specs.declared.fraction.Frac.{Frac}
 use Rattle.dcx_shape.specs.declared.place.Place.{Place}
 use Rattle.dcx_tokens.specs.declared.fault.ReadFault.{ReadFault}
@@ -26,7 +28,7 @@ use Rattle.dcx_token_laws.specs.Cut.{AreBlanks, AreMarks, IsMark, Spans, Cut}
 use Rattle.dcx_token_laws.specs.Fine.{StandsThere, IsFine, FineTextsAreRead, StartsLine}
 use Rattle.dcx_token_laws.specs.Lines.{IsOfWords, depth_of, kinds, Turns, AreLines}
 use Rattle.dcx_token_laws.specs.Words.{IsNumber, IsSign, IsWord, IsLongest}
-use Rattle.dcx_token_laws.proofs.Basics.{is_char, nil_not, none_is, never_both}
+use Rattle.dcx_token_laws.proofs.Basics.{nil_not, never_both}
 use Rattle.dcx_token_laws.proofs.Depths.{Stage, within, leads, closing, IsInside, Goes, next, no_mark_first, texts_are_lines, one_list}
 use Rattle.dcx_token_laws.proofs.Faulty.{begins_nothing, no_between_by, place_is}
 use Rattle.dcx_token_laws.proofs.Firsts.{number_not_quote}
@@ -117,7 +119,7 @@ no_point_sign c d ds other begins longest = by (eqb c 46) (is_ascii_digit d) ref
   where
     by : (a b : Bool) → eqb c 46 ≡ a → is_ascii_digit d ≡ b → (a && b) ≡ true → ⊥
     by true true ea eb h =
-        let point = is_char c 46 ea in
+        let point = eqb-true c 46 ea in
         let x = point_number d eb in
         let number_is : IsNumber x.0 (46 ∷ d ∷ []) = (rw eb refl, x.1) in
         nil_not d [] (sym (longest (d ∷ []) ds (kind.Number x.0) refl (subst (λ i. IsNumber x.0 (i ∷ d ∷ [])) (sym point) number_is)))
@@ -137,7 +139,7 @@ no_number_there : (c : ℕ) (ys behind : List ℕ) (k : TokenKind) → begins_na
     → IsLongest (c ∷ ys) behind → ((x : Frac) → k ≡ kind.Number x → is_spoiled behind ≡ false) → IsWord k (c ∷ ys) → ⊥
 no_number_there c ys behind kind.Name en ed none longest fine h = never_both (begins_name c) h.0.0 en
 no_number_there c ys behind (kind.Keyword w) en ed none longest fine h = never_both (begins_name c) h.0.0 en
-no_number_there c ys behind (kind.Number x) en ed none longest fine h = none_is (x, length (c ∷ ys)) (sym none ∙ number_longer (c ∷ ys) behind x h.1 (fine x refl))
+no_number_there c ys behind (kind.Number x) en ed none longest fine h = none-some (x, length (c ∷ ys)) (sym none ∙ number_longer (c ∷ ys) behind x h.1 (fine x refl))
 no_number_there c ys behind kind.Text en ed none longest fine h = number_not_quote c (ys ++ behind) ed h.0
 no_number_there c ys behind (kind.Sign s) en ed none longest fine h = no_sign_there c ys behind s ed h longest
 no_number_there c ys behind kind.Newline en ed none longest fine h = h
@@ -149,7 +151,7 @@ no_text_there : (c : ℕ) (ys behind : List ℕ) (k : TokenKind) → begins_name
 no_text_there c ys behind kind.Name en ed eq none h = never_both (begins_name c) h.0.0 en
 no_text_there c ys behind (kind.Keyword w) en ed eq none h = never_both (begins_name c) h.0.0 en
 no_text_there c ys behind (kind.Number x) en ed eq none h = never_both (begins_number c (ys ++ behind)) (begins_more c ys behind h.0) ed
-no_text_there c ys behind kind.Text en ed eq none h = none_is (length ys) (sym none ∙ quote_longer c false ys behind (length ys) h.1)
+no_text_there c ys behind kind.Text en ed eq none h = none-some (length ys) (sym none ∙ quote_longer c false ys behind (length ys) h.1)
 no_text_there c ys behind (kind.Sign s) en ed eq none h = sign_not_quote s c ys h eq
 no_text_there c ys behind kind.Newline en ed eq none h = h
 no_text_there c ys behind kind.Indent en ed eq none h = h
@@ -157,7 +159,7 @@ no_text_there c ys behind kind.Dedent en ed eq none h = h
 
 -- ---- a whole reading
 no_last_place : (ps : List Place) (p : Place) → length ps ≡ 0 → slice_get ps (length ps - 1) ≡ Some p → ⊥
-no_last_place [] p none e = none_is p e
+no_last_place [] p none e = none-some p e
 no_last_place (x ∷ xs) p none e = absurd (omega (arith, none))
 
 -- at the end of the text no bracket is open

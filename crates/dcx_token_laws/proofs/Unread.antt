@@ -2,7 +2,7 @@
 use Rattle.std.proofs.Common.{◌≡◌, ◌⊎◌, inl, inr, ℕ, ◌-◌, Bool, true, false, List, [], ◌∷◌, ◌++◌, length, Option, Some, None, refl, sym, ap, ◌∙◌, subst, arith, length-append}
 use Rattle.std.specs.Prelude.{Ok, get_or, slice_get}
 use Rattle.std.specs.Str.{chars}
-use Rattle.std.proofs.lemmas.Option.{slice_get-get_or}
+use Rattle.std.proofs.lemmas.Option.{slice_get-get_or, none-some}
 use Rattle.dcx_frac.specs.declared.fraction.Frac.{Frac}
 use Rattle.dcx_shape.specs.declared.place.Place.{Place}
 use Rattle.dcx_tokens.specs.declared.fault.ReadFault.TheVariants as fault
@@ -15,7 +15,7 @@ use Rattle.dcx_token_laws.specs.Cut.{place_behind}
 use Rattle.dcx_token_laws.specs.Faults.{BadNumbersAreNone, UnclosedAreOpen, BeginsBadNumber, OpensText, IsLeftOpen}
 use Rattle.dcx_token_laws.specs.Fine.{IsFineUpTo}
 use Rattle.dcx_token_laws.specs.Words.{IsNumber, IsQuoted}
-use Rattle.dcx_token_laws.proofs.Basics.{head_is, tail_is, none_is}
+use Rattle.dcx_token_laws.proofs.Basics.{head_is, tail_is}
 use Rattle.dcx_token_laws.proofs.Faulty.{Stopping, AtEnd, stopping, place_is, place_in, clash, no_line}
 use Rattle.dcx_token_laws.proofs.Forms.{IsFormed, begins}
 use Rattle.dcx_token_laws.proofs.Halts.{Halts, char, line, bad_number, open_text, bracket}
@@ -39,7 +39,7 @@ bad_number_at c rest d none = record { begins = d; none = λ x word behind e h. 
 
     by : (x : Frac) (word behind : List ℕ) → c ∷ rest ≡ word ++ behind → IsNumber x word → (b : Bool) → is_spoiled behind ≡ b → is_spoiled behind ≡ true
     by x word behind e h true is = is
-    by x word behind e h false is = absurd (none_is (x, length word) (sym none ∙ ap (λ cs. number_at cs) e ∙ number_longer word behind x (whole x word h) is))
+    by x word behind e h false is = absurd (none-some (x, length word) (sym none ∙ ap (λ cs. number_at cs) e ∙ number_longer word behind x (whole x word h) is))
 
 pub bad_numbers : BadNumbersAreNone
 bad_numbers text ts p lexed = by (stopping text ts (fault.BadNumber p) lexed)
@@ -69,7 +69,7 @@ opens_text c rest q none = record { quote = q; none = no_text }
     no_text (w ∷ ws) behind e h =
         let first = head_is c w rest (ws ++ behind) e in
         let longer = quote_longer w false ws behind (length ws) h.1 in
-        none_is (length ws) (sym none ∙ ap (λ d. up_to_quote d false rest) first ∙ ap (λ cs. up_to_quote w false cs) (tail_is c w rest (ws ++ behind) e) ∙ longer)
+        none-some (length ws) (sym none ∙ ap (λ d. up_to_quote d false rest) first ∙ ap (λ cs. up_to_quote w false cs) (tail_is c w rest (ws ++ behind) e) ∙ longer)
 
 -- ---- brackets
 at_last : (front : List Place) (last d : Place) → get_or (front ++ last ∷ []) (length front) d ≡ last
@@ -83,7 +83,7 @@ last_place front last =
     ap (λ i. slice_get (front ++ last ∷ []) i) index ∙ slice_get-get_or (front ++ last ∷ []) (length front) last (omega (arith, count)) ∙ ap (λ x. Some x) (at_last front last last)
 
 left_open : (ts : List Token) (brackets : List Place) (p : Place) → AreOpen ts brackets → slice_get brackets (length brackets - 1) ≡ Some p → IsLeftOpen ts p
-left_open ts [] p are e = absurd (none_is p e)
+left_open ts [] p are e = absurd (none-some p e)
 left_open ts (x ∷ xs) p are e =
     let u = unsnoc x xs in
     let same : u.last ≡ p = same_place u.last p (sym (last_place u.front u.last) ∙ ap (λ zs. slice_get zs (length zs - 1)) (sym u.are) ∙ e) in

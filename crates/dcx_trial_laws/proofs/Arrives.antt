@@ -7,6 +7,7 @@ use Rattle.std.proofs.Math.Seq.{take-append_seam, drop-append_seam}
 use Rattle.std.proofs.lemmas.List.{map-append}
 use Rattle.std.proofs.lemmas.Bool.Decides.{nat_tests}
 use Rattle.std.proofs.lemmas.Fmt.{decimal_is_IsNumeral}
+use Rattle.std.proofs.lemmas.Bool.{and_parts, not-true}
 use Rattle.dcx_math.specs.Rational.{whole}
 use Rattle.dcx_atom.specs.Formed.{frac_at}
 use Rattle.dcx_shape.specs.declared.place.Place.{Place}
@@ -50,7 +51,6 @@ use Rattle.dcx_trial_laws.proofs.Pieces.{
   fits,
   all_fit,
 }
-use Rattle.dcx_trial_laws.proofs.Tests.{halves, refused}
 use Rattle.dcx_trial_laws.proofs.Steps.{state_at, token_from, brackets_by, depth_by, word_step, number_step, sign_step, blank_step, line_end_step}
 
 -- ---- what the grammar sees
@@ -133,10 +133,10 @@ module _ (source : List ℕ) where
         → Arrives source ts bs o s ((c ∷ w) ++ rest) (piece_terms s (word (c ∷ w))) (behind s (word (c ∷ w))) rest
     word_read c w rest depth here e =
         let d = next_of rest in
-        let one = halves (begins_token c) (begins_word c && (list_all word_goes_on w && (list_all is_single (c ∷ w) && ends_word d))) e in
-        let two = halves (begins_word c) (list_all word_goes_on w && (list_all is_single (c ∷ w) && ends_word d)) one.1 in
-        let three = halves (list_all word_goes_on w) (list_all is_single (c ∷ w) && ends_word d) two.1 in
-        let four = halves (list_all is_single (c ∷ w)) (ends_word d) three.1 in
+        let one = and_parts (begins_token c) (begins_word c && (list_all word_goes_on w && (list_all is_single (c ∷ w) && ends_word d))) e in
+        let two = and_parts (begins_word c) (list_all word_goes_on w && (list_all is_single (c ∷ w) && ends_word d)) one.1 in
+        let three = and_parts (list_all word_goes_on w) (list_all is_single (c ∷ w) && ends_word d) two.1 in
+        let four = and_parts (list_all is_single (c ∷ w)) (ends_word d) three.1 in
         one_step c (w ++ rest) rest (piece_terms s (word (c ∷ w))) (length (c ∷ w)) (ts ++ token_from (word_kind (c ∷ w)) o (length (c ∷ w)) s.place ∷ []) bs (moved_by s (length (c ∷ w)))
         (word_step ts bs o s c w rest one.0 two.0 three.0 four.0 four.1) (drop-append_seam (c ∷ w) rest) (token_seen (c ∷ w) rest (word_kind (c ∷ w)) s.place here) depth here
 
@@ -145,7 +145,7 @@ module _ (source : List ℕ) where
     number_read k rest depth here e = by (decimal k) refl
       where
         both : (nat_lt k (2 ^ 64) ≡ true) × (ends_number (next_of rest) ≡ true)
-        both = halves (nat_lt k (2 ^ 64)) (ends_number (next_of rest)) e
+        both = and_parts (nat_lt k (2 ^ 64)) (ends_number (next_of rest)) e
 
         small : k < 2 ^ 64
         small = let t = both.0 in grind (arith, nat_tests, t)
@@ -166,14 +166,14 @@ module _ (source : List ℕ) where
         → Arrives source ts bs o s ((c ∷ []) ++ rest) (piece_terms s (sign c)) (behind s (sign c)) rest
     sign_read c rest depth here e =
         let d = next_of rest in
-        let one = halves (begins_token c) (not (begins_word c) && (is_single c && (not (begins_number c (d ∷ [])) && (not (is_quote c) && (is_sign c d && nat_lt s.depth 64))))) e in
-        let two = halves (not (begins_word c)) (is_single c && (not (begins_number c (d ∷ [])) && (not (is_quote c) && (is_sign c d && nat_lt s.depth 64)))) one.1 in
-        let three = halves (is_single c) (not (begins_number c (d ∷ [])) && (not (is_quote c) && (is_sign c d && nat_lt s.depth 64))) two.1 in
-        let four = halves (not (begins_number c (d ∷ []))) (not (is_quote c) && (is_sign c d && nat_lt s.depth 64)) three.1 in
-        let five = halves (not (is_quote c)) (is_sign c d && nat_lt s.depth 64) four.1 in
-        let six = halves (is_sign c d) (nat_lt s.depth 64) five.1 in
-        let seven = halves (is_some (short_sign c)) (is_none (long_sign c d)) six.0 in
-        by (short_sign c) refl one.0 (refused (begins_word c) two.0) three.0 (refused (begins_number c (d ∷ [])) four.0) (refused (is_quote c) five.0) seven.0 seven.1 (room six.1)
+        let one = and_parts (begins_token c) (not (begins_word c) && (is_single c && (not (begins_number c (d ∷ [])) && (not (is_quote c) && (is_sign c d && nat_lt s.depth 64))))) e in
+        let two = and_parts (not (begins_word c)) (is_single c && (not (begins_number c (d ∷ [])) && (not (is_quote c) && (is_sign c d && nat_lt s.depth 64)))) one.1 in
+        let three = and_parts (is_single c) (not (begins_number c (d ∷ [])) && (not (is_quote c) && (is_sign c d && nat_lt s.depth 64))) two.1 in
+        let four = and_parts (not (begins_number c (d ∷ []))) (not (is_quote c) && (is_sign c d && nat_lt s.depth 64)) three.1 in
+        let five = and_parts (not (is_quote c)) (is_sign c d && nat_lt s.depth 64) four.1 in
+        let six = and_parts (is_sign c d) (nat_lt s.depth 64) five.1 in
+        let seven = and_parts (is_some (short_sign c)) (is_none (long_sign c d)) six.0 in
+        by (short_sign c) refl one.0 (not-true (begins_word c) two.0) three.0 (not-true (begins_number c (d ∷ [])) four.0) (not-true (is_quote c) five.0) seven.0 seven.1 (room six.1)
       where
         room : nat_lt s.depth 64 ≡ true → s.depth < 64
         room t = grind (arith, nat_tests, t)
@@ -193,14 +193,14 @@ module _ (source : List ℕ) where
     blank_read rest depth here e = by s.begun refl
       where
         both : (s.begun ≡ true) × (not (is_blank (next_of rest)) ≡ true)
-        both = halves s.begun (not (is_blank (next_of rest))) e
+        both = and_parts s.begun (not (is_blank (next_of rest))) e
 
         by : (b : Bool) → s.begun ≡ b → Arrives source ts bs o s (32 ∷ rest) [] (behind s blank) rest
         by false is = absurd (let no = sym both.0 ∙ is in cc)
         by true is =
             one_step 32 rest rest [] 1 ts bs (moved_by s 1)
             (ap (λ (b : Bool). step (state_at ts bs o (record { depth = s.depth; begun = b; place = s.place })) 32 rest) is ∙ blank_step ts bs o s.depth s.place rest
-            (refused (is_blank (next_of rest)) both.1)) refl
+            (not-true (is_blank (next_of rest)) both.1)) refl
             (sym (append-nil (terminals source ts))) depth here
 
     line_end_read : (rest : List ℕ) → length bs ≡ s.depth → drop o source ≡ 10 ∷ rest → fits s line_end (next_of rest) ≡ true
@@ -208,7 +208,7 @@ module _ (source : List ℕ) where
     line_end_read rest depth here e = by s.begun refl
       where
         both : (s.begun ≡ true) × (eqb s.depth 0 ≡ true)
-        both = halves s.begun (eqb s.depth 0) e
+        both = and_parts s.begun (eqb s.depth 0) e
 
         by : (b : Bool) → s.begun ≡ b → Arrives source ts bs o s (10 ∷ rest) (plain newline ∷ []) (behind s line_end) rest
         by false is = absurd (let no = sym both.0 ∙ is in cc)
@@ -231,7 +231,7 @@ module _ (source : List ℕ) where
       → Arrives source ts bs o s (joined ps rest) (all_terms s ps) (behind_all s ps) rest
   pieces_read [] ts bs o s rest depth here e = stays ts bs o s rest depth here
   pieces_read (p ∷ ps) ts bs o s rest depth here e =
-      let h = halves (fits s p (next_of (joined ps rest))) (all_fit (behind s p) ps rest) e in
+      let h = and_parts (fits s p (next_of (joined ps rest))) (all_fit (behind s p) ps rest) e in
       let a = piece_read ts bs o s p (joined ps rest) depth here h.0 in
       onwards ts bs o s (behind s p) (behind_all (behind s p) ps) (joined (p ∷ ps) rest) (joined ps rest) rest (piece_terms s p) (all_terms (behind s p) ps) a
       (pieces_read ps a.tokens a.brackets a.offset (behind s p) rest a.depth a.here h.1)

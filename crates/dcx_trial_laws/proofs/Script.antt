@@ -6,9 +6,9 @@ use Rattle.std.specs.List.{list_all, range_with_len}
 use Rattle.std.proofs.lemmas.Bool.Decides.{nat_tests}
 use Rattle.std.proofs.lemmas.Fmt.{IsAscii-decimal}
 use Rattle.std.proofs.lemmas.Str.{IsAscii-append}
+use Rattle.std.proofs.lemmas.Bool.{and_parts}
 use Rattle.dcx_trial.specs.Trial.{places, height_at, heights, numbers_text, trial_text}
 use Rattle.dcx_trial_laws.proofs.Pieces.{Piece, word, number, sign, blank, line_end, joined}
-use Rattle.dcx_trial_laws.proofs.Tests.{halves}
 
 -- ---- the pieces
 abbrev pub import_pieces : (library alias : List ℕ) → List Piece → List Piece
@@ -149,8 +149,8 @@ is_small c = nat_lt c 128
 
 tested : (cs : List ℕ) → list_all is_small cs ≡ true → IsAscii cs
 tested [] e i = omega arith
-tested (c ∷ cs) e zero = let h = (halves (nat_lt c 128) (list_all (λ d. nat_lt d 128) cs) e).0 in grind (arith, nat_tests, h)
-tested (c ∷ cs) e (suc i) = tested cs (halves (nat_lt c 128) (list_all (λ d. nat_lt d 128) cs) e).1 i
+tested (c ∷ cs) e zero = let h = (and_parts (nat_lt c 128) (list_all (λ d. nat_lt d 128) cs) e).0 in grind (arith, nat_tests, h)
+tested (c ∷ cs) e (suc i) = tested cs (and_parts (nat_lt c 128) (list_all (λ d. nat_lt d 128) cs) e).1 i
 
 more_ascii : (ks : List ℕ) → AllSmall ks → IsAscii (flat_map (λ k. codes ", " ++ decimal k) ks)
 more_ascii [] all = λ i. omega arith

@@ -8,6 +8,7 @@ use Rattle.std.proofs.Math.Seq.{take-append_seam}
 use Rattle.std.proofs.lemmas.Bool.Decides.{nat_tests}
 use Rattle.std.proofs.lemmas.List.{length-take}
 use Rattle.std.proofs.lemmas.Fmt.{decimal_is_IsNumeral}
+use Rattle.std.proofs.lemmas.Bool.{and_parts}
 use Rattle.unicode_ident.specs.Ident.{is_xid_continue}
 use Rattle.dcx_math.specs.Rational.{whole}
 use Rattle.dcx_atom.specs.Formed.{frac_at}
@@ -33,7 +34,7 @@ use Rattle.dcx_token_laws.proofs.Spelled.{digit_begins}
 use Rattle.dcx_token_laws.proofs.Steps.{line_end_front, blank_front, name_front, number_front, sign_front_is, name_token, number_token, sign_token}
 use Rattle.dcx_trial_laws.proofs.Numbers.{number_is}
 use Rattle.dcx_trial_laws.proofs.Pieces.{Spot, next_of, further, begins_token, is_single, begins_word, word_goes_on, ends_word, ends_number}
-use Rattle.dcx_trial_laws.proofs.Tests.{type_of, Position, Front, halves, front_is, no_line_end, one_is, moved_single, run_none, run_word, word_begins}
+use Rattle.dcx_trial_laws.proofs.Tests.{type_of, Position, Front, front_is, no_line_end, one_is, moved_single, run_none, run_word, word_begins}
 use Rattle.dcx_trial_laws.proofs.Tests.{no_word_begins, is_digit, digit_is, digits_single, unspoiled, no_number}
 
 -- how far a line is read: it has a token, or nothing stands in it
@@ -128,7 +129,7 @@ module _ (ts : List Token) (bs : List Place) (o : ℕ) (s : Spot) where
       → ends_word (next_of rest) ≡ true → step (state_at ts bs o s) c (w ++ rest) ≡ token_left ts bs o s s.depth (word_kind (c ∷ w)) (length (c ∷ w))
   word_step c w rest first begins goes single ends =
       let f = front_is c first in
-      let small = (one_is c (halves (is_single c) (list_all is_single w) single).0).small in
+      let small = (one_is c (and_parts (is_single c) (list_all is_single w) single).0).small in
       let l = no_line_end c (w ++ rest) f in
       let n = word_begins c small begins in
       let count : 1 + run_of is_xid_continue (w ++ rest) ≡ length (c ∷ w) = ap (λ m. 1 + m) (run_word w rest goes ends) ∙ one-add (length w) in
