@@ -1,6 +1,6 @@
 -- Lines of arguments one after another.
 use Rattle.std.proofs.Common.{◌≡◌, ℕ, zero, suc, ◌+◌, ◌<◌, ◌≤◌, List, [], ◌∷◌, ◌++◌, length, get_or, take, sum_by, refl, sym, ap, ◌∙◌, subst, arith, append_assoc, length-append}
-use Rattle.std.proofs.lemmas.List.{map-append, length-map, length-take-le, append-nil}
+use Rattle.std.proofs.lemmas.List.{map-append, length-map, length-take-le, append-nil, take_more}
 use Rattle.std.proofs.lemmas.List.Elements.{All-nil, All-append, All-head, All-tail}
 use Rattle.std.specs.List.{All}
 use Rattle.std.proofs.lemmas.List.Sums.{sum_by-append, sum_by-cons}
@@ -11,7 +11,6 @@ use Rattle.dcx_shape.specs.Shape.{sides_of}
 use Rattle.dcx_shape.specs.Sides.{HasFewEntries}
 use Rattle.dcx_shape.proofs.Entries.{factor_pos}
 use Rattle.dcx_atom.specs.Arrays.{sides_list, list_below}
-use Rattle.dcx_atom.proofs.FormedSums.{take-next}
 use Rattle.dcx_atom.proofs.LinearSums.{All-list_below}
 use Rattle.dcx_atom.proofs.BoundRows.{length-list_below}
 use Rattle.dcx_affine.proofs.Products.{cols_few}
@@ -63,7 +62,7 @@ pub lined_up-next : (line : Line) (args : List Shape) (i : ℕ) (a : Shape) → 
     lined_up line 0 (sides_list (take (i + 1) args)) ≡ lined_up line 0 (sides_list (take i args)) ++ list_below (lines_of line (sides_of a)) (λ e. record { argument = i; place = e })
 lined_up-next line args i a h is =
     let count : 0 + length (sides_list (take i args)) ≡ i = omega (arith, length-map (take i args) sides_of, length-take-le i args (omega (arith, h))) in
-    ap (λ xs. lined_up line 0 (sides_list xs)) (take-next args i a h ∙ ap (λ x. take i args ++ x ∷ []) (sym is))
+    ap (λ xs. lined_up line 0 (sides_list xs)) (take_more args i a h ∙ ap (λ x. take i args ++ x ∷ []) (sym is))
     ∙ ap (lined_up line 0) (map-append sides_of (take i args) (a ∷ []))
     ∙ lined_up-append line 0 (sides_list (take i args)) (sides_of a)
     ∙ ap (λ k. lined_up line 0 (sides_list (take i args)) ++ list_below (lines_of line (sides_of a)) (λ e. record { argument = k; place = e })) count
@@ -72,7 +71,7 @@ lined_up-next line args i a h is =
 pub all_lines-next : (line : Line) (args : List Shape) (i : ℕ) (a : Shape) → i < length args → a ≡ get_or args i a →
     all_lines line (sides_list (take (i + 1) args)) ≡ all_lines line (sides_list (take i args)) + lines_of line (sides_of a)
 all_lines-next line args i a h is =
-    ap (λ xs. all_lines line (sides_list xs)) (take-next args i a h ∙ ap (λ x. take i args ++ x ∷ []) (sym is))
+    ap (λ xs. all_lines line (sides_list xs)) (take_more args i a h ∙ ap (λ x. take i args ++ x ∷ []) (sym is))
     ∙ ap (sum_by (lines_of line)) (map-append sides_of (take i args) (a ∷ []))
     ∙ sum_by-append (lines_of line) (sides_list (take i args)) (sides_of a ∷ []) ∙ omega arith
 

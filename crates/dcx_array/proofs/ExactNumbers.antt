@@ -2,7 +2,7 @@
 use Rattle.std.specs.Prelude.{◌≡◌, ◌↔◌, ◌≢◌, ℕ, ◌<◌, ℤ, pos, ◌<ℤ◌, int_le, Bool, true, false, if◌then◌else◌, List, [], ◌∷◌, map, Option, Some, None, Result, Ok, Err, IfOk, length}
 use Rattle.std.specs.Option.{ok_or}
 use Rattle.std.specs.List.{list_any}
-use Rattle.std.proofs.Common.{refl, sym, ap, ◌∙◌, subst, arith, inl}
+use Rattle.std.proofs.Common.{refl, sym, ap, ◌∙◌, subst, arith}
 use Rattle.std.proofs.lemmas.Bool.{true≢false}
 use Rattle.std.proofs.lemmas.Int.{ints}
 use Rattle.std.proofs.lemmas.List.Folds.{list_any_at}
@@ -16,12 +16,10 @@ use Rattle.dcx_math.proofs.LowestTerms.{lowest_terms_unique}
 use Rattle.dcx_math.proofs.Ratios.{ratio-one, IsTrue-rat_eq}
 use Rattle.dcx_frac.specs.declared.fraction.Frac.{Frac}
 use Rattle.dcx_frac.specs.declared.fraction.Passes.{Passes}
-use Rattle.dcx_frac.specs.Fits.{IsRepresentable}
 use Rattle.dcx_frac.specs.Frac.{num_of, den_of, value}
-use Rattle.dcx_frac.specs.Results.{frac_of}
 use Rattle.dcx_frac.proofs.Parts.{value_lowest}
-use Rattle.dcx_frac.proofs.Results.{value-frac_of, sum_of_is, difference_of_is, product_of_is, quotient_of_is}
-use Rattle.dcx_frac.proofs.Turns.{over_one, difference_representable}
+use Rattle.dcx_frac.proofs.Results.{sum_of_is, difference_of_is, product_of_is, quotient_of_is}
+use Rattle.dcx_frac.proofs.Turns.{over_one}
 use Rattle.dcx_shape.specs.declared.shape.Sides.{Sides}
 use Rattle.dcx_shape.specs.declared.shape.Sides.TheVariants.{Scalar, Vector, Matrix}
 use Rattle.dcx_shape.specs.declared.shape.Shape.{Shape}
@@ -31,8 +29,9 @@ use Rattle.dcx_shape.specs.Broadcast.{IsBroadcast}
 use Rattle.dcx_shape.specs.Product.{IsProduct}
 use Rattle.dcx_shape.proofs.Broadcasts.{broadcast_commutes}
 use Rattle.dcx_atom.specs.declared.array.Array.{Array}
-use Rattle.dcx_atom.specs.Formed.{zero_frac, frac_at}
-use Rattle.dcx_atom.proofs.FormedSums.{frac_at-value, value-zero_frac}
+use Rattle.dcx_atom.specs.Formed.{zero_frac}
+use Rattle.dcx_atom.proofs.FormedSums.{value-zero_frac}
+use Rattle.dcx_atom.proofs.Fractions.{value-negative}
 use Rattle.dcx_atom.proofs.Entrywise.{formed_entry, products_from-exact}
 use Rattle.dcx_atom.proofs.Lists.{get_or-list_below}
 use Rattle.dcx_affine.specs.declared.pairing.Pair.{Pair}
@@ -136,20 +135,8 @@ matrix_exact a b c e =
     )
 
 -- ---- signs
-negative_representable : (x : Frac) → IsRepresentable (neg_ℚ (value x))
-unfolding ◌-ℚ◌
-negative_representable x =
-    let e : value zero_frac -ℚ value x ≡ neg_ℚ (value x) = ap (λ z. z +ℚ neg_ℚ (value x)) value-zero_frac ∙ +ℚ_idl (neg_ℚ (value x)) in
-    subst IsRepresentable e (difference_representable zero_frac x (inl value-zero_frac))
-
-pub value-negated_number : (x : Frac) → value (negated_number x) ≡ neg_ℚ (value x)
-value-negated_number x =
-    let own : Frac = frac_of (neg_ℚ (value x)) (negative_representable x) in
-    let is : value own ≡ neg_ℚ (value x) = value-frac_of (neg_ℚ (value x)) (negative_representable x) in
-    ap value (ap frac_at (sym is) ∙ frac_at-value own) ∙ is
-
 pub signs_exact : (a : Array) (k : ℕ) → k < entries_of (sides_of a.shape) → value (entry (negated a) k) ≡ neg_ℚ (value (entry a k))
-signs_exact a k b = ap value (get_or-list_below (entries_of (sides_of a.shape)) (λ j. negated_number (entry a j)) k zero_frac b) ∙ value-negated_number (entry a k)
+signs_exact a k b = ap value (get_or-list_below (entries_of (sides_of a.shape)) (λ j. negated_number (entry a j)) k zero_frac b) ∙ value-negative (entry a k)
 
 -- ---- whole numbers
 least : (d : ℤ) → pos 0 <ℤ d → int_le d (pos 1) ≡ true → d ≡ pos 1

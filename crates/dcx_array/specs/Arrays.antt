@@ -1,6 +1,5 @@
 -- Plain arrays: their entries, how these are formed in 128 bits, and arrays of given numbers.
 use Rattle.std.specs.Prelude.{ℕ, ◌/◌, ◌%◌, nat_eq, int_le, ℤ, pos, if◌then◌else◌, List, [], ◌∷◌, slice_index_or, Option, Some, None, option_map, Result, Ok, Err}
-use Rattle.dcx_math.specs.Rational.{whole}
 use Rattle.dcx_frac.specs.declared.fraction.Frac.{Frac}
 use Rattle.dcx_frac.specs.declared.fraction.Passes.{Passes}
 use Rattle.dcx_frac.specs.Frac.{num_of, den_of}
@@ -11,7 +10,7 @@ use Rattle.dcx_shape.specs.Shape.{sides_of}
 use Rattle.dcx_shape.specs.Sides.{entries_of}
 use Rattle.dcx_atom.specs.declared.array.Array.{Array}
 use Rattle.dcx_atom.specs.Arrays.{list_below}
-use Rattle.dcx_atom.specs.Formed.{zero_frac, frac_at}
+use Rattle.dcx_atom.specs.Formed.{zero_frac, one_frac}
 use Rattle.dcx_atom.proofs.BoundRows.{length-list_below}
 use Rattle.dcx_array.specs.declared.fault.ArrayFault.{ArrayFault}
 use Rattle.dcx_array.specs.declared.fault.ArrayFault.TheVariants.{Wide}
@@ -70,7 +69,7 @@ constant sides x = made sides (λ k. x)
 
 -- 1 on the diagonal, and 0 elsewhere
 abbrev pub identity_entry : ℕ → ℕ → Frac
-identity_entry n k = if nat_eq (k / n) (k % n) then frac_at (whole (pos 1)) else zero_frac
+identity_entry n k = if nat_eq (k / n) (k % n) then one_frac else zero_frac
 
 abbrev pub identity : ℕ → Result Array ArrayFault
 identity n = made (Matrix n n) (identity_entry n)

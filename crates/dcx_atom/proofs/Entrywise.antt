@@ -1,7 +1,7 @@
 -- Entries that are formed one after the other, and sums of products in order: what comes with one more.
 use Rattle.std.proofs.Common.{◌≡◌, ℕ, zero, suc, ◌+◌, ◌<◌, arith, List, [], ◌∷◌, ◌++◌, map, length, take, drop, get_or, refl, sym, ap, ◌∙◌, subst, Result, Ok, Err, IsOk, IfOk}
 use native.Mathlib.Decide.{dec_lt}
-use Rattle.std.proofs.lemmas.List.{take-append-drop}
+use Rattle.std.proofs.lemmas.List.{take-append-drop, take_more}
 use Rattle.dcx_math.specs.Rational.{◌+ℚ◌, ◌*ℚ◌}
 use Rattle.dcx_math.specs.Sums.{rat_sum_by}
 use Rattle.dcx_math.proofs.Orders.{+ℚ_idr, +ℚ_assoc}
@@ -14,7 +14,6 @@ use Rattle.dcx_atom.specs.Arrays.{list_below}
 use Rattle.dcx_atom.specs.Formed.{zero_frac, and_then}
 use Rattle.dcx_atom.specs.Entrywise.{added_product, products_from, AreFormed, IsFirst}
 use Rattle.dcx_atom.proofs.BoundRows.{list_below-first}
-use Rattle.dcx_atom.proofs.FormedSums.{take-next}
 use Rattle.dcx_atom.proofs.Lists.{list_below-same}
 
 -- ---- sums of products
@@ -46,7 +45,7 @@ products_from-stopped s (f ∷ fs) gs passes e = by (added_product s f) (λ t. p
 pub products_from-next : (s : Frac) (fs : List (Frac × Frac)) (i : ℕ) (d : Frac × Frac) (t : Frac) → i < length fs → products_from s (take i fs) ≡ Ok t →
     products_from s (take (i + 1) fs) ≡ added_product t (get_or fs i d)
 products_from-next s fs i d t b e =
-    ap (products_from s) (take-next fs i d b) ∙ products_from-append s (take i fs) (get_or fs i d) ∙ ap (λ r. and_then r (λ u. added_product u (get_or fs i d))) e
+    ap (products_from s) (take_more fs i d b) ∙ products_from-append s (take i fs) (get_or fs i d) ∙ ap (λ r. and_then r (λ u. added_product u (get_or fs i d))) e
 
 pub products_from-within : (s : Frac) (fs : List (Frac × Frac)) (i : ℕ) (passes : Passes) → products_from s (take i fs) ≡ Err passes → products_from s fs ≡ Err passes
 products_from-within s fs i passes e = ap (products_from s) (sym (take-append-drop i fs)) ∙ products_from-stopped s (take i fs) (drop i fs) passes e
@@ -116,13 +115,18 @@ err_not_ok (Err f) e is ok = cc
 same_err : {A B : Type 0} (r : Result A B) (e f : B) → r ≡ Err e → r ≡ Err f → e ≡ f
 same_err r e f h k = cc
 
+-- one place is the first where P doesn't hold
+pub one_place : (P : ℕ → Type 0) (i j : ℕ) → ¬ P i → ¬ P j → ((k : ℕ) → k < i → P k) → ((k : ℕ) → k < j → P k) → i ≡ j
+one_place P i j a b h g = by (dec_lt i j) (dec_lt j i)
+  where
+    by : Dec (i < j) → Dec (j < i) → i ≡ j
+    by (yes lt) d = absurd (a (g i lt))
+    by (no f) (yes lt) = absurd (b (h j lt))
+    by (no f) (no g) = omega (arith, f, g)
+
 -- it has one stop
 pub one_stop : {E : Type 0} (formed : ℕ → Result Frac E) (size : ℕ) (s t : E) → IsFirst formed size s → IsFirst formed size t → s ≡ t
-one_stop formed size s t a b = by (dec_lt a.entry b.entry) (dec_lt b.entry a.entry)
-  where
-    by : Dec (a.entry < b.entry) → Dec (b.entry < a.entry) → s ≡ t
-    by (yes lt) d = absurd (err_not_ok (formed a.entry) s a.here (b.before a.entry lt))
-    by (no n) (yes lt) = absurd (err_not_ok (formed b.entry) t b.here (a.before b.entry lt))
-    by (no n) (no m) =
-        let same : a.entry ≡ b.entry = omega (arith, n, m) in
-        same_err (formed b.entry) s t (subst (λ j. formed j ≡ Err s) same a.here) b.here
+one_stop formed size s t a b =
+    let same : a.entry ≡ b.entry =
+    one_place (λ j. IsOk (formed j)) a.entry b.entry (λ ok. err_not_ok (formed a.entry) s a.here ok) (λ ok. err_not_ok (formed b.entry) t b.here ok) a.before b.before in
+    same_err (formed b.entry) s t (subst (λ j. formed j ≡ Err s) same a.here) b.here

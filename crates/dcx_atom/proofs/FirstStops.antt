@@ -1,8 +1,7 @@
 -- The first stop of steps that follow one another, and tests of fractions.
 use Rattle.std.proofs.Common.{◌≡◌, ◌⊎◌, inl, inr, ℕ, ◌+◌, ◌<◌, Bool, true, false, List, [], ◌∷◌, ◌++◌, map, length}
 use Rattle.std.proofs.Common.{get_or, take, drop, refl, sym, ap, ◌∙◌, subst, Option, Some, None, pos, if◌then◌else◌}
-use Rattle.dcx_atom.proofs.FormedSums.{take-next}
-use Rattle.std.proofs.lemmas.List.{map-append, take-append-drop}
+use Rattle.std.proofs.lemmas.List.{map-append, take-append-drop, take_more}
 use Rattle.dcx_math.specs.Rational.{ℚ, whole, rat_le, ◌≤ℚ◌, ◌<ℚ◌}
 use Rattle.dcx_math.proofs.Orders.{<ℚ-not, ≤ℚ-or-<ℚ}
 use Rattle.dcx_frac.specs.declared.fraction.Frac.{Frac}
@@ -69,7 +68,7 @@ weight-refused j w zero z e =
 pub weights_stop-next : (j : ℕ) (ws : List Frac) (i : ℕ) (d : Frac) → i < length ws → weights_stop j (map value (take i ws)) ≡ None →
     weights_stop j (map value (take (i + 1) ws)) ≡ weights_stop j (value (get_or ws i d) ∷ [])
 weights_stop-next j ws i d h e =
-    ap (λ xs. weights_stop j (map value xs)) (take-next ws i d h)
+    ap (λ xs. weights_stop j (map value xs)) (take_more ws i d h)
     ∙ ap (weights_stop j) (map-append value (take i ws) (get_or ws i d ∷ []))
     ∙ weights_stop-append j (map value (take i ws)) (value (get_or ws i d) ∷ [])
     ∙ ap (λ s. earlier s (weights_stop j (value (get_or ws i d) ∷ []))) e

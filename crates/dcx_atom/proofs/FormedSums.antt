@@ -1,7 +1,6 @@
 -- Forming numbers: a fraction is the one of its value, a sum with 0 forms nothing, and a list is summed from the left.
-use Rattle.std.proofs.Common.{◌≡◌, ℕ, suc, ◌+◌, ◌<◌, arith, length, get_or, take, drop, List, [], ◌∷◌, ◌++◌, map, refl, sym, ap, ap₂, ◌∙◌, subst, Result, Ok, Err, IsOk, IfOk, inl, pos}
-use Rattle.std.proofs.Math.Seq.{take-suc}
-use Rattle.std.proofs.lemmas.List.{take-append-drop}
+use Rattle.std.proofs.Common.{◌≡◌, ℕ, ◌+◌, ◌<◌, length, get_or, take, drop, List, [], ◌∷◌, ◌++◌, map, refl, sym, ap, ap₂, ◌∙◌, subst, Result, Ok, Err, IsOk, IfOk, inl, pos}
+use Rattle.std.proofs.lemmas.List.{take-append-drop, take_more}
 use Rattle.dcx_math.specs.Rational.{ℚ, whole, ◌+ℚ◌}
 use Rattle.dcx_math.specs.Sums.{rat_sum}
 use Rattle.dcx_math.proofs.Orders.{+ℚ_idl, +ℚ_idr, +ℚ_assoc}
@@ -100,14 +99,10 @@ sum_in_order-fractions fs = ap (sum_from zero_frac) (map-frac_at fs)
 pub sum_in_order-one : (f : Frac) → sum_in_order (value f ∷ []) ≡ Ok f
 sum_in_order-one f = sum_in_order-fractions (f ∷ []) ∙ rw (sum_of-zero_left zero_frac f value-zero_frac) refl
 
--- one more of a list
-pub take-next : {A : Type 0} (xs : List A) (i : ℕ) (d : A) → i < length xs → take (i + 1) xs ≡ take i xs ++ get_or xs i d ∷ []
-take-next xs i d h = let e : i + 1 ≡ suc i = omega arith in ap (λ k. take k xs) e ∙ take-suc xs i d h
-
 -- the sum of the first so many, and of one more
 pub sum_from-next : (x : Frac) (ys : List Frac) (i : ℕ) (d s : Frac) → i < length ys → sum_from x (take i ys) ≡ Ok s → sum_from x (take (i + 1) ys) ≡ sum_of s (get_or ys i d)
 sum_from-next x ys i d s h e =
-    ap (sum_from x) (take-next ys i d h) ∙ sum_from-append x (take i ys) (get_or ys i d) ∙ ap (λ r. and_then r (λ t. sum_of t (get_or ys i d))) e
+    ap (sum_from x) (take_more ys i d h) ∙ sum_from-append x (take i ys) (get_or ys i d) ∙ ap (λ r. and_then r (λ t. sum_of t (get_or ys i d))) e
 
 -- a sum that stops within the first so many
 pub sum_from-within : (x : Frac) (ys : List Frac) (i : ℕ) (passes : Passes) → sum_from x (take i ys) ≡ Err passes → sum_from x ys ≡ Err passes

@@ -19,7 +19,7 @@ use Rattle.dcx_frac.proofs.Turns.{over_one}
 use Rattle.dcx_atom.specs.declared.flags.Bend.{Bend}
 use Rattle.dcx_atom.specs.declared.flags.Bend.TheVariants.{Convex, Concave}
 use Rattle.dcx_atom.specs.Arrays.{number_at, list_below}
-use Rattle.dcx_atom.specs.Formed.{zero_frac, frac_at}
+use Rattle.dcx_atom.specs.Formed.{zero_frac, one_frac, frac_at}
 use Rattle.dcx_atom.specs.Bounding.{outward}
 use Rattle.dcx_atom.specs.Farthest.{extreme, extreme_among}
 use Rattle.dcx_atom.proofs.FormedSums.{value-zero_frac}
@@ -52,6 +52,9 @@ whole_fits n small =
 pub one_fits : IsRepresentable (whole (pos 1))
 one_fits = whole_fits 1 (lit< tt)
 
+pub value-one_frac : value one_frac ≡ whole (pos 1)
+value-one_frac = value-frac_at (whole (pos 1)) one_fits
+
 pub minus_one_fits : IsRepresentable (whole (negsuc 0))
 minus_one_fits =
     let one : pos 0 <ℤ pos 1 = omega (arith, ints) in
@@ -69,6 +72,10 @@ negative_fits x h =
     representable (neg_ℚ x) (neg_ℤ n) d
     (record { positive = lowest.positive; coprime = subst (λ k. IsCoprime k (unsigned_abs d)) same lowest.coprime; is = ap neg_ℚ lowest.is ∙ ratio-neg_ℚ d lowest.positive n })
     (subst (λ k. k < 2 ^ 127) same fits.0) fits.1
+
+-- the negative of a fraction is one
+pub value-negative : (x : Frac) → value (frac_at (neg_ℚ (value x))) ≡ neg_ℚ (value x)
+value-negative x = value-frac_at (neg_ℚ (value x)) (negative_fits (value x) (value_representable x))
 
 pub outward_fits : (bend : Bend) (x : ℚ) → IsRepresentable x → IsRepresentable (outward bend x)
 outward_fits Convex x h = h

@@ -1,6 +1,6 @@
 -- Lists that are made one after the other, and the numbers of a list.
 use Rattle.std.proofs.Common.{◌≡◌, ⊎_elim, subst, IsOk, ◌*◌, ℕ, zero, suc, ◌+◌, ◌<◌, ◌≤◌, arith, List, [], ◌∷◌, ◌++◌, map, length, get_or, take, drop, refl, sym, ap, ap₂, ◌∙◌, pos}
-use Rattle.std.proofs.lemmas.List.{map-append, length-map}
+use Rattle.std.proofs.lemmas.List.{map-append, length-map, take_more}
 use Rattle.dcx_math.specs.Rational.{ℚ, whole}
 use Rattle.dcx_math.specs.Sums.{rat_at}
 use Rattle.dcx_math.proofs.Sums.{rat_at-left}
@@ -10,7 +10,7 @@ use Rattle.dcx_atom.specs.declared.flags.Bend.{Bend}
 use Rattle.dcx_atom.specs.Arrays.{list_below, joined_below, number_at}
 use Rattle.dcx_atom.specs.Formed.{sum_in_order}
 use Rattle.dcx_atom.specs.Farthest.{farther, extreme_from, extreme}
-use Rattle.dcx_atom.proofs.FormedSums.{take-next, sum_in_order-one}
+use Rattle.dcx_atom.proofs.FormedSums.{sum_in_order-one}
 use Rattle.dcx_atom.proofs.BoundRows.{list_below-first, length-joined, below_or_last}
 
 -- one more of a list
@@ -107,7 +107,7 @@ extreme_from-next bend x (z ∷ zs) y = extreme_from-next bend (farther bend x z
 pub one_farther : {A : Type 0} (bend : Bend) (x : ℚ) (f : A → ℚ) (others : List A) (i : ℕ) (y : A) → i < length others → y ≡ get_or others i y →
     extreme_from bend x (map f (take (i + 1) others)) ≡ farther bend (extreme_from bend x (map f (take i others))) (f y)
 one_farther bend x f others i y h e =
-    ap (λ ys. extreme_from bend x (map f ys)) (take-next others i y h) ∙ ap (extreme_from bend x) (map-append f (take i others) (get_or others i y ∷ []))
+    ap (λ ys. extreme_from bend x (map f ys)) (take_more others i y h) ∙ ap (extreme_from bend x) (map-append f (take i others) (get_or others i y ∷ []))
     ∙ extreme_from-next bend x (map f (take i others)) (f (get_or others i y)) ∙ ap (λ z. farther bend (extreme_from bend x (map f (take i others))) (f z)) (sym e)
 
 -- the first of a list and the others

@@ -16,7 +16,7 @@ use Rattle.dcx_tree.specs.declared.problem.Problem.{Problem}
 use Rattle.dcx_tree.specs.Nodes.{head_of, arg_sides, convex_node, number_in}
 use Rattle.dcx_tree.specs.Problems.{HasCall, AreDeclared}
 use Rattle.dcx_tree.specs.Meaning.{names_in, convex_problem}
-use Rattle.dcx_tree.proofs.Lawful.{tree_lawful}
+use Rattle.dcx_tree.proofs.Lawful.{problem_lawful}
 use Rattle.dcx_tree.proofs.Names.{found_in}
 use Rattle.dcx_linear.specs.Rows.{LinearProgram}
 use Rattle.dcx_unknowns.specs.Unknowns.{sides_in, first_unknown, unknown_from, number_at, point_at}
@@ -42,7 +42,7 @@ module _ (rules : Rules) (p : Problem) (s : Setting) (l : LinearProgram) (is : I
       let stands = is.reduction.sound t low.assignment low.rows i n at in
       let here : forms i ≡ first_of (entries_of d.sides) (is.reduced.point t d.number) =
       subst (λ h. StandsFor rules s (is.reduced.point t) h (map (judgement_at rules (convex_problem p).nodes) n.args) (map forms n.args) (forms i)) e stands in
-      let told = value_tells (convex_problem p).nodes (tree_lawful (names_in p) p.tree p.nodes).ordered s y i n at in
+      let told = value_tells (convex_problem p).nodes (problem_lawful p).ordered s y i n at in
       let there : value_at (convex_problem p).nodes s y i ≡ first_of (entries_of d.sides) (y d.number) =
       told ∙ ap (λ h. value_by s y h (map (value_at (convex_problem p).nodes s y) n.args)) e in
       sym here ∙ low.same i (slice_get_within (convex_problem p).nodes i n at) ∙ there

@@ -14,8 +14,8 @@ use Rattle.dcx_convex.specs.Answers.{Multipliers, penalty_of}
 use Rattle.dcx_convex.specs.Reductions.{Unknowns, Reduced, IsLifted, Solves, IsWellFormed}
 use Rattle.dcx_convex.proofs.MapBack.{Projects, projects, lifted_penalty, lifted_objective}
 use Rattle.dcx_tree.specs.declared.problem.Problem.{Problem}
-use Rattle.dcx_tree.specs.Meaning.{names_in, convex_problem, Fits, IsInDomain, objective_at, lagrangian}
-use Rattle.dcx_tree.proofs.Lawful.{tree_lawful}
+use Rattle.dcx_tree.specs.Meaning.{convex_problem, Fits, IsInDomain, objective_at, lagrangian}
+use Rattle.dcx_tree.proofs.Lawful.{problem_lawful}
 use Rattle.dcx_linear.specs.Rows.{RowAt, LinearProgram, HaveSigns, combined, combined_from, IsOptimal, IsInfeasible}
 use Rattle.dcx_math.proofs.Lists.{in_left}
 use Rattle.dcx_unknowns.proofs.Places.{in_right}
@@ -89,10 +89,10 @@ module _ (rules : Rules) (p : Problem) (s : Setting) (ok : IsTrue (accepted_by r
 
   -- ---- the rows of the program at the unknowns of a point
   same_penalty : (y : Point) (m : Multipliers) (t : Unknowns) → IsLifted r P s y t → penalty_of P m (r.forms t) ≡ answers.penalty P s y m
-  same_penalty = lifted_penalty rules P (tree_lawful (names_in p) p.tree p.nodes).lawful formed ok s fit r is.reduction
+  same_penalty = lifted_penalty rules P (problem_lawful p).lawful formed ok s fit r is.reduction
 
   same_objective : (y : Point) (t : Unknowns) → IsLifted r P s y t → objective_of P (r.forms t) ≡ objective_at p s y
-  same_objective = lifted_objective rules P (tree_lawful (names_in p) p.tree p.nodes).lawful formed ok s fit r is.reduction
+  same_objective = lifted_objective rules P (problem_lawful p).lawful formed ok s fit r is.reduction
 
   program_below : (m : ℕ → ℚ) → HaveSigns (with_rows l extra) m → (y : Point) (t : Unknowns) → IsLifted r P s y t → combined_from m 0 l.rows t ≤ℚ answers.penalty P s y (multipliers_of P m)
   program_below m h y t lifted =
@@ -132,7 +132,7 @@ module _ (rules : Rules) (p : Problem) (s : Setting) (ok : IsTrue (accepted_by r
 
   -- a solution gives a feasible point whose objective is no greater, and keeps the further rows
   pub record Shows (x : Unknowns) : Type 0 where
-    pub projects : Projects rules P (tree_lawful (names_in p) p.tree p.nodes).lawful formed ok s fit r is.reduction x
+    pub projects : Projects rules P (problem_lawful p).lawful formed ok s fit r is.reduction x
     pub kept : (k : ℕ) (row : Unknowns → ℚ) → slice_get extra k ≡ Some row → row x ≤ℚ whole (pos 0)
 
   pub optimal_shows : (v : ℚ) (x : Unknowns) (m : ℕ → ℚ) → IsOptimal (with_rows l extra) v x m → Shows x
@@ -144,6 +144,6 @@ module _ (rules : Rules) (p : Problem) (s : Setting) (ok : IsTrue (accepted_by r
         holds = right.solves.holds;
       } in
       record {
-        projects = projects rules P (tree_lawful (names_in p) p.tree p.nodes).lawful formed ok s fit r is.reduction x solves;
+        projects = projects rules P (problem_lawful p).lawful formed ok s fit r is.reduction x solves;
         kept = λ k row e. right.solves.rows (length r.rows + k) row (back r.rows extra k row e);
       }

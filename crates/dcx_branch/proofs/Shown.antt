@@ -31,7 +31,7 @@ use Rattle.dcx_std.specs.IntegerRows.{IsMade}
 use Rattle.dcx_std.specs.Solutions.{HasKinds, row_at, unknowns_at, linear_program}
 use Rattle.dcx_std.proofs.ScaledProgram.{scaled_program}
 use Rattle.dcx_std.proofs.Solutions.{facts_of, inequality_there}
-use Rattle.dcx_std.proofs.RightAnswers.{shown_of}
+use Rattle.dcx_std.proofs.RightAnswers.{rows_right_as}
 use Rattle.dcx_unknowns.specs.Layout.{constraint_rows}
 use Rattle.dcx_unknowns.specs.Unknowns.{point_at}
 use Rattle.dcx_postsolve.specs.Programs as mapping
@@ -171,7 +171,7 @@ module _ (p : Problem) (s : Setting) (q : Program Frac) (given : IsReducedAt p s
   nodes = answers_are_leaves given.rules p s l box bs given.accepted given.fits given.reduction each
 
   right_as : (t : LpStatus) → a.status ≡ t → IsRightForRowsAs t (node_rows q bs) program a
-  right_as t e = subst (λ (u : LpStatus). IsRightForRowsAs u (node_rows q bs) program a) e (shown_of (node_rows q bs) program known (scaled_program (node_rows q bs) program made) a right)
+  right_as t e = rows_right_as (node_rows q bs) program known made a right t e
 
   pub optimal : a.status ≡ status.Optimal → IsOptimal (node_program l bs) (value a.number) x m
   optimal e = subst (λ (k : LinearProgram). IsOptimal k (value a.number) x m) linear (right_as status.Optimal e)

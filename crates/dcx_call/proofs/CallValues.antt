@@ -4,6 +4,7 @@ use Rattle.std.proofs.Common.{Some, None, IsSome, IfSome, option_map, refl, sym,
 use Rattle.std.proofs.lemmas.List.Elements.{All-cons, All-nil}
 use Rattle.dcx_math.specs.Rational.{ℚ, whole, ◌+ℚ◌, ◌*ℚ◌, ◌/ℚ◌, rat_eq}
 use Rattle.dcx_math.specs.Sums.{rat_sum_by}
+use Rattle.dcx_math.proofs.Lists.{map-get_or}
 use Rattle.dcx_math.proofs.Orders.{+ℚ_idr}
 use Rattle.dcx_frac.specs.declared.fraction.Frac.{Frac}
 use Rattle.dcx_frac.specs.declared.fraction.Passes.{Passes}
@@ -44,11 +45,6 @@ use Rattle.dcx_call.proofs.Products.{AreRepresentable, products_exact}
 use Rattle.dcx_atom.proofs.Fractions.{value-frac_at, number_fits}
 
 -- ---- lists
-map-get_or : {A B : Type 0} (f : List A → List B) → f [] ≡ [] → (xs : List (List A)) (j : ℕ) → f (get_or xs j []) ≡ get_or (map f xs) j []
-map-get_or f e [] j = e
-map-get_or f e (x ∷ xs) zero = refl
-map-get_or f e (x ∷ xs) (suc j) = map-get_or f e xs j
-
 sides_of_shapes : (args : List Array) → sides_list (map (λ x. x.shape) args) ≡ array_sides args
 sides_of_shapes [] = refl
 sides_of_shapes (x ∷ xs) = ap (λ rest. sides_of x.shape ∷ rest) (sides_of_shapes xs)

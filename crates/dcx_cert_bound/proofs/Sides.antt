@@ -27,7 +27,7 @@ use Rattle.dcx_tree.specs.declared.problem.Problem.{Problem}
 use Rattle.dcx_tree.specs.Nodes.{Node, arg_sides, head_of, convex_node, pairing_call}
 use Rattle.dcx_tree.specs.Meaning.{names_in, convex_problem, setting_of, point_of, IsAccepted}
 use Rattle.dcx_tree.specs.Values.{array_at}
-use Rattle.dcx_tree.proofs.Lawful.{tree_lawful}
+use Rattle.dcx_tree.proofs.Lawful.{problem_lawful}
 use Rattle.dcx_rules.proofs.Reaching.{each_bent}
 use Rattle.dcx_cert_collect.specs.Laws.{HasKnownSide, MayHandOn, AreKnown}
 use Rattle.dcx_cert_collect.proofs.ArgSides.{two_args}
@@ -90,7 +90,7 @@ module _ (p : Problem) (setting : Pairs) (values : List (Option Array)) (v : Are
 
       told : (call : Call) → n.call ≡ call → judged i ≡ judgement_by Plain (head_of (names_in p) call (arg_sides p.tree n) n.sides) (map judged n.args)
       told call is =
-          judgement_tells Plain (convex_problem p).nodes (tree_lawful (names_in p) p.tree p.nodes).ordered i (convex_node (names_in p) p.tree n)
+          judgement_tells Plain (convex_problem p).nodes (problem_lawful p).ordered i (convex_node (names_in p) p.tree n)
           (slice_get-map (convex_node (names_in p) p.tree) p.tree i ∙ ap (option_map (convex_node (names_in p) p.tree)) at)
           ∙ ap (λ c. judgement_by Plain (head_of (names_in p) c (arg_sides p.tree n) n.sides) (map judged n.args)) is
 

@@ -12,7 +12,6 @@ use Rattle.dcx_frac.specs.declared.fraction.Frac.{Frac}
 use Rattle.dcx_frac.specs.declared.fraction.Passes.{Passes}
 use Rattle.dcx_frac.specs.Frac.{value}
 use Rattle.dcx_shape.specs.declared.shape.Sides.{Sides}
-use Rattle.dcx_shape.specs.declared.shape.Sides.TheVariants.{Scalar}
 use Rattle.dcx_shape.specs.Sides.{entries_of}
 use Rattle.dcx_atom.proofs.FormedSums.{value-zero_frac}
 use Rattle.dcx_atom.specs.declared.array.Array.{Array}
@@ -40,6 +39,7 @@ use Rattle.dcx_atom.specs.Fractions.{AreFractionSlopes}
 use Rattle.dcx_call.proofs.Coefficients.{coefficients_fit}
 use Rattle.dcx_tree.specs.Nodes.{Names, Node, pairs_of, head_of, arg_sides}
 use Rattle.dcx_tree.specs.Values.{array_at}
+use Rattle.dcx_tree.proofs.NodeValues.{sides_are}
 use Rattle.dcx_cert_collect.specs.declared.collected.Reached.{Reached}
 use Rattle.dcx_cert_collect.specs.declared.stop.CollectStop.{CollectStop}
 use Rattle.dcx_cert_collect.specs.Shares.{frac_in, Share, with_shares}
@@ -309,9 +309,6 @@ module _ (names : Names) (nodes : List Node) (are : AreNodes shape_of nodes) (s 
       subst (λ xs. AreFractionSlopes (atom_meaning m) (map (sides_of_node nodes) xs) (weights i)) (ap (λ (o : Option Node). unwrap_or (option_map (λ (k : Node). k.args) o) []) at)
       (fractions i b none m (ap (option_map (λ (k : Node). k.call)) at ∙ ap Some same))
 
-  own_sides : (i : ℕ) (n : Node) → IsNode nodes i n → sides_of_node nodes i ≡ n.sides
-  own_sides i n at = ap (λ (o : Option Node). unwrap_or (option_map (λ (k : Node). k.sides) o) Scalar) at
-
   passed_bound : (weights : ℕ → List Frac) → HasOwnFractions weights → (i : ℕ) → i < length nodes → (o : Option Array) → array_at values i ≡ o
       → (cs : List Frac) (kept after : Kept) → length cs ≡ entries_of (sides_of_node nodes i) →
       length kept.below ≡ start_of nodes i → passed nodes values weights i o cs kept ≡ Ok after → worth after ≤ℚ value kept.total +ℚ reached_times kept.reached f +ℚ
@@ -319,7 +316,7 @@ module _ (names : Names) (nodes : List Node) (are : AreNodes shape_of nodes) (s 
   passed_bound weights fractions i b (Some x) at cs kept after size start e = ≤ℚ-from_≡ (counted_bound i x cs kept.below kept after at refl e)
   passed_bound weights fractions i b None none cs kept after size start e =
       let (n, at) = node_there nodes i b in
-      handed_bound i b n at none cs (weights i) kept after (size ∙ ap entries_of (own_sides i n at)) start (own_fractions weights fractions i b none n at) e
+      handed_bound i b n at none cs (weights i) kept after (size ∙ ap entries_of (sides_are nodes i n at)) start (own_fractions weights fractions i b none n at) e
 
   -- the coefficients of the nodes before node i, and those of its own
   pub parts : (i : ℕ) → i < length nodes → (below : List Frac) → length below ≡ start_of nodes (i + 1) →

@@ -8,7 +8,7 @@ use Rattle.std.proofs.lemmas.Option.{slice_get-map, get_or_from_slice_get}
 use Rattle.dcx_math.specs.Rational.{ℚ, whole, ◌+ℚ◌, ◌-ℚ◌, ◌*ℚ◌, neg_ℚ}
 use Rattle.dcx_math.specs.Sums.{rat_sum_below}
 use Rattle.dcx_math.proofs.Ring.{ring, reads}
-use Rattle.dcx_math.proofs.Orders.{+ℚ_idl, *ℚ_idl}
+use Rattle.dcx_math.proofs.Orders.{+ℚ_idl, *ℚ_idl, minus_one-*ℚ}
 use Rattle.dcx_math.proofs.Sums.{rat_sum_below-same, rat_sum_below-first, rat_sum_below-+ℚ}
 use Rattle.dcx_frac.specs.declared.fraction.Frac.{Frac}
 use Rattle.dcx_frac.specs.Frac.{value}
@@ -22,7 +22,7 @@ use Rattle.dcx_convex.specs.Nodes.{Numbers}
 use Rattle.dcx_convex.specs.Problems as convex
 use Rattle.dcx_convex.specs.Problems.{minimized, gap_of, objective_of}
 use Rattle.dcx_convex.specs.Answers.{Multipliers, weighed, penalty_of, lagrangian_of}
-use Rattle.dcx_atom.proofs.Fractions.{value-frac_at, negative_fits, one_fits, minus_one_fits}
+use Rattle.dcx_atom.proofs.Fractions.{value-frac_at, negative_fits, value-one_frac, minus_one_fits}
 use Rattle.dcx_frac.proofs.Parts.{value_representable}
 use Rattle.dcx_tree.specs.declared.constraint.Sense.{Sense}
 use Rattle.dcx_tree.specs.declared.constraint.Sense.TheVariants.{Minimize, Maximize}
@@ -41,9 +41,6 @@ use Rattle.dcx_cert_collect.proofs.Bound.{number_of, IsBefore, IsWorth, worth_of
 use Rattle.dcx_math.proofs.Lists.{element_at}
 
 -- ---- arithmetic
-times_minus_one : (x : ℚ) → whole (negsuc 0) *ℚ x ≡ neg_ℚ x
-times_minus_one x = ring (x ∷ []) (search reads depth 30) tt
-
 gap_of_two : (m a b : ℚ) → m *ℚ a +ℚ neg_ℚ m *ℚ b ≡ m *ℚ (a -ℚ b)
 gap_of_two m a b = ring (m ∷ a ∷ b ∷ []) (search reads depth 30) tt
 
@@ -144,8 +141,8 @@ module _ (p : Problem) (duals : List Array) (are : AreDuals p duals) (f : ℕ �
 
   -- the objective
   sense_worth : (sense : Sense) (z : ℚ) → value (objective_number sense) *ℚ z ≡ minimized (sense_of sense) z
-  sense_worth Minimize z = ap (λ v. v *ℚ z) (value-frac_at (whole (pos 1)) one_fits) ∙ *ℚ_idl z
-  sense_worth Maximize z = ap (λ v. v *ℚ z) (value-frac_at (whole (negsuc 0)) minus_one_fits) ∙ times_minus_one z
+  sense_worth Minimize z = ap (λ v. v *ℚ z) value-one_frac ∙ *ℚ_idl z
+  sense_worth Maximize z = ap (λ v. v *ℚ z) (value-frac_at (whole (negsuc 0)) minus_one_fits) ∙ minus_one-*ℚ z
 
   objective_dot : (t u : List Frac) → length t ≡ entries_in p.tree → with_shares t (objective_shares true p) ≡ Ok u → dot u G ≡ dot t G +ℚ objective_of (convex_problem p) f
   objective_dot t u count e =

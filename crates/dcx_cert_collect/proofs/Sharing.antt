@@ -1,11 +1,10 @@
 -- Shares that are added one after the other: what comes with one more, and what has stopped.
 use Rattle.std.proofs.Common.{◌≡◌, ℕ, zero, suc, ◌+◌, ◌-◌, ◌<◌, ◌≤◌, arith, List, [], ◌∷◌, ◌++◌, length, take, drop, get_or, refl, sym, ap, ◌∙◌, Result, Ok, Err}
-use Rattle.std.proofs.lemmas.List.{take-append-drop}
+use Rattle.std.proofs.lemmas.List.{take-append-drop, take_more}
 use Rattle.dcx_frac.specs.declared.fraction.Frac.{Frac}
 use Rattle.dcx_frac.specs.declared.fraction.Passes.{Passes}
 use Rattle.dcx_atom.specs.Arrays.{list_below, joined_below}
 use Rattle.dcx_atom.specs.Formed.{and_then}
-use Rattle.dcx_atom.proofs.FormedSums.{take-next}
 use Rattle.dcx_cert_collect.specs.Shares.{Share, with_share, with_shares}
 use Rattle.dcx_cert_collect.proofs.Counting.{next}
 
@@ -51,7 +50,7 @@ shares-stopped t ss rs p e = shares-append t ss rs ∙ ap (λ r. and_then r (λ 
 pub shares-next : (t u : List Frac) (ss : List Share) (i : ℕ) (s : Share) → i < length ss → s ≡ get_or ss i s → with_shares t (take i ss) ≡ Ok u →
     with_shares t (take (i + 1) ss) ≡ with_share u s
 shares-next t u ss i s b is e =
-    ap (with_shares t) (take-next ss i s b) ∙ shares-after t u (take i ss) (get_or ss i s ∷ []) e ∙ one_share u (get_or ss i s) ∙ ap (with_share u) (sym is)
+    ap (with_shares t) (take_more ss i s b) ∙ shares-after t u (take i ss) (get_or ss i s ∷ []) e ∙ one_share u (get_or ss i s) ∙ ap (with_share u) (sym is)
 
 pub shares-within : (t : List Frac) (ss : List Share) (i : ℕ) (p : Passes) → with_shares t (take i ss) ≡ Err p → with_shares t ss ≡ Err p
 shares-within t ss i p e = ap (with_shares t) (sym (take-append-drop i ss)) ∙ shares-stopped t (take i ss) (drop i ss) p e

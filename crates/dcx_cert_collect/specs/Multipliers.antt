@@ -1,5 +1,5 @@
 -- The coefficients at the start: 1 for the minimized objective, and of each constraint its multipliers on the left and their negations on the right.
-use Rattle.std.specs.Prelude.{◌≡◌, ℕ, Bool, true, false, List, [], ◌∷◌, ◌++◌, length, replicate, Option, Some, None, Result, Ok, slice_get, pos, negsuc}
+use Rattle.std.specs.Prelude.{◌≡◌, ℕ, Bool, true, false, List, [], ◌∷◌, ◌++◌, length, replicate, Option, Some, None, Result, Ok, slice_get, negsuc}
 use Rattle.dcx_math.specs.Rational.{whole, neg_ℚ}
 use Rattle.dcx_frac.specs.declared.fraction.Frac.{Frac}
 use Rattle.dcx_frac.specs.declared.fraction.Passes.{Passes}
@@ -8,7 +8,7 @@ use Rattle.dcx_shape.specs.Shape.{sides_of}
 use Rattle.dcx_shape.specs.Sides.{entries_of}
 use Rattle.dcx_atom.specs.declared.array.Array.{Array}
 use Rattle.dcx_atom.specs.Arrays.{list_below, joined_below}
-use Rattle.dcx_atom.specs.Formed.{zero_frac, frac_at}
+use Rattle.dcx_atom.specs.Formed.{zero_frac, one_frac, frac_at}
 use Rattle.dcx_arena.specs.Nodes.{entries_in}
 use Rattle.dcx_tree.specs.declared.constraint.Sense.{Sense}
 use Rattle.dcx_tree.specs.declared.constraint.Sense.TheVariants.{Minimize, Maximize}
@@ -20,7 +20,7 @@ use Rattle.dcx_cert_collect.specs.Starts.{place_of}
 
 -- the minimized objective has 1, so the objective has -1 where it is maximized
 abbrev pub objective_number : Sense → Frac
-objective_number Minimize = frac_at (whole (pos 1))
+objective_number Minimize = one_frac
 objective_number Maximize = frac_at (whole (negsuc 0))
 
 abbrev pub objective_shares : Bool → Problem → List Share

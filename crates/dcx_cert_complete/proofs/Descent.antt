@@ -19,7 +19,7 @@ use Rattle.dcx_convex.specs.Answers.{IsUnbounded}
 use Rattle.dcx_convex.proofs.Acceptance.{all_at}
 use Rattle.dcx_convex.proofs.Beyond.{IsBeyondAs, affine_same}
 use Rattle.dcx_tree.specs.Meaning.{names_in, convex_problem}
-use Rattle.dcx_tree.proofs.Lawful.{tree_lawful}
+use Rattle.dcx_tree.proofs.Lawful.{problem_lawful}
 use Rattle.dcx_right.specs.Steepness.{steep_at}
 use Rattle.dcx_right.specs.Rays.{AreReceding, IsRay}
 use Rattle.dcx_right.proofs.TreeValues.{tree_recedes}
@@ -152,5 +152,5 @@ module _ (p : Problem) (ordered : IsOrdered p.nodes) (law : AreLawful p.nodes) (
 
 pub unbounded_goes_by_rays : UnboundedGoesByRays
 unbounded_goes_by_rays p ok s fit x d b e h =
-    let lawful = tree_lawful (names_in p) p.tree p.nodes in
+    let lawful = problem_lawful p in
     ray (convex_problem p) lawful.ordered lawful.lawful (tree_recedes (names_in p) p.tree p.nodes) (tree_starts (names_in p) p.tree p.nodes) ok s fit x d b e h

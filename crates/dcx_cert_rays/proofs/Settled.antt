@@ -1,11 +1,10 @@
 -- The checks of a ray tell one thing each.
-use Rattle.std.proofs.Common.{◌≡◌, ℕ, ◌<◌, List, [], ◌∷◌, Option, Some, None, slice_get, sym, ap, subst, ◌∙◌, arith}
-use native.Mathlib.Decide.{dec_lt}
+use Rattle.std.proofs.Common.{◌≡◌, ℕ, List, [], ◌∷◌, Option, Some, None, slice_get, sym, ap, subst, ◌∙◌}
 use Rattle.std.proofs.lemmas.Option.{same_Some}
 use Rattle.dcx_frac.specs.declared.fraction.Frac.{Frac}
 use Rattle.dcx_shape.specs.Sides.{entries_of}
 use Rattle.dcx_atom.specs.declared.stops.ValueStop.TheVariants as stops
-use Rattle.dcx_atom.proofs.Entrywise.{err_not_ok, one_stop}
+use Rattle.dcx_atom.proofs.Entrywise.{err_not_ok, one_place, one_stop}
 use Rattle.dcx_point.specs.Pairs.{Pairs}
 use Rattle.dcx_call.specs.Forming.{IsFirst}
 use Rattle.dcx_tree.specs.declared.constraint.Constraint.{Constraint}
@@ -16,7 +15,7 @@ use Rattle.dcx_answer.specs.declared.cert_fault.CertFault.TheVariants.{Wide}
 use Rattle.dcx_cert_sections.specs.Laws.{IsSettled}
 use Rattle.dcx_cert_sections.proofs.Settled.{settled_together}
 use Rattle.dcx_cert_rays.specs.Steepness.{steepness_formed, IsFormed, IsUnformed, forming_at, forming}
-use Rattle.dcx_cert_rays.specs.Rays.{broken_fault, IsFirstBroken, sides_hold, constraint_check, falls, value_check, constraints_check}
+use Rattle.dcx_cert_rays.specs.Rays.{HoldsAt, broken_fault, IsFirstBroken, sides_hold, constraint_check, falls, value_check, constraints_check}
 use Rattle.dcx_cert_rays.specs.Laws.{RayChecksAreSettled}
 
 module _ (p : Problem) (setting ray : Pairs) where
@@ -41,14 +40,9 @@ module _ (p : Problem) (setting ray : Pairs) where
 
   -- ---- comparisons
   one_broken : (k : ℕ) (c : Constraint) (f g : CertFault) → IsFirstBroken p setting ray k c f → IsFirstBroken p setting ray k c g → f ≡ g
-  one_broken k c f g a b = by (dec_lt a.entry b.entry) (dec_lt b.entry a.entry)
-    where
-      by : Dec (a.entry < b.entry) → Dec (b.entry < a.entry) → f ≡ g
-      by (yes lt) d = absurd (a.here (b.before a.entry lt))
-      by (no n) (yes lt) = absurd (b.here (a.before b.entry lt))
-      by (no n) (no m) =
-          let same : a.entry ≡ b.entry = omega (arith, n, m) in
-          a.told ∙ ap (broken_fault p setting ray k c) same ∙ sym b.told
+  one_broken k c f g a b =
+      let same : a.entry ≡ b.entry = one_place (λ j. HoldsAt p setting ray c j) a.entry b.entry a.here b.here a.before b.before in
+      a.told ∙ ap (broken_fault p setting ray k c) same ∙ sym b.told
 
   sides_settled : (k : ℕ) (c : Constraint) → IsSettled (sides_hold p setting ray k c)
   sides_settled k c = record {

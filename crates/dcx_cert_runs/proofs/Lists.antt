@@ -1,14 +1,11 @@
 -- One item more of a list, and items of two lists that stand at one place.
-use Rattle.std.proofs.Common.{◌≡◌, ℕ, zero, suc, ◌+◌, ◌<◌, ◌≤◌, List, [], ◌∷◌, ◌++◌, length, get_or, Some, refl, sym, ap, ap₂, ◌∙◌, subst, add-one, arith}
+use Rattle.std.proofs.Common.{◌≡◌, ℕ, suc, ◌+◌, ◌<◌, ◌≤◌, List, [], ◌∷◌, ◌++◌, length, get_or, Some, refl, sym, ap, ap₂, ◌∙◌, subst, arith}
 use native.Mathlib.Decide.{dec_lt}
 use Rattle.std.specs.List.{slice_get, All}
 use Rattle.std.proofs.lemmas.Option.{slice_get-get_or, slice_get_within, get_or_from_slice_get}
+use Rattle.std.proofs.lemmas.List.{length_push, get_or_push}
 use Rattle.std.proofs.lemmas.List.Elements.{All-from_get_or}
 use Rattle.dcx_math.proofs.Lists.{in_left}
-
-end_length : {X : Type 0} (xs : List X) (x : X) → length (xs ++ x ∷ []) ≡ suc (length xs)
-end_length [] x = refl
-end_length (y ∷ ys) x = ap suc (end_length ys x)
 
 -- what holds of an item beside which another one stands holds of each
 pub each_beside : {X Y : Type 0} (P : Y → Type 0) (xs : List X) (ys : List Y) (a : X) (b : Y) → length ys ≡ length xs
@@ -44,10 +41,7 @@ all_below R xs ys n end h k x y at there = let within = slice_get_within ys k y 
 
 -- ---- a list made of two
 at_end : {X : Type 0} (zs : List X) (z : X) (k : ℕ) → k ≡ length zs → slice_get (zs ++ z ∷ []) k ≡ Some z
-at_end [] z zero e = refl
-at_end [] z (suc k) e = absurd (omega (arith, e))
-at_end (y ∷ ys) z zero e = absurd (omega (arith, e))
-at_end (y ∷ ys) z (suc k) e = at_end ys z k (omega (arith, e))
+at_end zs z k e = let count = length_push zs z in slice_get-get_or (zs ++ z ∷ []) k z (omega (arith, count, e)) ∙ ap Some (get_or_push zs z z k (sym e))
 
 -- each item so far is made of the two at its place
 pub record AreMade {X Y Z : Type 0} (F : X → Y → Z) (xs : List X) (ys : List Y) (zs : List Z) (n : ℕ) : Type 0 where
@@ -60,7 +54,7 @@ module _ {X Y Z : Type 0} (F : X → Y → Z) (xs : List X) (ys : List Y) where
 
   -- one item more
   pub made_step : (zs : List Z) (n : ℕ) (a : X) (b : Y) (z : Z) → AreMade F xs ys zs n → a ≡ get_or xs n a → b ≡ get_or ys n b → z ≡ F a b → AreMade F xs ys (zs ++ z ∷ []) (n + 1)
-  made_step zs n a b z h ia ib is = record { count = end_length zs z ∙ ap suc h.count ∙ sym (add-one n); each = λ k x y lt at here. by k x y lt at here (dec_lt k n) }
+  made_step zs n a b z h ia ib is = record { count = length_push zs z ∙ ap (λ k. k + 1) h.count; each = λ k x y lt at here. by k x y lt at here (dec_lt k n) }
     where
       by : (k : ℕ) (x : X) (y : Y) → k < n + 1 → slice_get xs k ≡ Some x → slice_get ys k ≡ Some y → Dec (k < n) → slice_get (zs ++ z ∷ []) k ≡ Some (F x y)
       by k x y lt at here (yes l) = in_left zs (z ∷ []) k (F x y) (h.each k x y l at here)

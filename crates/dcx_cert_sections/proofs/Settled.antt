@@ -1,7 +1,7 @@
 -- Checks that tell one thing each tell one thing in order.
-use Rattle.std.proofs.Common.{◌≡◌, ℕ, ◌<◌, subst, arith}
+use Rattle.std.proofs.Common.{◌≡◌, ℕ, subst}
 use mathlib.Core.Logic.{inl, inr}
-use native.Mathlib.Decide.{dec_lt}
+use Rattle.dcx_atom.proofs.Entrywise.{one_place}
 use Rattle.dcx_answer.specs.declared.cert_fault.CertFault.{CertFault}
 use Rattle.dcx_cert_sections.specs.Checks.{Check, nothing, in_turn, each_below, IsFirstOf}
 use Rattle.dcx_cert_sections.specs.Laws.{IsSettled, AreSettledTogether}
@@ -30,14 +30,10 @@ module _ (count : ℕ) (check : ℕ → Check) (settled : (k : ℕ) → IsSettle
   many_apart f p e = (settled e.position).apart f (p e.position e.there) e.here
 
   many_one : (f g : CertFault) → IsFirstOf count check f → IsFirstOf count check g → f ≡ g
-  many_one f g e h = by (dec_lt e.position h.position) (dec_lt h.position e.position)
-    where
-      by : Dec (e.position < h.position) → Dec (h.position < e.position) → f ≡ g
-      by (yes lt) d = absurd ((settled e.position).apart f (h.before e.position lt) e.here)
-      by (no n) (yes lt) = absurd ((settled h.position).apart g (e.before h.position lt) h.here)
-      by (no n) (no m) =
-          let same : e.position ≡ h.position = omega (arith, n, m) in
-          (settled h.position).one f g (subst (λ k. (check k).fails f) same e.here) h.here
+  many_one f g e h =
+      let same : e.position ≡ h.position =
+      one_place (λ k. (check k).passes) e.position h.position (λ p. (settled e.position).apart f p e.here) (λ p. (settled h.position).apart g p h.here) e.before h.before in
+      (settled h.position).one f g (subst (λ k. (check k).fails f) same e.here) h.here
 
   -- so many checks tell one thing
   pub many : IsSettled (each_below count check)

@@ -18,7 +18,7 @@ use Rattle.dcx_tree.specs.declared.problem.Problem.{Problem}
 use Rattle.dcx_tree.specs.Nodes.{Node, head_of, arg_sides, convex_node}
 use Rattle.dcx_tree.specs.Meaning.{names_in, convex_problem, IsAccepted}
 use Rattle.dcx_tree.proofs.Arguments.{no_args, all_fixed}
-use Rattle.dcx_tree.proofs.Lawful.{tree_lawful}
+use Rattle.dcx_tree.proofs.Lawful.{problem_lawful}
 use Rattle.dcx_right.proofs.Reached.{tree_side_fixed}
 use Rattle.dcx_cert_values.specs.Forming.{IsFixedNode, divisor_if, divisor_in, IsBelowDivisor}
 
@@ -59,7 +59,7 @@ module _ (p : Problem) where
   judgement : (i : ℕ) (n : Node) → IsNode p.tree i n → judged i ≡ judgement_by Plain (head_of (names_in p) n.call (arg_sides p.tree n) n.sides) (map judged n.args)
   judgement i n at =
       let node = convex_node (names_in p) p.tree in
-      judgement_tells Plain (convex_problem p).nodes (tree_lawful (names_in p) p.tree p.nodes).ordered i (node n) (slice_get-map node p.tree i ∙ ap (option_map node) at)
+      judgement_tells Plain (convex_problem p).nodes (problem_lawful p).ordered i (node n) (slice_get-map node p.tree i ∙ ap (option_map node) at)
 
   -- ---- fixed nodes
   call_fixed : (n : Node) (call : Call) → shape_of call (arg_sides p.tree n) ≡ Some n.sides → fixed_by (head_of (names_in p) call (arg_sides p.tree n) n.sides) (map judged n.args) ≡ true →

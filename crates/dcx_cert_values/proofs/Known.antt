@@ -1,9 +1,8 @@
 -- Each variable and parameter of a problem is among its names, and has an array where setting and point give one.
-use Rattle.std.proofs.Common.{◌≡◌, ℕ, true, List, Some, option_map, slice_get, refl, ap, ◌∙◌}
+use Rattle.std.proofs.Common.{◌≡◌, ℕ, true, List, Some, slice_get, refl, ap, ◌∙◌}
 use Rattle.std.proofs.Props.{props}
 use Rattle.std.specs.List.{list_any}
 use mathlib.Core.Logic.{∥∥₁_map, ∥∥₁_elim}
-use Rattle.std.proofs.lemmas.Option.{slice_get-map}
 use Rattle.dcx_shape.specs.Shape.{sides_of}
 use Rattle.dcx_point.specs.Pairs.{Pairs, same_name, array_of}
 use Rattle.dcx_point.proofs.Puts.{same_name-refl, same_name-true}
@@ -20,6 +19,7 @@ use Rattle.dcx_tree.specs.Problems.{IsListed}
 use Rattle.dcx_tree.specs.Meaning.{names_in}
 use Rattle.dcx_tree.specs.Values.{IsNamed, AreNamed}
 use Rattle.dcx_tree.proofs.Sublists.{contains_at, any_at, at_any}
+use Rattle.dcx_tree.proofs.Values.{listed_named}
 use Rattle.dcx_cert_values.specs.Forming.{GivesParameters, GivesVariables}
 use Rattle.dcx_math.proofs.Lists.{holds_at}
 
@@ -34,12 +34,8 @@ found names name d at =
 module _ (p : Problem) where
   -- ---- of a call that is listed
   named_call : (call : Call) → ∥ IsListed p.variables p.parameters call ∥₁ → IsNamed (names_in p) call
-  named_call (calls.Variable v) l =
-      found (names_in p).variables v.name l (λ x. let (k, at) = contains_at p.variables v x in
-      (k, slice_get-map (λ (w : Variable). w.name) p.variables k ∙ ap (option_map (λ (w : Variable). w.name)) at))
-  named_call (calls.Parameter q) l =
-      found (names_in p).parameters q.name l (λ x. let (k, at) = contains_at p.parameters q x in
-      (k, slice_get-map (λ (w : Parameter). w.name) p.parameters k ∙ ap (option_map (λ (w : Parameter). w.name)) at))
+  named_call (calls.Variable v) l = found (names_in p).variables v.name l (λ x. listed_named p.variables p.parameters (calls.Variable v) x)
+  named_call (calls.Parameter q) l = found (names_in p).parameters q.name l (λ x. listed_named p.variables p.parameters (calls.Parameter q) x)
   named_call (calls.Constant x) l = tt
   named_call (calls.Atom m) l = tt
   named_call (calls.Linear m) l = tt

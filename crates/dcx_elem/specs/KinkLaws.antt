@@ -5,7 +5,7 @@ use Rattle.std.proofs.lemmas.List.Elements.{All-head}
 use Rattle.dcx_math.specs.Rational.{ℚ, whole, neg_ℚ, ◌+ℚ◌, ◌-ℚ◌, ◌*ℚ◌, ◌≤ℚ◌}
 use Rattle.dcx_math.specs.Sums.{IsNonnegative, rat_sum_below}
 use Rattle.dcx_math.proofs.Ring.{ring, reads}
-use Rattle.dcx_math.proofs.Orders.{≤ℚ_refl, ≤ℚ_trans, ≤ℚ-from_≡, neg_ℚ-≤ℚ, +ℚ_idl, +ℚ_idr, *ℚ_idl}
+use Rattle.dcx_math.proofs.Orders.{≤ℚ_refl, ≤ℚ_trans, ≤ℚ-from_≡, neg_ℚ-≤ℚ, +ℚ_idl, +ℚ_idr, *ℚ_idl, minus_one-*ℚ}
 use Rattle.dcx_math.proofs.Bounds.{
   ≤ℚ-rat_max_left,
   ≤ℚ-rat_max_right,
@@ -39,9 +39,6 @@ use Rattle.dcx_atom.specs.Bounding.{argument_term, only_is}
 use Rattle.dcx_elem.specs.Kinks.{kink_at, kink_trend, kink_factors, kink_slope, kink_meaning}
 use Rattle.dcx_atom.proofs.BoundRows.{beyond_of_row, row_of_beyond, alone_is, nonneg_balanced}
 
-minus : (x : ℚ) → whole (negsuc 0) *ℚ x ≡ neg_ℚ x
-minus x = ring (x ∷ []) (search reads depth 30) tt
-
 -- the value is at least 0
 pub kink-nonnegative : (p : Kink) (x : ℚ) → IsNonnegative (kink_at p x)
 kink-nonnegative Abs x = rat_abs-nonnegative x
@@ -52,18 +49,18 @@ kink-nonnegative Neg x = ≤ℚ-rat_max_right (neg_ℚ x) (whole (pos 0))
 kink_rows_hold : (p : Kink) (j : ℕ) (a : Entries) (t : Filling) → t j ≡ kink_at p (a 0 j) → RowsHold ((kink_meaning p).rows [] j) a t
 kink_rows_hold Abs j a t e = (
   row_of_beyond Convex j (argument_term 0 j (whole (pos 1))) a t (rw (*ℚ_idl (a 0 j), e) (≤ℚ-rat_abs (a 0 j))),
-  (row_of_beyond Convex j (argument_term 0 j (whole (negsuc 0))) a t (rw (minus (a 0 j), e) (neg_ℚ-≤ℚ-rat_abs (a 0 j))), tt),
+  (row_of_beyond Convex j (argument_term 0 j (whole (negsuc 0))) a t (rw (minus_one-*ℚ (a 0 j), e) (neg_ℚ-≤ℚ-rat_abs (a 0 j))), tt),
 )
 kink_rows_hold Pos j a t e = (row_of_beyond Convex j (argument_term 0 j (whole (pos 1))) a t (rw (*ℚ_idl (a 0 j), e) (≤ℚ-rat_max_left (a 0 j) (whole (pos 0)))), tt)
-kink_rows_hold Neg j a t e = (row_of_beyond Convex j (argument_term 0 j (whole (negsuc 0))) a t (rw (minus (a 0 j), e) (≤ℚ-rat_max_left (neg_ℚ (a 0 j)) (whole (pos 0)))), tt)
+kink_rows_hold Neg j a t e = (row_of_beyond Convex j (argument_term 0 j (whole (negsuc 0))) a t (rw (minus_one-*ℚ (a 0 j), e) (≤ℚ-rat_max_left (neg_ℚ (a 0 j)) (whole (pos 0)))), tt)
 
 -- where they hold, the unknown is at least the value
 kink_below : (p : Kink) (j : ℕ) (a : Entries) (t : Filling) → IsNonnegative (t j) → RowsHold ((kink_meaning p).rows [] j) a t → kink_at p (a 0 j) ≤ℚ t j
 kink_below Abs j a t n h = rat_abs-≤ℚ
     (subst (λ y. y ≤ℚ t j) (*ℚ_idl (a 0 j)) (beyond_of_row Convex j (argument_term 0 j (whole (pos 1))) a t h.0))
-    (subst (λ y. y ≤ℚ t j) (minus (a 0 j)) (beyond_of_row Convex j (argument_term 0 j (whole (negsuc 0))) a t h.1.0))
+    (subst (λ y. y ≤ℚ t j) (minus_one-*ℚ (a 0 j)) (beyond_of_row Convex j (argument_term 0 j (whole (negsuc 0))) a t h.1.0))
 kink_below Pos j a t n h = rat_max-≤ℚ (subst (λ y. y ≤ℚ t j) (*ℚ_idl (a 0 j)) (beyond_of_row Convex j (argument_term 0 j (whole (pos 1))) a t h.0)) n
-kink_below Neg j a t n h = rat_max-≤ℚ (subst (λ y. y ≤ℚ t j) (minus (a 0 j)) (beyond_of_row Convex j (argument_term 0 j (whole (negsuc 0))) a t h.0)) n
+kink_below Neg j a t n h = rat_max-≤ℚ (subst (λ y. y ≤ℚ t j) (minus_one-*ℚ (a 0 j)) (beyond_of_row Convex j (argument_term 0 j (whole (negsuc 0))) a t h.0)) n
 
 pub kink_formation : (p : Kink) → SumsUp (kink_meaning p)
 kink_formation p args sides is j b a = sym (+ℚ_idr (kink_at p (a 0 j)))

@@ -8,7 +8,7 @@ use Rattle.dcx_frac.specs.Frac.{value}
 use Rattle.dcx_atom.specs.declared.graph.GraphRow.{GraphRow}
 use Rattle.dcx_atom.specs.declared.graph.AuxTerm.{AuxTerm}
 use Rattle.dcx_atom.specs.Graph.{row_term}
-use Rattle.dcx_atom.specs.Formed.{frac_at}
+use Rattle.dcx_atom.specs.Formed.{one_frac, frac_at}
 use Rattle.dcx_atom.proofs.FormedSums.{frac_at-value}
 use Rattle.dcx_linear.specs.declared.change.Change.{Change}
 use Rattle.dcx_linear.specs.declared.form.Form.{Form}
@@ -21,7 +21,7 @@ pub at_place : {X Y : Type 0} (f : X → Y) (xs : List X) (i : ℕ) (x : X) (e :
 at_place f xs i x e lt is = get_or-map f xs i x e lt ∙ ap f (sym is)
 
 -- there is one fraction 1
-one_is : (one : Frac) → value one ≡ whole (pos 1) → one ≡ frac_at (whole (pos 1))
+one_is : (one : Frac) → value one ≡ whole (pos 1) → one ≡ one_frac
 one_is one e = sym (frac_at-value one) ∙ ap frac_at e
 
 -- an unknown is one form

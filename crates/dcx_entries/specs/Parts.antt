@@ -1,11 +1,10 @@
 -- What the form of a node's entry is the sum of: parts in the order of the tables of calls. A part is a form that is multiplied or
 -- divided by a fraction, or a form of numbers times which an affine number is taken.
-use Rattle.std.specs.Prelude.{ℕ, ◌+◌, Bool, false, [], ◌∷◌, Option, Some, None, unwrap_or, pos}
-use Rattle.dcx_math.specs.Rational.{whole}
+use Rattle.std.specs.Prelude.{ℕ, ◌+◌, Bool, false, [], ◌∷◌, Option, Some, None, unwrap_or}
 use Rattle.dcx_frac.specs.declared.fraction.Frac.{Frac}
 use Rattle.dcx_atom.specs.declared.graph.Operand.{Operand}
 use Rattle.dcx_atom.specs.declared.graph.Operand.TheVariants.{Argument, Aux}
-use Rattle.dcx_atom.specs.Formed.{zero_frac, frac_at}
+use Rattle.dcx_atom.specs.Formed.{zero_frac, one_frac, frac_at}
 use Rattle.dcx_atom.specs.Rows.{RowTerm, FormTerm}
 use Rattle.dcx_atom.specs.Linear.{LinearTerm}
 use Rattle.dcx_affine.specs.declared.pairing.Pair.{Pair}
@@ -24,7 +23,7 @@ zero_form of_number = is_constant (of_number zero_frac)
 
 -- an unknown as a form
 abbrev pub unknown_form : {C : Type 0} → (Frac → C) → ℕ → Form C
-unknown_form of_number n = record { constant = of_number zero_frac; terms = record { unknown = n; coefficient = of_number (frac_at (whole (pos 1))) } ∷ [] }
+unknown_form of_number n = record { constant = of_number zero_frac; terms = record { unknown = n; coefficient = of_number one_frac } ∷ [] }
 
 -- an unknown, or 0 where there is none
 abbrev pub form_of_unknown : {C : Type 0} → (Frac → C) → Option ℕ → Form C

@@ -1,12 +1,12 @@
 -- There is one first misfit.
-use Rattle.std.proofs.Common.{◌≡◌, ◌≢◌, ℕ, ◌<◌, List, Some, None, refl, sym, ap, ap₂, ◌∙◌, subst, arith}
-use native.Mathlib.Decide.{dec_lt}
+use Rattle.std.proofs.Common.{◌≡◌, ◌≢◌, ℕ, List, Some, None, refl, sym, ap, ap₂, ◌∙◌, subst}
 use Rattle.std.specs.List.{slice_get, All}
 use Rattle.std.proofs.lemmas.Option.{none-some, same_Some}
 use Rattle.dcx_frac.specs.declared.fraction.Frac.{Frac}
 use Rattle.dcx_shape.specs.Shape.{sides_of}
 use Rattle.dcx_atom.specs.declared.array.Array.{Array}
 use Rattle.dcx_atom.specs.Arrays.{number_at}
+use Rattle.dcx_atom.proofs.Entrywise.{one_place}
 use Rattle.dcx_point.specs.Pairs.{Pairs, names_of, array_of}
 use Rattle.dcx_call.specs.declared.attribute.Parameter.{Parameter}
 use Rattle.dcx_domain.specs.Entries.{KeepsAt}
@@ -18,15 +18,6 @@ use Rattle.dcx_fit.specs.Fit.{IsNamed, IsMet, IsFirstLeft, IsFaultOf, IsFirstUnk
 use Rattle.dcx_fit.specs.Laws.{HoldsForStops}
 use Rattle.dcx_fit.proofs.Each.{each}
 use Rattle.dcx_fit.proofs.Misfits.{fault_unmet, unknown_unfit, misfit_unfit}
-
--- one place is the first where P doesn't hold
-one_place : (P : ℕ → Type 0) (i j : ℕ) → ¬ P i → ¬ P j → ((k : ℕ) → k < i → P k) → ((k : ℕ) → k < j → P k) → i ≡ j
-one_place P i j a b h g = by (dec_lt i j) (dec_lt j i)
-  where
-    by : Dec (i < j) → Dec (j < i) → i ≡ j
-    by (yes lt) d = absurd (a (g i lt))
-    by (no f) (yes lt) = absurd (b (h j lt))
-    by (no f) (no g) = omega (arith, f, g)
 
 -- one element of a list is the first where P doesn't hold
 module _ {X : Type 0} (P : X → Type 0) (xs : List X) where

@@ -1,6 +1,6 @@
 -- The steps by which the slopes of the largest and the smallest come from weights.
 use Rattle.std.proofs.Common.{◌≡◌, ℕ, ◌+◌, ◌<◌, arith, List, [], ◌∷◌, ◌++◌, map, length, take, drop, get_or, refl, sym, ap, ap₂, ◌∙◌, Some, None, Result, Ok, pos}
-use Rattle.std.proofs.lemmas.List.{map-append, map_more, take-append-drop}
+use Rattle.std.proofs.lemmas.List.{map-append, map_more, take-append-drop, take_more}
 use Rattle.dcx_math.specs.Rational.{ℚ, whole, ◌*ℚ◌, rat_le, rat_eq}
 use Rattle.dcx_math.specs.Sums.{rat_sum}
 use Rattle.dcx_frac.specs.declared.fraction.Frac.{Frac}
@@ -18,7 +18,7 @@ use Rattle.dcx_atom.specs.Steps.{Step, test, form, is_weight, broken_at, conditi
 use Rattle.dcx_atom.specs.Bounding.{outward}
 use Rattle.dcx_atom.proofs.BoundRows.{length-list_below}
 use Rattle.dcx_atom.proofs.FirstStops.{first_stop-append, first_stop-stopped, first_stop-passed}
-use Rattle.dcx_atom.proofs.FormedSums.{frac_at-value, take-next}
+use Rattle.dcx_atom.proofs.FormedSums.{frac_at-value}
 use Rattle.dcx_atom.proofs.Lists.{list_below-numbers, list_below-same}
 use Rattle.dcx_atom.proofs.Totals.{earlier-none_right, value-sum_in_order}
 use Rattle.dcx_fold.specs.Largest.{level_row, each_condition, sum_condition, level_conditions, largest_meaning}
@@ -29,7 +29,7 @@ use Rattle.dcx_math.proofs.Lists.{map-map}
 pub steps-next : (g : Frac → Step) (ws : List Frac) (i : ℕ) (w : Frac) → i < length ws → w ≡ get_or ws i w → first_stop 0 (map g (take i ws)) ≡ None →
     first_stop 0 (map g (take (i + 1) ws)) ≡ step_stop 0 (g w)
 steps-next g ws i w h e none =
-    ap (λ xs. first_stop 0 (map g xs)) (take-next ws i w h ∙ ap (λ y. take i ws ++ y ∷ []) (sym e)) ∙ ap (first_stop 0) (map-append g (take i ws) (w ∷ []))
+    ap (λ xs. first_stop 0 (map g xs)) (take_more ws i w h ∙ ap (λ y. take i ws ++ y ∷ []) (sym e)) ∙ ap (first_stop 0) (map-append g (take i ws) (w ∷ []))
     ∙ first_stop-passed 0 (map g (take i ws)) (g w ∷ []) none ∙ earlier-none_right (step_stop 0 (g w))
 
 -- and one that stops

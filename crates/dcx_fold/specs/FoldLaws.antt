@@ -6,7 +6,7 @@ use Rattle.std.proofs.lemmas.List.Elements.{All-head}
 use Rattle.dcx_math.specs.Rational.{ℚ, whole, neg_ℚ, ◌+ℚ◌, ◌-ℚ◌, ◌*ℚ◌, ◌≤ℚ◌, rat_abs}
 use Rattle.dcx_math.specs.Sums.{IsNonnegative, rat_sum, rat_sum_below}
 use Rattle.dcx_math.proofs.Ring.{ring, reads}
-use Rattle.dcx_math.proofs.Orders.{≤ℚ_refl, ≤ℚ_trans, ≤ℚ-from_≡, neg_ℚ-≤ℚ, +ℚ_idl, +ℚ_idr, *ℚ_idl, *ℚ-≤ℚ, linear, +ℚ-*ℚ}
+use Rattle.dcx_math.proofs.Orders.{≤ℚ_refl, ≤ℚ_trans, ≤ℚ-from_≡, neg_ℚ-≤ℚ, +ℚ_idl, +ℚ_idr, *ℚ_idl, minus_one-*ℚ, *ℚ-≤ℚ, linear, +ℚ-*ℚ}
 use Rattle.dcx_math.proofs.Bounds.{≤ℚ-rat_abs, neg_ℚ-≤ℚ-rat_abs, rat_abs-≤ℚ, rat_abs-nonnegative, rat_abs-of_nonnegative, rat_abs-of_nonpositive}
 use Rattle.dcx_math.proofs.Sums.{rat_sum_below-same, rat_sum_below-monotone, rat_sum_below-nonnegative, rat_sum_below-*ℚ, rat_sum_below-+ℚ}
 use Rattle.dcx_shape.specs.declared.shape.Sides.{Sides}
@@ -76,24 +76,21 @@ use Rattle.dcx_fold.specs.Folds.{
 }
 
 -- ---- one member
-minus : (x : ℚ) → whole (negsuc 0) *ℚ x ≡ neg_ℚ x
-minus x = ring (x ∷ []) (search reads depth 30) tt
-
 -- where the rows of a member hold, the unknown is beyond its part
 beyond_of_member : (p : Fold) (u e : ℕ) (a : Entries) (t : Filling) → RowsHold (rows_of_member p u e) a t → IsBeyond (fold_bend p) (part p (a 0 e)) (t u)
 beyond_of_member Max u e a t h = subst (λ y. y ≤ℚ t u) (*ℚ_idl (a 0 e)) (beyond_of_row Convex u (argument_term 0 e (whole (pos 1))) a t h.0)
 beyond_of_member Min u e a t h = subst (λ y. t u ≤ℚ y) (*ℚ_idl (a 0 e)) (beyond_of_row Concave u (argument_term 0 e (whole (pos 1))) a t h.0)
 beyond_of_member Norm1 u e a t h = rat_abs-≤ℚ
     (subst (λ y. y ≤ℚ t u) (*ℚ_idl (a 0 e)) (beyond_of_row Convex u (argument_term 0 e (whole (pos 1))) a t h.0))
-    (subst (λ y. y ≤ℚ t u) (minus (a 0 e)) (beyond_of_row Convex u (argument_term 0 e (whole (negsuc 0))) a t h.1.0))
+    (subst (λ y. y ≤ℚ t u) (minus_one-*ℚ (a 0 e)) (beyond_of_row Convex u (argument_term 0 e (whole (negsuc 0))) a t h.1.0))
 beyond_of_member NormInf u e a t h = rat_abs-≤ℚ
     (subst (λ y. y ≤ℚ t u) (*ℚ_idl (a 0 e)) (beyond_of_row Convex u (argument_term 0 e (whole (pos 1))) a t h.0))
-    (subst (λ y. y ≤ℚ t u) (minus (a 0 e)) (beyond_of_row Convex u (argument_term 0 e (whole (negsuc 0))) a t h.1.0))
+    (subst (λ y. y ≤ℚ t u) (minus_one-*ℚ (a 0 e)) (beyond_of_row Convex u (argument_term 0 e (whole (negsuc 0))) a t h.1.0))
 
 magnitude_holds : (u e : ℕ) (a : Entries) (t : Filling) → rat_abs (a 0 e) ≤ℚ t u → RowsHold (rows_of_member Norm1 u e) a t
 magnitude_holds u e a t h = (
   row_of_beyond Convex u (argument_term 0 e (whole (pos 1))) a t (subst (λ y. y ≤ℚ t u) (sym (*ℚ_idl (a 0 e))) (≤ℚ_trans (≤ℚ-rat_abs (a 0 e)) h)),
-  (row_of_beyond Convex u (argument_term 0 e (whole (negsuc 0))) a t (subst (λ y. y ≤ℚ t u) (sym (minus (a 0 e))) (≤ℚ_trans (neg_ℚ-≤ℚ-rat_abs (a 0 e)) h)), tt),
+  (row_of_beyond Convex u (argument_term 0 e (whole (negsuc 0))) a t (subst (λ y. y ≤ℚ t u) (sym (minus_one-*ℚ (a 0 e))) (≤ℚ_trans (neg_ℚ-≤ℚ-rat_abs (a 0 e)) h)), tt),
 )
 
 -- and the other way round

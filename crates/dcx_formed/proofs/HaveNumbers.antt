@@ -1,7 +1,7 @@
 -- The forms of a node that reaches no parameter have numbers.
 use Rattle.std.proofs.Common.{◌≡◌, ℕ, zero, suc, ◌<◌, arith, Bool, true, false, IsTrue, IsSome, List, [], length, map, Option, Some, None, Result, Ok, refl, sym, subst}
-use Rattle.std.specs.Prelude.{nat_lt, ◌+◌, pos}
-use Rattle.dcx_math.specs.Rational.{ℚ, whole}
+use Rattle.std.specs.Prelude.{nat_lt, ◌+◌}
+use Rattle.dcx_math.specs.Rational.{ℚ}
 use Rattle.dcx_atom.specs.declared.stops.ValueStop.{ValueStop}
 use Rattle.std.specs.List.{list_all}
 use Rattle.std.proofs.lemmas.Bool.{ltb-true, ltb-false, false≢true}
@@ -10,7 +10,7 @@ use Rattle.dcx_frac.specs.declared.fraction.Frac.{Frac}
 use Rattle.dcx_frac.specs.declared.fraction.Passes.{Passes}
 use Rattle.dcx_shape.specs.Sides.{entries_of}
 use Rattle.dcx_atom.specs.Arrays.{sides_at}
-use Rattle.dcx_atom.specs.Formed.{zero_frac, frac_at}
+use Rattle.dcx_atom.specs.Formed.{zero_frac, one_frac}
 use Rattle.dcx_affine.specs.Pairing.{pairs_at}
 use Rattle.dcx_point.specs.Pairs.{Pairs}
 use Rattle.dcx_arena.specs.Nodes.{IsNode}
@@ -61,7 +61,7 @@ module _ {C : Type 0} (value_at : C → Parameters → ℚ) (of_number : Frac �
   constant_has x = (told x, All-nil (λ (t : FormTerm C). IsNumberCoef t.coefficient))
 
   unknown_has : (n : ℕ) → Has (unknown_form of_number n)
-  unknown_has n = (told zero_frac, All-cons (λ (t : FormTerm C). IsNumberCoef t.coefficient) _ [] (told (frac_at (whole (pos 1)))) (All-nil (λ (t : FormTerm C). IsNumberCoef t.coefficient)))
+  unknown_has n = (told zero_frac, All-cons (λ (t : FormTerm C). IsNumberCoef t.coefficient) _ [] (told one_frac) (All-nil (λ (t : FormTerm C). IsNumberCoef t.coefficient)))
 
   unknown_or_zero_has : (o : Option ℕ) → Has (form_of_unknown of_number o)
   unknown_or_zero_has None = constant_has zero_frac

@@ -6,13 +6,13 @@ use Rattle.dcx_math.proofs.Orders.{+ℚ_idl, +ℚ_idr, *ℚ_idl}
 use Rattle.dcx_frac.specs.declared.fraction.Frac.{Frac}
 use Rattle.dcx_frac.specs.declared.fraction.Passes.{Passes}
 use Rattle.dcx_frac.specs.Frac.{value}
-use Rattle.dcx_atom.specs.Formed.{zero_frac, frac_at}
+use Rattle.dcx_atom.specs.Formed.{zero_frac, one_frac}
 use Rattle.dcx_atom.specs.Linear.{LinearTerm, terms_at}
 use Rattle.dcx_atom.specs.Rows.{RowTerm, FormTerm, operand_at, row_at, form_at}
 use Rattle.dcx_atom.specs.declared.graph.Operand.{Operand}
 use Rattle.dcx_atom.specs.declared.graph.Operand.TheVariants.{Argument, Aux}
 use Rattle.dcx_atom.proofs.FormedSums.{value-zero_frac}
-use Rattle.dcx_atom.proofs.Fractions.{value-frac_at, one_fits}
+use Rattle.dcx_atom.proofs.Fractions.{value-frac_at, value-one_frac}
 use Rattle.dcx_linear.specs.declared.change.Change.{Change}
 use Rattle.dcx_linear.specs.declared.form.Form.{Form}
 use Rattle.dcx_linear.specs.Parameters.{Parameters}
@@ -47,8 +47,8 @@ module _ {C : Type 0} (value_at : C → Parameters → ℚ) (of_number : Frac �
   pub unknown_is : (n : ℕ) → form_number (unknown_form of_number n) ≡ u n
   unknown_is n =
       ap₂ ◌+ℚ◌ (laws.number_value zero_frac params ∙ value-zero_frac)
-      (+ℚ_idr (value_at (of_number (frac_at (whole (pos 1)))) params *ℚ u n)
-      ∙ ap (λ y. y *ℚ u n) (laws.number_value (frac_at (whole (pos 1))) params ∙ value-frac_at (whole (pos 1)) one_fits) ∙ *ℚ_idl (u n))
+      (+ℚ_idr (value_at (of_number one_frac) params *ℚ u n)
+      ∙ ap (λ y. y *ℚ u n) (laws.number_value one_frac params ∙ value-one_frac) ∙ *ℚ_idl (u n))
       ∙ +ℚ_idl (u n)
 
   pub unknown_or_zero : (o : Option ℕ) → form_number (form_of_unknown of_number o) ≡ number_at u o

@@ -42,7 +42,7 @@ use Rattle.dcx_call.specs.Calls.{sides_of_two, shape_of}
 use Rattle.dcx_tree.specs.declared.problem.Problem.{Problem}
 use Rattle.dcx_tree.specs.Nodes.{Node, pairing_call, head_of, arg_sides, convex_node}
 use Rattle.dcx_tree.specs.Meaning.{names_in, value_at}
-use Rattle.dcx_tree.proofs.Lawful.{tree_lawful}
+use Rattle.dcx_tree.proofs.Lawful.{problem_lawful}
 use Rattle.dcx_tree.proofs.AllReached.{convex_at}
 use Rattle.dcx_unknowns.specs.Unknowns.{point_at}
 use Rattle.dcx_unknowns.specs.Layout.{is_reduced}
@@ -243,7 +243,7 @@ module _ (p : Problem) (s : Setting) (forms : Forms) (m : ℕ) (stand : (i : ℕ
   number_zero : (u : Unknowns) (i : ℕ) → i < m → i < length p.tree → IsTrue (judged i).fixed → IsTrue (judged i).unparametrized → IsTrue (is_zero (judged i).sign) → forms u i ≡ zeros
   number_zero u i b c fixed settled zero_sign = fun_ext (λ j.
       number_value i b c fixed settled u j
-      ∙ settled_zero Parametrized (nodes_of p) (tree_lawful (names_in p) p.tree p.nodes).lawful s (λ k e. whole (pos 0)) i j fixed settled zero_sign)
+      ∙ settled_zero Parametrized (nodes_of p) (problem_lawful p).lawful s (λ k e. whole (pos 0)) i j fixed settled zero_sign)
 
   -- node i, where all before it are steady
   module _ (i : ℕ) (n : Node) (at : IsNode p.tree i n) (b : i < m) (c : i < length p.tree) (u w : Unknowns)

@@ -11,7 +11,7 @@ use Rattle.dcx_tree.specs.declared.problem.Problem.{Problem}
 use Rattle.dcx_tree.specs.Nodes.{convex_node}
 use Rattle.dcx_tree.specs.Meaning as meaning
 use Rattle.dcx_tree.specs.Meaning.{names_in, convex_problem, convex_constraint, Fits}
-use Rattle.dcx_tree.proofs.Lawful.{tree_lawful}
+use Rattle.dcx_tree.proofs.Lawful.{problem_lawful}
 use Rattle.dcx_unknowns.specs.Unknowns.{point_at}
 use Rattle.dcx_postsolve.specs.Programs.{multipliers_of}
 use Rattle.dcx_postsolve.proofs.CarryingLawsHold as program
@@ -20,7 +20,7 @@ use Rattle.dcx_graph.specs.Backward.{AnswersCarryOver}
 -- a problem is well formed in the terms of disciplined convex programming
 pub well_formed : (p : Problem) → IsWellFormed (convex_problem p)
 well_formed p = record {
-  ordered = (tree_lawful (names_in p) p.tree p.nodes).ordered;
+  ordered = (problem_lawful p).ordered;
   objective = inside p.objective.0 p.objective_kept.there;
   sides = λ k c at. let (d, there, is) = mapped convex_constraint p.constraints k c at in (
     subst (λ (e : convex.Constraint). e.left < length (convex_problem p).nodes) is (inside d.left.0 (p.constraints_kept.left k d there).there),
@@ -33,7 +33,7 @@ well_formed p = record {
 
 pub answers_carry_over : AnswersCarryOver
 answers_carry_over rules p s l ok fit is =
-    let back = reductions_map_back rules (convex_problem p) (tree_lawful (names_in p) p.tree p.nodes).lawful (well_formed p) ok s fit is.reduced is.reduction in
+    let back = reductions_map_back rules (convex_problem p) (problem_lawful p).lawful (well_formed p) ok s fit is.reduced is.reduction in
     let over = program.answers_carry_over l (convex_problem p) is.reduced is.program in
     record {
       optimal = λ v x m h. let (w, right) = over.optimal v x m h in

@@ -25,7 +25,7 @@ use Rattle.dcx_std.specs.GivenRows.{GivenRows, given}
 use Rattle.dcx_std.specs.Answers.{IsRightForRowsAs}
 use Rattle.dcx_std.specs.Solutions.{HasKinds, linear_program, unknowns_at}
 use Rattle.dcx_std.proofs.ScaledProgram.{scaled_program}
-use Rattle.dcx_std.proofs.RightAnswers.{one_sided, shown_of}
+use Rattle.dcx_std.proofs.RightAnswers.{one_sided, rows_right_as}
 use Rattle.dcx_unknowns.specs.Layout.{constraint_rows}
 use Rattle.dcx_unknowns.specs.Unknowns.{point_at}
 use Rattle.dcx_unknowns.specs.Laws.{AreAlike}
@@ -118,7 +118,7 @@ module _ (p : Problem) (s : Setting) (q : Program Frac) (a : LpAnswer) (known : 
 
   -- the answer is right for the rows
   pub right_rows : (t : LpStatus) → a.status ≡ t → IsRightForRowsAs t (rows_of q) is.integer a
-  right_rows t e = subst (λ t. IsRightForRowsAs t (rows_of q) is.integer a) e (shown_of (rows_of q) is.integer known (scaled_program (rows_of q) is.integer is.made) a is.right)
+  right_rows t e = rows_right_as (rows_of q) is.integer known is.made a is.right t e
 
   -- what is read is right
   pub read_right : (x : Answer) → IsRead p q.kinds a x → IsRightFor p s x

@@ -25,7 +25,7 @@ use Rattle.dcx_lp_answer.specs.Right.{multiplier_at, IsRight}
 use Rattle.dcx_std.specs.Answers.{IsRightForRowsAs}
 use Rattle.dcx_std.specs.Solutions.{linear_program, unknowns_at}
 use Rattle.dcx_std.proofs.ScaledProgram.{scaled_program}
-use Rattle.dcx_std.proofs.RightAnswers.{one_sided, shown_of}
+use Rattle.dcx_std.proofs.RightAnswers.{one_sided, rows_right_as}
 use Rattle.dcx_unknowns.specs.Layout.{constraint_rows}
 use Rattle.dcx_unknowns.specs.Unknowns.{point_at}
 use Rattle.dcx_postsolve.specs.Programs.{bound_row, multipliers_of}
@@ -102,9 +102,7 @@ module _ (p : Problem) (q : Program Frac) (limit : ℕ) (set : ConstraintSet) (s
   columns_told = record { there = tells.there; one_sided = tells.one_sided (one_sided solved.answer.status solved.program solved.answer right) }
 
   right_rows : (t : LpStatus) → solved.answer.status ≡ t → IsRightForRowsAs t (program_of_set p q set) solved.program solved.answer
-  right_rows t e =
-      subst (λ t. IsRightForRowsAs t (program_of_set p q set) solved.program solved.answer) e
-      (shown_of (program_of_set p q set) solved.program step.known (scaled_program (program_of_set p q set) solved.program step.is_solved.made) solved.answer right)
+  right_rows t e = rows_right_as (program_of_set p q set) solved.program step.known step.is_solved.made solved.answer right t e
 
   abbrev unknowns : Unknowns
   unknowns = unknowns_at solved.program.columns (map value solved.answer.columns)

@@ -17,8 +17,8 @@ use Rattle.dcx_convex.proofs.LawsHold.{reductions_map_back}
 use Rattle.dcx_convex.proofs.MapBack.{projects}
 use Rattle.dcx_convex.proofs.OneAnswer.{none_feasible}
 use Rattle.dcx_tree.specs.declared.problem.Problem.{Problem}
-use Rattle.dcx_tree.specs.Meaning.{names_in, convex_problem, convex_constraint}
-use Rattle.dcx_tree.proofs.Lawful.{tree_lawful}
+use Rattle.dcx_tree.specs.Meaning.{convex_problem, convex_constraint}
+use Rattle.dcx_tree.proofs.Lawful.{problem_lawful}
 use Rattle.dcx_right.specs.ConstraintSets.{ConstraintSet, KeepsSet, IsImpossible}
 use Rattle.dcx_linear.specs.Rows.{LinearProgram, StandsTo, IsSolution, IsInfeasible}
 use Rattle.dcx_unknowns.specs.Unknowns.{point_at}
@@ -137,7 +137,7 @@ module _ (p : Problem) (s : Setting) (q : Program Frac) (is : IsReducedAt p s q)
 
   pub solution_keeps : (x : Unknowns) → IsSolution (linear_program (program_of_set p q set)) x → KeepsSet p s set (point_at p.variables x)
   solution_keeps x h =
-      let down = projects rules (only p set) (tree_lawful (names_in p) p.tree p.nodes).lawful (only_formed p set) only_accepted s is.fits is.reduction.reduced only_reduced x (solves x h) in
+      let down = projects rules (only p set) (problem_lawful p).lawful (only_formed p set) only_accepted s is.fits is.reduction.reduced only_reduced x (solves x h) in
       subst (λ (y : Point). KeepsSet p s set y) (is.reduction.point x) (feasible_keeps p set s (is.reduction.reduced.point x) down.feasible)
 
   -- ---- multipliers
@@ -145,7 +145,7 @@ module _ (p : Problem) (s : Setting) (q : Program Frac) (is : IsReducedAt p s q)
   infeasible_only gap m h =
       let over : IsInfeasible with_objective gap m = record { positive = h.positive; signs = h.signs; bound = h.bound } in
       let (w, right) = (program.answers_carry_over with_objective (only p set) is.reduction.reduced only_program).infeasible gap m over in
-      let back = reductions_map_back rules (only p set) (tree_lawful (names_in p) p.tree p.nodes).lawful (only_formed p set) only_accepted s is.fits is.reduction.reduced only_reduced in
+      let back = reductions_map_back rules (only p set) (problem_lawful p).lawful (only_formed p set) only_accepted s is.fits is.reduction.reduced only_reduced in
       back.infeasible (multipliers_of (only p set) m) w gap right
 
   pub only_impossible : (m : answers.Multipliers) (gap : ℚ) → answers.IsInfeasible (only p set) s m gap → IsImpossible p s set

@@ -2,7 +2,7 @@
 use Rattle.std.proofs.Common.{◌≡◌, ℕ, ◌<◌, ◌≤◌, ◌∷◌, [], Option, Some, Result, Ok, sym, ap, ap₂, ◌∙◌, subst}
 use Rattle.dcx_math.specs.Rational.{ℚ, ◌+ℚ◌, ◌*ℚ◌}
 use Rattle.dcx_math.specs.Sums.{rat_sum_by}
-use Rattle.dcx_math.proofs.Orders.{*ℚ-zero}
+use Rattle.dcx_math.proofs.Orders.{*ℚ-+ℚ, *ℚ-zero}
 use Rattle.dcx_math.proofs.Ring.{ring, reads}
 use Rattle.dcx_math.proofs.Sums.{rat_sum_below-*ℚ}
 use Rattle.dcx_frac.specs.declared.fraction.Frac.{Frac}
@@ -24,9 +24,6 @@ use Rattle.dcx_linear.specs.FormLaws.{zero_term, same_linear, one_given}
 use Rattle.dcx_linear.specs.Multiples.{times_number, times_unknown, multiple_gives}
 use Rattle.dcx_linear.specs.Widths.{form_width}
 use Rattle.dcx_linear.proofs.Widths.{width_bounds, width_least, change_below}
-
-times_over : (k a b : ℚ) → k *ℚ a +ℚ k *ℚ b ≡ k *ℚ (a +ℚ b)
-times_over k a b = ring (k ∷ a ∷ b ∷ []) (search reads depth 30) tt
 
 turned : (k y z : ℚ) → (y *ℚ k) *ℚ z ≡ k *ℚ (y *ℚ z)
 turned k y z = ring (k ∷ y ∷ z ∷ []) (search reads depth 30) tt
@@ -50,7 +47,7 @@ module _ {C : Type 0} (number_of : C → Option Frac) (Changes : Change → C �
         ap₂ ◌+ℚ◌ (times_value f.constant h.constant s.1.0 ∙ swapped (value_at c p) (value_at f.constant p))
         (change_of_terms unknown_of (unknown_value value_at x p) (has_zero_coefficient number_of) (zero_term value_at number_of number_value x p) (times_unknown number_of Changes c)
         (λ q. value_at c p *ℚ q) term_times (*ℚ-zero (value_at c p)) (λ n g. rat_sum_below-*ℚ n (value_at c p) g) f.terms h.terms s.0.rising s.1.1)
-        ∙ times_over (value_at c p) (value_at f.constant p) (rat_sum_by (unknown_value value_at x p) f.terms)
+        ∙ sym (*ℚ-+ℚ (value_at c p) (value_at f.constant p) (rat_sum_by (unknown_value value_at x p) f.terms))
 
   module _ (one_change : (change : Change) (a : C) (r s : Result C Passes) → Changes change a r → Changes change a s → r ≡ s) where
     one_times : (d : C) (r s : Result C Passes) → times_number number_of Changes c d r → times_number number_of Changes c d s → r ≡ s

@@ -1,8 +1,8 @@
 -- A multiplier that is formed is the one by which an answer is right for its program.
-use Rattle.std.proofs.Common.{◌≡◌, ℕ, zero, suc, Bool, true, false, List, [], ◌∷◌, map, get_or, Some, Ok, Err, pos, refl, lit<, sym, ap, ◌∙◌, subst}
+use Rattle.std.proofs.Common.{◌≡◌, ℕ, zero, suc, Bool, true, false, List, [], ◌∷◌, map, get_or, Some, Ok, Err, refl, sym, ap, ◌∙◌, subst}
 use Rattle.std.specs.Prelude.{Result, not, ◌&&◌, IfOk, slice_get}
 use Rattle.std.proofs.lemmas.Option.{none-some, same_Some}
-use Rattle.dcx_math.specs.Rational.{ℚ, whole, ◌-ℚ◌, ◌*ℚ◌}
+use Rattle.dcx_math.specs.Rational.{ℚ, ◌-ℚ◌, ◌*ℚ◌}
 use Rattle.dcx_math.specs.Sums.{rat_at}
 use Rattle.dcx_math.proofs.Orders.{*ℚ_comm, -ℚ_idr}
 use Rattle.dcx_frac.specs.declared.fraction.Frac.{Frac}
@@ -10,13 +10,13 @@ use Rattle.dcx_frac.specs.declared.fraction.Passes.{Passes}
 use Rattle.dcx_frac.specs.Frac.{value}
 use Rattle.dcx_frac.specs.Results.{difference_of, product_of}
 use Rattle.dcx_frac.proofs.Results.{difference_of_is, product_of_is}
-use Rattle.dcx_atom.specs.Formed.{frac_at, and_then}
+use Rattle.dcx_atom.specs.Formed.{one_frac, and_then}
+use Rattle.dcx_atom.proofs.Fractions.{value-negative, value-one_frac}
 use Rattle.dcx_linear.specs.declared.row.RowKind.{RowKind}
 use Rattle.dcx_linear.specs.declared.row.RowKind.TheVariants.{AtMost, Equal}
 use Rattle.dcx_lp_answer.specs.declared.answer.LpStatus.{LpStatus}
 use Rattle.dcx_lp_answer.specs.declared.answer.LpStatus.TheVariants.{Optimal, Infeasible, Unbounded}
 use Rattle.dcx_lp_answer.specs.declared.answer.RowNote.{RowNote}
-use Rattle.dcx_lp_answer.proofs.Fractions.{value-negative, value-whole}
 use Rattle.dcx_lp_answer.specs.Notes.{reduced_cost_of, factor_of, was_negated}
 use Rattle.dcx_lp_answer.specs.Right.{turned_if, offset}
 use Rattle.dcx_lp_answer.specs.Multipliers.{shifted, turned, multiplier_of, is_at_most, FormedIsRight}
@@ -28,15 +28,12 @@ product_formed x y z e = subst (λ r. IfOk r (λ f. value f ≡ value x *ℚ val
 difference_formed : (x y z : Frac) → difference_of x y ≡ Ok z → value z ≡ value x -ℚ value y
 difference_formed x y z e = subst (λ r. IfOk r (λ f. value f ≡ value x -ℚ value y)) e (difference_of_is x y).exact
 
-one : value (frac_at (whole (pos 1))) ≡ whole (pos 1)
-one = value-whole (pos 1) (lit< tt)
-
 -- ---- the steps
 shifted_is : (status : LpStatus) (kind : RowKind) (x y : Frac) → shifted status kind x ≡ Ok y → value y ≡ value x -ℚ offset status (is_at_most kind)
 shifted_is Optimal kind x y e = let same : x ≡ y = cc in ap value (sym same) ∙ sym (-ℚ_idr (value x))
 shifted_is Unbounded kind x y e = let same : x ≡ y = cc in ap value (sym same) ∙ sym (-ℚ_idr (value x))
 shifted_is Infeasible AtMost x y e = let same : x ≡ y = cc in ap value (sym same) ∙ sym (-ℚ_idr (value x))
-shifted_is Infeasible Equal x y e = difference_formed x (frac_at (whole (pos 1))) y e ∙ ap (λ z. value x -ℚ z) one
+shifted_is Infeasible Equal x y e = difference_formed x one_frac y e ∙ ap (λ z. value x -ℚ z) value-one_frac
 
 turned_is : (kind : RowKind) (negated : Bool) (x : Frac) → value (turned kind negated x) ≡ turned_if (not (is_at_most kind) && negated) (value x)
 turned_is AtMost negated x = refl

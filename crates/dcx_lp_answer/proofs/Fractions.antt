@@ -1,24 +1,17 @@
--- Whole numbers, quotients of whole numbers, and negatives as fractions.
+-- Whole numbers and quotients of whole numbers as fractions.
 use Rattle.std.proofs.Common.{◌≡◌, ◌<◌, ◌^◌, ℤ, pos, sym, subst, unsigned_abs, lit<}
-use Rattle.std.specs.Prelude.{◌<ℤ◌, neg_ℤ}
-use Rattle.dcx_math.specs.Rational.{ℚ, whole, ◌/ℚ◌, neg_ℚ, ◌<ℚ◌}
-use Rattle.dcx_math.proofs.IntegerLaws.{positive_some, unsigned_abs-neg}
+use Rattle.std.specs.Prelude.{◌<ℤ◌}
+use Rattle.dcx_math.specs.Rational.{ℚ, whole, ◌/ℚ◌, ◌<ℚ◌}
+use Rattle.dcx_math.proofs.IntegerLaws.{positive_some}
 use Rattle.dcx_math.proofs.Orders.{*ℚ_idr, <ℚ-≢}
 use Rattle.dcx_math.proofs.Products.{*ℚ-positive, inverse-positive, whole-<ℤ, zero-<ℚ-one, /ℚ-unique}
 use Rattle.dcx_math.proofs.Ring.{/ℚ-is}
-use Rattle.dcx_frac.specs.declared.fraction.Frac.{Frac}
-use Rattle.dcx_frac.specs.Frac.{num_of, den_of, value}
-use Rattle.dcx_frac.specs.Fits.{IsRepresentable, representable}
+use Rattle.dcx_frac.specs.Frac.{value}
+use Rattle.dcx_frac.specs.Fits.{IsRepresentable}
 use Rattle.dcx_frac.proofs.Representable.{representable_quotient}
-use Rattle.dcx_frac.proofs.Turns.{neg_lowest}
 use Rattle.dcx_atom.specs.Formed.{frac_at}
 use Rattle.dcx_atom.proofs.Fractions.{value-frac_at}
 use Rattle.dcx_frac.proofs.Integers.{one_positive}
-
--- the negative of a fraction is one
-pub value-negative : (x : Frac) → value (frac_at (neg_ℚ (value x))) ≡ neg_ℚ (value x)
-value-negative x = value-frac_at (neg_ℚ (value x)) (representable (neg_ℚ (value x)) (neg_ℤ (num_of x)) (den_of x) (neg_lowest x)
-    (subst (λ n. n < 2 ^ 127) (sym (unsigned_abs-neg (num_of x))) x.num_fits) x.den_fits)
 
 pub over_one : (x : ℚ) → x /ℚ whole (pos 1) ≡ x
 over_one x = /ℚ-unique x (whole (pos 1)) x (λ z. <ℚ-≢ zero-<ℚ-one (sym z)) (*ℚ_idr x)

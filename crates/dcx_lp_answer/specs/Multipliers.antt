@@ -1,11 +1,11 @@
 -- The multipliers that an answer shows, as they are formed: up to the first operation that passes 128 bits.
-use Rattle.std.specs.Prelude.{◌≡◌, ⊤, ℕ, suc, Bool, true, false, List, [], ◌∷◌, Option, Some, None, Result, Ok, Err, slice_get, pos}
-use Rattle.dcx_math.specs.Rational.{whole, neg_ℚ}
+use Rattle.std.specs.Prelude.{◌≡◌, ⊤, ℕ, suc, Bool, true, false, List, [], ◌∷◌, Option, Some, None, Result, Ok, Err, slice_get}
+use Rattle.dcx_math.specs.Rational.{neg_ℚ}
 use Rattle.dcx_frac.specs.declared.fraction.Frac.{Frac}
 use Rattle.dcx_frac.specs.declared.fraction.Passes.{Passes}
 use Rattle.dcx_frac.specs.Frac.{value}
 use Rattle.dcx_frac.specs.Results.{difference_of, product_of}
-use Rattle.dcx_atom.specs.Formed.{frac_at, and_then}
+use Rattle.dcx_atom.specs.Formed.{one_frac, frac_at, and_then}
 use Rattle.dcx_linear.specs.declared.row.RowKind.{RowKind}
 use Rattle.dcx_linear.specs.declared.row.RowKind.TheVariants.{AtMost, Equal}
 use Rattle.dcx_tab.specs.declared.rows.ColumnKind.{ColumnKind}
@@ -19,7 +19,7 @@ use Rattle.dcx_lp_answer.specs.Right.{is_inequality, multiplier_at}
 
 -- a reduced cost, less 1 for an equality where the rows can't be solved
 abbrev pub shifted : LpStatus → RowKind → Frac → Result Frac Passes
-shifted Infeasible Equal x = difference_of x (frac_at (whole (pos 1)))
+shifted Infeasible Equal x = difference_of x one_frac
 shifted Infeasible AtMost x = Ok x
 shifted Optimal kind x = Ok x
 shifted Unbounded kind x = Ok x

@@ -31,6 +31,12 @@ in_left [] ys k x e = absurd (none-some x e)
 in_left (y ∷ xs) ys zero x e = e
 in_left (y ∷ xs) ys (suc k) x e = in_left xs ys k x e
 
+-- the list at a place of mapped lists, where the empty list stays empty
+pub map-get_or : {A B : Type 0} (f : List A → List B) → f [] ≡ [] → (xs : List (List A)) (j : ℕ) → f (get_or xs j []) ≡ get_or (map f xs) j []
+map-get_or f e [] j = e
+map-get_or f e (x ∷ xs) zero = refl
+map-get_or f e (x ∷ xs) (suc j) = map-get_or f e xs j
+
 -- one more is taken
 pub taken_more : {A : Type 0} (xs : List A) (i : ℕ) (x : A) → i < length xs → x ≡ get_or xs i x → take (i + 1) xs ≡ take i xs ++ x ∷ []
 taken_more xs i x l is = take_more xs i x l ∙ ap (λ y. take i xs ++ y ∷ []) (sym is)

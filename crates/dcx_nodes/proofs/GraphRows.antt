@@ -1,7 +1,7 @@
 -- Rows by entry and node: one row more, one entry more, one node more.
 use Rattle.std.proofs.Common.{◌≡◌, ℕ, zero, suc, ◌+◌, ◌<◌, ◌≤◌, arith, List, [], ◌∷◌, ◌++◌, length, map, take, get_or, slice_index_or, refl, sym, ap, ap₂, ◌∙◌, length-append, append_assoc}
 use Rattle.std.proofs.Math.ListN.{set}
-use Rattle.std.proofs.lemmas.List.{take_more}
+use Rattle.std.proofs.lemmas.List.{take_more, get_or_append_left, get_or_push, get_or-set_other}
 use Rattle.dcx_frac.specs.declared.fraction.Frac.{Frac}
 use Rattle.dcx_atom.specs.declared.array.Array.{Array}
 use Rattle.dcx_atom.specs.Arrays.{list_below, joined_below}
@@ -21,22 +21,6 @@ joined_none : {A : Type 0} (n : ℕ) (f : ℕ → List A) → ((k : ℕ) → k <
 joined_none zero f h = refl
 joined_none (suc n) f h = ap₂ ◌++◌ (joined_none n f (λ k b. h k (omega (arith, b)))) (h n (omega arith))
 
-get_before : {A : Type 0} (xs : List A) (x d : A) (k : ℕ) → k < length xs → get_or (xs ++ x ∷ []) k d ≡ get_or xs k d
-get_before [] x d k b = absurd (omega (arith, b))
-get_before (y ∷ ys) x d zero b = refl
-get_before (y ∷ ys) x d (suc k) b = get_before ys x d k (omega (arith, b))
-
-get_last : {A : Type 0} (xs : List A) (x d : A) → get_or (xs ++ x ∷ []) (length xs) d ≡ x
-get_last [] x d = refl
-get_last (y ∷ ys) x d = get_last ys x d
-
-set_get : {A : Type 0} (xs : List A) (k j : ℕ) (y d : A) → k < j → get_or (set xs k y) j d ≡ get_or xs j d
-set_get [] k j y d b = refl
-set_get (x ∷ xs) zero zero y d b = absurd (omega (arith, b))
-set_get (x ∷ xs) zero (suc j) y d b = refl
-set_get (x ∷ xs) (suc k) zero y d b = absurd (omega (arith, b))
-set_get (x ∷ xs) (suc k) (suc j) y d b = set_get xs k j y d (omega (arith, b))
-
 module _ {C : Type 0} (of_number : Frac → C) where
   -- ---- the rows of an entry
   abbrev pub rows_made : ℕ → ℕ → List (Form C) → List (FormedRow C)
@@ -49,8 +33,8 @@ module _ {C : Type 0} (of_number : Frac → C) where
       ap (λ n. list_below n Row) many
       ∙ ap₂ (λ xs x. xs ++ x ∷ [])
       (list_below-same (length fs) Row (λ k. record { node = record { 0 = i }; entry = j; row = k; form = slice_index_or fs k (zero_form of_number) })
-      (λ k b. ap (λ g. record { node = record { 0 = i }; entry = j; row = k; form = g }) (get_before fs f (zero_form of_number) k b)))
-      (ap (λ g. record { node = record { 0 = i }; entry = j; row = length fs; form = g }) (get_last fs f (zero_form of_number)))
+      (λ k b. ap (λ g. record { node = record { 0 = i }; entry = j; row = k; form = g }) (get_or_append_left fs (f ∷ []) (zero_form of_number) k b)))
+      (ap (λ g. record { node = record { 0 = i }; entry = j; row = length fs; form = g }) (get_or_push fs f (zero_form of_number) (length fs) refl))
 
   -- the rows so far of a list
   pub rows_go_on : (i j : ℕ) (fs : List (Form C)) (k : ℕ) (f : Form C) (old rows new : List (FormedRow C)) → k < length fs → f ≡ get_or fs k f → rows ≡ old ++ rows_made i j (take k fs) →
@@ -99,7 +83,7 @@ module _ {C : Type 0} (of_number : Frac → C) where
   -- later entries stay
   pub later_same : (es now : List (EntryForms C)) (k : ℕ) (e : EntryForms C) → ((j : ℕ) (d : EntryForms C) → k ≤ j → get_or now j d ≡ get_or es j d) → (j : ℕ) (d : EntryForms C) → k + 1 ≤ j
       → get_or (set now k e) j d ≡ get_or es j d
-  later_same es now k e h j d b = set_get now k j e d (omega (arith, b)) ∙ h j d (omega (arith, b))
+  later_same es now k e h j d b = get_or-set_other now k j e d (λ s. omega (arith, b, s)) ∙ h j d (omega (arith, b))
 
   -- ---- the rows of all nodes
   pub node_more : (table : Table C) (es : List (EntryForms C)) → graph_rows of_number (table ++ es ∷ []) ≡ graph_rows of_number table ++ node_rows of_number (length table) es
@@ -108,5 +92,5 @@ module _ {C : Type 0} (of_number : Frac → C) where
       ap (λ n. joined_below n (λ i. node_rows of_number i (slice_index_or (table ++ es ∷ []) i []))) many
       ∙ ap₂ ◌++◌
       (joined_below-same (length table) (λ i. node_rows of_number i (slice_index_or (table ++ es ∷ []) i [])) (λ i. node_rows of_number i (slice_index_or table i []))
-      (λ k b. ap (node_rows of_number k) (get_before table es [] k b)))
-      (ap (node_rows of_number (length table)) (get_last table es []))
+      (λ k b. ap (node_rows of_number k) (get_or_append_left table (es ∷ []) [] k b)))
+      (ap (node_rows of_number (length table)) (get_or_push table es [] (length table) refl))

@@ -1,7 +1,8 @@
 -- The terms of a linear call, as they are listed, are those of its meaning.
-use Rattle.std.proofs.Common.{◌≡◌, ℕ, zero, suc, ◌<◌, Bool, List, [], ◌∷◌, length, map, slice_index_or, Option, Some, IfSome, IsSome, refl, sym, ap, ◌∙◌, subst, Result}
+use Rattle.std.proofs.Common.{◌≡◌, ℕ, ◌<◌, Bool, List, [], length, map, slice_index_or, Option, Some, IfSome, IsSome, refl, sym, ap, ◌∙◌, subst, Result}
 use Rattle.std.proofs.lemmas.List.{length-map}
 use Rattle.std.proofs.lemmas.Option.{same_Some}
+use Rattle.dcx_math.proofs.Lists.{map-get_or}
 use Rattle.dcx_frac.specs.declared.fraction.Frac.{Frac}
 use Rattle.dcx_frac.specs.declared.fraction.Passes.{Passes}
 use Rattle.dcx_shape.specs.declared.shape.Shape.{Shape}
@@ -33,11 +34,6 @@ use Rattle.dcx_nodes.specs.Formed.{ReducedGives}
 use Rattle.dcx_nodes.proofs.AtNode.{shape_given}
 use Rattle.dcx_nodes.proofs.Gives.{each_alike, reduced_by}
 
-pub made_at : {A B : Type 0} (f : List A → List B) → f [] ≡ [] → (xs : List (List A)) (j : ℕ) → f (slice_index_or xs j []) ≡ slice_index_or (map f xs) j []
-made_at f e [] j = e
-made_at f e (x ∷ xs) zero = refl
-made_at f e (x ∷ xs) (suc j) = made_at f e xs j
-
 module _ (p : Problem) (i : ℕ) (l : LinearCall) (c : call_at p.tree i ≡ Some (calls.Linear l)) (n : Node) (at : IsNode p.tree i n) (shapes : List Shape)
     (shapes_are : map sides_of shapes ≡ arg_sides p.tree n) where
   shape_is : (linear_meaning l).shape (sides_list shapes) ≡ Some n.sides
@@ -57,7 +53,7 @@ module _ (p : Problem) (i : ℕ) (l : LinearCall) (c : call_at p.tree i ≡ Some
 
     terms_at : (j : ℕ) → j < entries_of n.sides → map linear_term (slice_index_or terms j []) ≡ (linear_meaning l).terms (arg_sides p.tree n) j
     terms_at j b =
-        made_at (map linear_term) refl terms j ∙ ap (λ ts. slice_index_or ts j []) terms_are ∙ get_or-list_below (entries_of n.sides) ((linear_meaning l).terms (arg_sides p.tree n)) j [] b
+        map-get_or (map linear_term) refl terms j ∙ ap (λ ts. slice_index_or ts j []) terms_are ∙ get_or-list_below (entries_of n.sides) ((linear_meaning l).terms (arg_sides p.tree n)) j [] b
 
     module _ {C : Type 0} (of_number : Frac → C) (number_of : C → Option Frac) (Sums : C → C → Result C Passes → Type 0) (Changes : Change → C → Result C Passes → Type 0)
         (Reads : ℕ → List ℕ → ℕ → Pairs → C → Type 0) (setting : Pairs) (reduced fixed : List Bool) (forms : List (List (Form C))) (ids : List ℕ) (ids_are : ids ≡ args_at p.tree i) where

@@ -2,6 +2,7 @@
 use Rattle.std.proofs.Common.{◌≡◌, ℕ, zero, suc, ◌<◌, ◌≤◌, arith, Bool, true, false, List, [], ◌∷◌, length, map, get_or, Option, Some, refl, sym, ap, ap₂, ◌∙◌, subst, Result, Ok, Err}
 use Rattle.std.specs.Prelude.{slice_get}
 use native.Mathlib.Decide.{dec_lt}
+use Rattle.dcx_math.proofs.Lists.{map-get_or}
 use Rattle.dcx_frac.specs.declared.fraction.Frac.{Frac}
 use Rattle.dcx_frac.specs.declared.fraction.Passes.{Passes}
 use Rattle.dcx_shape.specs.Sides.{entries_of}
@@ -29,7 +30,6 @@ use Rattle.dcx_entries.specs.Entries.{alone, entry_forms}
 use Rattle.dcx_entries.specs.Standing.{args_among}
 use Rattle.dcx_entries.specs.Nodes.{Table, table_forms, NodeStop, NumberEntry, scaling_of, ReducedEntry, NodeEntryBy, NodeEntry, NodeGives, AreFormed, IsFirstStop, NodesGive}
 use Rattle.dcx_entries.proofs.OneAnswer.{one_each, one_linear_entries, one_atom_entries, one_pair_entries}
-use Rattle.dcx_nodes.proofs.LinearNodes.{made_at}
 use Rattle.dcx_nodes.proofs.Local.{entries_alike}
 use Rattle.dcx_nodes.proofs.Numbers.{found_at}
 use Rattle.dcx_nodes.proofs.PairNodes.{same_get}
@@ -85,7 +85,7 @@ module _ {C : Type 0} (of_number : Frac → C) (number_of : C → Option Frac) (
 
   -- tables that are the same before a node have the same forms there
   forms_alike : (t u : Table C) (i : ℕ) → ((x : ℕ) → x < i → get_or t x [] ≡ get_or u x []) → (x : ℕ) → x < i → get_or (table_forms u) x [] ≡ get_or (table_forms t) x []
-  forms_alike t u i h x lt = sym (made_at entry_forms refl u x) ∙ ap entry_forms (sym (h x lt)) ∙ made_at entry_forms refl t x
+  forms_alike t u i h x lt = sym (map-get_or entry_forms refl u x) ∙ ap entry_forms (sym (h x lt)) ∙ map-get_or entry_forms refl t x
 
   agree : (m : ℕ) (a b : ℕ) (t u : Table C) → Formed a t → Formed b u → a ≤ length p.tree → (i : ℕ) → i < m → i < a → i < b → get_or t i [] ≡ get_or u i []
   agree zero a b t u f g within i lt la lb = absurd (omega (arith, lt))

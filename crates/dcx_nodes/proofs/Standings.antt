@@ -9,6 +9,7 @@ use Rattle.dcx_atom.specs.declared.array.Array.{Array}
 use Rattle.dcx_atom.specs.declared.stops.ValueStop.{ValueStop}
 use Rattle.dcx_point.specs.Pairs.{Pairs}
 use Rattle.dcx_arena.specs.Nodes.{IsNode, call_at}
+use Rattle.dcx_arena.proofs.Results.{on_ok}
 use Rattle.dcx_call.specs.declared.call.Call.{Call}
 use Rattle.dcx_call.specs.declared.call.Call.TheVariants as calls
 use Rattle.dcx_call.specs.Values.{IsGiven}
@@ -74,15 +75,10 @@ module _ {C : Type 0} (of_number : Frac → C) where
   standing_weaker (Ok x) P Q f h = f (Ok (entries_in of_number x)) h
   standing_weaker (Err stop) P Q f h = OnStop-weaker stop (λ e. P (Err e)) (λ e. Q (Err e)) (λ e. f (Err e)) h
 
--- where there is an answer
-pub on_ok : {A E : Type 0} (r : Result A E) (X : Type 0) → X → OnOk r X
-on_ok (Ok x) X h = h
-on_ok (Err e) X h = tt
-
 -- a call without a graph takes no auxiliary unknowns
 pub next_stays : {A E : Type 0} (p : Problem) (reduced : List Bool) (i : ℕ) (next : ℕ) → next ≡ first_marked p reduced i → marked reduced i ≡ true → (call : Call) → call_at p.tree i ≡ Some call →
     ((n : Node) → call_aux p.tree n call ≡ []) → (r : Result A E) → OnOk r (next ≡ first_marked p reduced (i + 1))
-next_stays p reduced i next is e call c none r = on_ok r (next ≡ first_marked p reduced (i + 1)) (is ∙ sym (next_without p reduced i call c none e))
+next_stays p reduced i next is e call c none r = on_ok r (is ∙ sym (next_without p reduced i call c none e))
 
 -- a constant takes nothing
 pub constant_given : (p : Problem) (i : ℕ) (x : Array) (setting : Pairs) → call_at p.tree i ≡ Some (calls.Constant x) → (n : Node) → IsNode p.tree i n → IsGiven n.call setting []

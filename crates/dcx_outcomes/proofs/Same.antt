@@ -3,11 +3,11 @@
 use Rattle.std.proofs.Common.{◌≡◌, ℕ, zero, suc, List, [], ◌∷◌, map, length, Option, Some, refl, sym, ap, ap₂, subst, ◌∙◌}
 use Rattle.std.specs.Prelude.{slice_get, option_map}
 use Rattle.std.specs.Option.{unwrap_or}
-use Rattle.std.specs.List.{AllByRecursion, AllZip, IsDistinct}
+use Rattle.std.specs.List.{AllZip, IsDistinct}
 use Rattle.std.specs.Cmp.Lexicographic.{nat_list_eq_equiv}
 use Rattle.std.proofs.Math.Logic.{∥∥₁_elim}
-use Rattle.std.proofs.lemmas.Option.{none-some, same_Some}
-use Rattle.std.proofs.lemmas.List.Elements.{recursion_from_All}
+use Rattle.std.proofs.lemmas.Option.{none-some, same_Some, slice_get_within, get_or_from_slice_get}
+use Rattle.std.proofs.lemmas.List.{length-map}
 use Rattle.std.proofs.lemmas.Map.Keys.{IsDistinct-prop}
 use Rattle.std.proofs.lemmas.Map.Entries.{lookup_from_place}
 use Rattle.dcx_shape.specs.declared.shape.Sides.{Sides}
@@ -31,10 +31,6 @@ use Rattle.dcx_right.specs.Filters.{HasShapeOf}
 use Rattle.dcx_graph.specs.Answers.{IsSamePoint, IsSameAnswer}
 
 -- ---- pairs
-pairs_count : (ps : Pairs) → length (names_of ps) ≡ length ps
-pairs_count [] = refl
-pairs_count (p ∷ ps) = ap suc (pairs_count ps)
-
 name_at : (ps : Pairs) (k : ℕ) (p : List ℕ × Array) → slice_get ps k ≡ Some p → slice_get (names_of ps) k ≡ Some p.0
 name_at [] k p e = absurd (none-some p e)
 name_at (q ∷ ps) zero p e = ap (λ (r : List ℕ × Array). Some r.0) (same_Some q p e)
@@ -57,14 +53,9 @@ module _ (x y : Pairs) (names : names_of x ≡ names_of y) (distinct : IsDistinc
       λ i. (called i, arrays i)
 
   pub same_pairs : x ≡ y
-  same_pairs = one_list x y (sym (pairs_count x) ∙ ap length names ∙ pairs_count y) same_at
+  same_pairs = one_list x y (sym (length-map x (λ (p : List ℕ × Array). p.0)) ∙ ap length names ∙ length-map y (λ (p : List ℕ × Array). p.0)) same_at
 
 -- ---- points
-all_at : {A : Type 0} (P : A → Type 0) (xs : List A) (k : ℕ) (x : A) → AllByRecursion P xs → slice_get xs k ≡ Some x → P x
-all_at P [] k x all e = absurd (none-some x e)
-all_at P (y ∷ xs) zero x all e = subst P (same_Some y x e) all.0
-all_at P (y ∷ xs) (suc k) x all e = all_at P xs k x all.1 e
-
 -- the variable whose name stands at a place
 pub named_at : (vs : List Variable) (k : ℕ) (name : List ℕ) → slice_get (map (λ (v : Variable). v.name) vs) k ≡ Some name → (v : Variable) × (slice_get vs k ≡ Some v) × (v.name ≡ name)
 named_at [] k name e = absurd (none-some name e)
@@ -88,8 +79,8 @@ sides_there : (p : Problem) (x : Pairs) → IsPointFor p x → (k : ℕ) (v : Va
     → slice_get x k ≡ Some (n, a) → sides_of a.shape ≡ sides_of v.shape
 sides_there p x h k v n a there is at =
     let distinct : IsDistinct same_name (names_of x) = subst (IsDistinct same_name) (sym h.names) (variables_distinct p) in
-    let has : HasArray x v.name (sides_of v.shape) = all_at (λ (w : Variable). HasArray x w.name (sides_of w.shape)) p.variables k v
-    (recursion_from_All (λ (w : Variable). HasArray x w.name (sides_of w.shape)) p.variables h.shaped) there in
+    let has : HasArray x v.name (sides_of v.shape) =
+    subst (λ (w : Variable). HasArray x w.name (sides_of w.shape)) (get_or_from_slice_get p.variables k v v there) (h.shaped k v (slice_get_within p.variables k v there)) in
     let found : array_of x v.name ≡ Some a = subst (λ z. array_of x z ≡ Some a) (sym is) (lookup_from_place nat_list_eq_equiv x k n a distinct at) in
     subst (λ (z : Array). sides_of z.shape ≡ sides_of v.shape) (same_Some has.array a (sym has.there ∙ found)) has.shape
 

@@ -17,12 +17,13 @@ use Rattle.dcx_frac.proofs.Results.{sum_of_is, difference_of_is, product_of_is, 
 use Rattle.dcx_atom.specs.Formed.{zero_frac, frac_at, and_then}
 use Rattle.dcx_atom.proofs.Entrywise.{products_from-exact}
 use Rattle.dcx_atom.proofs.FormedSums.{value-zero_frac}
+use Rattle.dcx_atom.proofs.Fractions.{value-negative}
 use Rattle.dcx_linear.specs.declared.param_form.ParamForm.{ParamForm}
 use Rattle.dcx_linear.specs.declared.row.Row.{Row}
 use Rattle.dcx_tab.specs.declared.rows.IntRow.{IntRow}
 use Rattle.dcx_tab.specs.Table.{Table, entry_at}
 use Rattle.dcx_lp_answer.specs.Right.{turned_if}
-use Rattle.dcx_lp_answer.proofs.Fractions.{value-negative, value-whole}
+use Rattle.dcx_lp_answer.proofs.Fractions.{value-whole}
 use Rattle.dcx_range.specs.declared.rates.Rate.{Rate}
 use Rattle.dcx_range.specs.Coefficients.{coefficient_of}
 use Rattle.dcx_range.specs.Operations.{turned, kept_rate, rate_of, rates_of, factors_at, change_at, zero_of, slope_of, constant_of}

@@ -32,9 +32,8 @@ use Rattle.dcx_simplex.proofs.Ended.{Shown, shown_optimal}
 use Rattle.dcx_std.specs.GivenRows.{GivenRows, given}
 use Rattle.dcx_std.specs.IntegerRows.{IsFitting as HasFew}
 use Rattle.dcx_std.specs.Solutions.{linear_program, unknowns_at, HasKinds}
-use Rattle.dcx_std.specs.Answers.{IsRightForRowsAs}
 use Rattle.dcx_std.proofs.ScaledProgram.{scaled_program}
-use Rattle.dcx_std.proofs.RightAnswers.{shown_of}
+use Rattle.dcx_std.proofs.RightAnswers.{rows_right_as}
 use Rattle.dcx_lp_solve.specs.declared.solving.Solved.{Solved}
 use Rattle.dcx_lp_solve.specs.declared.stop.SolveStop.{SolveStop}
 use Rattle.dcx_lp_solve.specs.declared.stop.SolveStop.TheVariants as solves
@@ -125,8 +124,7 @@ module _ (p : Problem) (setting : Pairs) (name : List ℕ) (m : Program ParamFor
 
     pub has_no_point : HasKinds (rows_of r) → s.answer.status ≡ status.Infeasible → HasNoPoint p (setting_of p setting)
     has_no_point known e =
-        let right = subst (λ (t : LpStatus). IsRightForRowsAs t (rows_of r) s.program s.answer) e
-        (shown_of (rows_of r) s.program known (scaled_program (rows_of r) s.program is.made) s.answer (answers_are_right limit (rows_of r) s is)) in
+        let right = rows_right_as (rows_of r) s.program known is.made s.answer (answers_are_right limit (rows_of r) s is) status.Infeasible e in
         record {
           multipliers = multipliers_of (convex_problem p) (multiplier_at s.program.columns s.answer);
           gap = value s.answer.number;
@@ -137,8 +135,7 @@ module _ (p : Problem) (setting : Pairs) (name : List ℕ) (m : Program ParamFor
     has_no_least known e =
         let x = unknowns_at s.program.columns (numbers s.answer.columns) in
         let d = unknowns_at s.program.columns (numbers s.answer.ray) in
-        let right = subst (λ (t : LpStatus). IsRightForRowsAs t (rows_of r) s.program s.answer) e
-        (shown_of (rows_of r) s.program known (scaled_program (rows_of r) s.program is.made) s.answer (answers_are_right limit (rows_of r) s is)) in
+        let right = rows_right_as (rows_of r) s.program known is.made s.answer (answers_are_right limit (rows_of r) s is) status.Unbounded e in
         record {
           point = point_at p.variables x;
           ray = point_at p.variables d;

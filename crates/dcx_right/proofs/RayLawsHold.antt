@@ -1,6 +1,6 @@
 -- The main statements hold: steepness, recession, fixed sides, and rays of unbounded problems.
 use Rattle.dcx_tree.specs.Meaning.{names_in, convex_problem}
-use Rattle.dcx_tree.proofs.Lawful.{tree_lawful}
+use Rattle.dcx_tree.proofs.Lawful.{problem_lawful}
 use Rattle.dcx_right.specs.RayLaws.{SteepnessIsTold, CallsRecede, NodesRecede, ValuesAreFixed, TreeValuesAreFixed, RaysAreUnbounded, RaysShow}
 use Rattle.dcx_right.proofs.Calls.{atom_recedes, linear_recedes, product_recedes, quotient_recedes}
 use Rattle.dcx_right.proofs.Told.{steep_tells, only}
@@ -30,5 +30,5 @@ rays_are_unbounded p ordered law recede ok s fit x d b e ray = unbounded p order
 
 pub rays_show : RaysShow
 rays_show p ok s fit x d b e ray =
-    let lawful = tree_lawful (names_in p) p.tree p.nodes in
+    let lawful = problem_lawful p in
     unbounded (convex_problem p) lawful.ordered lawful.lawful (tree_recedes (names_in p) p.tree p.nodes) ok s fit x d b e ray

@@ -11,7 +11,7 @@ use Rattle.dcx_call.specs.declared.call.Call.TheVariants as calls
 use Rattle.dcx_tree.specs.declared.problem.Problem.{Problem}
 use Rattle.dcx_tree.specs.Nodes.{Node, head_of, arg_sides, pairing_call}
 use Rattle.dcx_tree.specs.Meaning.{names_in, convex_problem, IsAccepted}
-use Rattle.dcx_tree.proofs.Lawful.{tree_lawful}
+use Rattle.dcx_tree.proofs.Lawful.{problem_lawful}
 use Rattle.dcx_tree.proofs.AllReached.{convex_at, node_reached}
 use Rattle.dcx_right.specs.Steepness.{IsValueFixed}
 use Rattle.dcx_right.proofs.Values.{side_fixed}
@@ -21,5 +21,5 @@ pub tree_side_fixed : (p : Problem) → IsAccepted p → (i : ℕ) (n : Node) (q
 tree_side_fixed p ok i n q at is loose =
     let at_convex : convex.IsNode (convex_problem p).nodes i (record { head = head_of (names_in p) (calls.Pairing q) (arg_sides p.tree n) n.sides; args = n.args }) =
     subst (λ (call : Call). convex.IsNode (convex_problem p).nodes i (record { head = head_of (names_in p) call (arg_sides p.tree n) n.sides; args = n.args })) is (convex_at p i n at) in
-    side_fixed (convex_problem p) (tree_lawful (names_in p) p.tree p.nodes).ordered ok i (node_reached p i (slice_get_within p.tree i n at))
+    side_fixed (convex_problem p) (problem_lawful p).ordered ok i (node_reached p i (slice_get_within p.tree i n at))
     (pairing_call q (arg_sides p.tree n) n.sides) n.args at_convex loose

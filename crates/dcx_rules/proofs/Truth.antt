@@ -15,8 +15,8 @@ use Rattle.dcx_convex.proofs.Beyond.{IsBeyondAs}
 use Rattle.dcx_convex.proofs.Convexity.{nodes_between}
 use Rattle.dcx_convex.proofs.LawsHold.{constants_are_fixed}
 use Rattle.dcx_tree.specs.declared.problem.Problem.{Problem}
-use Rattle.dcx_tree.specs.Meaning.{names_in, convex_problem, value_at, Fits, IsInDomain}
-use Rattle.dcx_tree.proofs.Lawful.{tree_lawful}
+use Rattle.dcx_tree.specs.Meaning.{convex_problem, value_at, Fits, IsInDomain}
+use Rattle.dcx_tree.proofs.Lawful.{problem_lawful}
 use Rattle.dcx_tree.proofs.LawsHold.{signs_are_true}
 use Rattle.dcx_rules.specs.declared.curvature.Curvature.{Curvature}
 use Rattle.dcx_rules.specs.declared.curvature.Curvature.TheVariants.{Constant, Affine, Convex, Concave}
@@ -39,7 +39,7 @@ module _ (p : Problem) (s : Setting) (fit : Fits p s) where
       IsBeyondAs (judgement_at Plain (convex_problem p).nodes i) (value_at p s (combination t r x y) i j) (t *ℚ value_at p s x i j +ℚ r *ℚ value_at p s y i j)
   unfolding convex.value_at judgement_at
   between t r x y ht hr one dx dy i j =
-      nodes_between t r ht hr one (convex_problem p).nodes (tree_lawful (names_in p) p.tree p.nodes).lawful s fit.parameters x y dx dy (suc i) i j
+      nodes_between t r ht hr one (convex_problem p).nodes (problem_lawful p).lawful s fit.parameters x y dx dy (suc i) i j
 
   -- each entry has the curvature of its node
   curvature_true : (i j : ℕ) (c : Curvature) → curvature_at p i ≡ Some c → HasCurvature c (IsInDomain p) (λ x. value_at p s x i j)

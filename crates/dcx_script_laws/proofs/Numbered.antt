@@ -13,13 +13,13 @@ use Rattle.dcx_atom.specs.declared.array.Array.{Array}
 use Rattle.dcx_atom.specs.Arrays.{number_at}
 use Rattle.dcx_atom.specs.Formed.{zero_frac}
 use Rattle.dcx_atom.proofs.FormedSums.{value-zero_frac}
+use Rattle.dcx_atom.proofs.Fractions.{value-negative}
 use Rattle.dcx_call.specs.declared.call.Call.TheVariants as calls
 use Rattle.dcx_call.specs.Values.{Given}
 use Rattle.dcx_tree.specs.Expressions.{Value as Numbered, value_of}
 use Rattle.dcx_array.specs.Arrays.{entry}
 use Rattle.dcx_array.specs.declared.fault.ArrayFault.{ArrayFault}
 use Rattle.dcx_array.specs.Operators.{subtracted as difference, negated}
-use Rattle.dcx_array.proofs.ExactNumbers.{value-negated_number}
 use Rattle.dcx_syntax.specs.declared.tree.Sign.TheVariants.{Plus, Minus}
 use Rattle.dcx_script_values.specs.declared.fault.ElabFault.{ElabFault}
 use Rattle.dcx_script_values.specs.Values.{Value, plain, list, expression, items_of, State, and_then, done, or_array_fault}
@@ -43,7 +43,7 @@ number_at-entry (x ∷ xs) (suc k) = number_at-entry xs k
 
 number_at-negated : (b : Array) (k : ℕ) → number_at (negated b).entries k ≡ neg_ℚ (number_at b.entries k)
 number_at-negated b k =
-    number_at-entry (negated b).entries k ∙ ap value (entry-negated b k) ∙ value-negated_number (entry b k) ∙ ap neg_ℚ (sym (number_at-entry b.entries k))
+    number_at-entry (negated b).entries k ∙ ap value (entry-negated b k) ∙ value-negative (entry b k) ∙ ap neg_ℚ (sym (number_at-entry b.entries k))
 
 module _ (setting point : Given) where
   abbrev constant_value : Array → Numbered

@@ -24,6 +24,7 @@ use Rattle.dcx_frac.specs.Frac.{num_of, value}
 use Rattle.dcx_frac.specs.Results.{product_of}
 use Rattle.dcx_frac.proofs.Results.{product_of_is}
 use Rattle.dcx_atom.specs.Formed.{zero_frac, frac_at, one_frac}
+use Rattle.dcx_atom.proofs.Fractions.{value-one_frac}
 use Rattle.dcx_linear.specs.declared.form.Form.{Form}
 use Rattle.dcx_linear.specs.declared.row.Row.{Row}
 use Rattle.dcx_linear.specs.declared.row.RowKind.TheVariants.{Equal}
@@ -108,15 +109,12 @@ module _ (n : ℕ) (kinds : List UnknownKind) (starts : List Start) (f : Form Fr
   multiple_small : unsigned_abs (pos formed.multiple) < 2 ^ 127
   multiple_small = (multiple_facts Equal f (cost_numbers n f) w formed).small
 
-  value_one : value one_frac ≡ whole (pos 1)
-  value_one = value-whole (pos 1) (lit< tt)
-
   -- and becomes the multiple
   product_one : (y : Frac) → product_of (frac_at (whole (pos formed.multiple))) one_frac ≡ Ok y → num_of y ≡ pos formed.multiple
   product_one y e =
       num_of_whole y (pos formed.multiple)
       (IfOk-at_ok (λ z. value z ≡ value (frac_at (whole (pos formed.multiple))) *ℚ value one_frac) e (product_of_is (frac_at (whole (pos formed.multiple))) one_frac).exact
-      ∙ ap₂ ◌*ℚ◌ (value-whole (pos formed.multiple) multiple_small) value_one ∙ *ℚ_idr (whole (pos formed.multiple)))
+      ∙ ap₂ ◌*ℚ◌ (value-whole (pos formed.multiple) multiple_small) value-one_frac ∙ *ℚ_idr (whole (pos formed.multiple)))
 
   last_product : entry formed.products (suc n) ≡ pos formed.multiple
   last_product =

@@ -23,10 +23,12 @@ use Rattle.dcx_lp_answer.specs.Notes.{numbers}
 use Rattle.dcx_lp_answer.specs.Right.{cost_at_columns, form_at, multiplier_at, combined_rows, IsOneSided, HasSigns, IsAssignment}
 use Rattle.dcx_lp_answer.specs.Right.{IsOptimalAnswer, IsInfeasibleAnswer, IsUnboundedAnswer, IsRightAs, IsRight}
 use Rattle.dcx_std.specs.GivenRows.{GivenRows}
+use Rattle.dcx_std.specs.IntegerRows.{IsMade}
 use Rattle.dcx_std.specs.ScaledProgram.{IsScaledProgram}
 use Rattle.dcx_std.specs.Solutions.{form_number, row_at, linear_program, unknowns_at, HasKinds}
 use Rattle.dcx_std.specs.Answers.{IsRightForRowsAs, IsRightForRows}
 use Rattle.dcx_std.proofs.Assignments.{column_value, assignment, assigned_at, value_nonnegative, assigned_unknown, unknowns-along}
+use Rattle.dcx_std.proofs.ScaledProgram.{scaled_program}
 use Rattle.dcx_std.proofs.Solutions.{facts_of, narrow, form_same, artificial_none, slack_none, inequality_there, solution_of, cost_is, form_of}
 
 -- the columns of an answer that is right are one-sided
@@ -139,3 +141,7 @@ module _ (rows : GivenRows) (q : Program) (known : HasKinds rows) (s : IsScaledP
   -- a right answer shows one to the rows
   pub shown_of : IsRight q a → IsRightForRows rows q a
   shown_of r = shown_as a.status r
+
+-- as its status says
+pub rows_right_as : (rows : GivenRows) (q : Program) (known : HasKinds rows) → IsMade rows q → (a : LpAnswer) → IsRight q a → (t : LpStatus) → a.status ≡ t → IsRightForRowsAs t rows q a
+rows_right_as rows q known made a right t e = subst (λ (u : LpStatus). IsRightForRowsAs u rows q a) e (shown_of rows q known (scaled_program rows q made) a right)

@@ -23,6 +23,7 @@ use Rattle.dcx_frac.specs.Results.{product_of}
 use Rattle.dcx_frac.proofs.Results.{product_of_is}
 use Rattle.dcx_atom.specs.Formed.{zero_frac, one_frac, frac_at}
 use Rattle.dcx_atom.proofs.FormedSums.{value-zero_frac}
+use Rattle.dcx_atom.proofs.Fractions.{value-negative}
 use Rattle.dcx_linear.specs.declared.form.FormTerm.{FormTerm}
 use Rattle.dcx_linear.specs.declared.form.Form.{Form}
 use Rattle.dcx_linear.specs.declared.row.RowKind.{RowKind}
@@ -33,7 +34,7 @@ use Rattle.dcx_tab.specs.Rows.{entry}
 use Rattle.dcx_std.specs.declared.whole.WholeRow.{WholeRow}
 use Rattle.dcx_std.specs.Multiples.{denominator_of, denominators}
 use Rattle.dcx_std.specs.WholeRows.{coefficient_or_zero, coefficient_at, coefficients, opposite, row_numbers, cost_numbers, or_one, divisor_of}
-use Rattle.dcx_lp_answer.proofs.Fractions.{value-negative, value-whole}
+use Rattle.dcx_lp_answer.proofs.Fractions.{value-whole}
 use Rattle.dcx_std.proofs.Numerators.{formed_numerators, num_of_whole}
 use Rattle.dcx_std.proofs.WholeRows.{IsFormedBy, multiple_facts, factor_is, or_one_positive}
 
@@ -60,14 +61,10 @@ whole_times m x h =
           ∙ sym (whole-*ℤ (pos q) (num_of x));
     }
 
--- the number of an opposite
-pub value-opposite : (x : Frac) → value (opposite x) ≡ neg_ℚ (value x)
-value-opposite x = value-negative x
-
 whole_opposite : (m : ℕ) (x : Frac) → IsWholeTimes m (value x) → IsWholeTimes m (value (opposite x))
 whole_opposite m x h = record {
   integer = neg_ℤ h.integer;
-  is = ap (λ y. whole (pos m) *ℚ y) (value-opposite x) ∙ *ℚ-neg_ℚ (whole (pos m)) (value x) ∙ ap neg_ℚ h.is ∙ sym (whole-neg_ℤ h.integer);
+  is = ap (λ y. whole (pos m) *ℚ y) (value-negative x) ∙ *ℚ-neg_ℚ (whole (pos m)) (value x) ∙ ap neg_ℚ h.is ∙ sym (whole-neg_ℤ h.integer);
 }
 
 -- ---- the numbers of a form

@@ -11,6 +11,7 @@ use Rattle.dcx_math.proofs.Orders.{*ℚ_idr, *ℚ-neg_ℚ, neg_ℚ-neg_ℚ}
 use Rattle.dcx_frac.specs.declared.fraction.Frac.{Frac}
 use Rattle.dcx_frac.specs.Frac.{value}
 use Rattle.dcx_atom.specs.Formed.{zero_frac, one_frac}
+use Rattle.dcx_atom.proofs.Fractions.{value-negative}
 use Rattle.dcx_linear.specs.declared.form.Form.{Form}
 use Rattle.dcx_linear.specs.declared.row.Row.{Row}
 use Rattle.dcx_linear.specs.declared.row.RowKind.TheVariants.{Equal}
@@ -28,7 +29,7 @@ use Rattle.dcx_std.specs.IntegerRows.{start_of, IsMadeOf, IsMade}
 use Rattle.dcx_std.specs.ScaledProgram.{IsScaledRow, IsScaledCost, IsScaledProgram}
 use Rattle.dcx_lp_answer.proofs.Fractions.{value-whole}
 use Rattle.dcx_std.proofs.WholeRows.{IsFormedBy, formed_by, whole_kind, multiple_facts}
-use Rattle.dcx_std.proofs.Scaled.{scaled_numbers, scaled_at, value-opposite, whole_row_numbers, whole_cost_numbers}
+use Rattle.dcx_std.proofs.Scaled.{scaled_numbers, scaled_at, whole_row_numbers, whole_cost_numbers}
 use Rattle.dcx_std.proofs.ColumnKinds.{unknown_below}
 use Rattle.dcx_std.proofs.RowForm.{mapped_entry, made_at, made_count}
 use Rattle.dcx_std.proofs.ProgramForm.{whole_of, wholes_count, coefficients_count, opposites_count, cost_lead}
@@ -109,7 +110,7 @@ module _ (rows : GivenRows) (q : Program) (m : IsMade rows q) where
     right_side =
         let negated = (start_of n w).negated in
         ap whole is.right ∙ whole-turned negated (entry w.numbers n)
-        ∙ ap (turned_if negated) (number_at n ∙ ap (λ c. value w.factor *ℚ value c) (row_right n row.form) ∙ ap (λ y. value w.factor *ℚ y) (value-opposite row.form.constant))
+        ∙ ap (turned_if negated) (number_at n ∙ ap (λ c. value w.factor *ℚ value c) (row_right n row.form) ∙ ap (λ y. value w.factor *ℚ y) (value-negative row.form.constant))
         ∙ ap₂ (λ b f. turned_if b (value f *ℚ neg_ℚ (value row.form.constant))) (sym is.negated) (sym is.factor)
 
     scaled_row : IsScaledRow q.columns row r
@@ -145,7 +146,7 @@ module _ (rows : GivenRows) (q : Program) (m : IsMade rows q) where
         ap whole (mapped_entry (cost_in m.cost.numbers) q.columns q.objective.entries j m.objective.entries l ∙ ap (cost_in m.cost.numbers) e)
         ∙ whole-turned minus (entry m.cost.numbers u)
         ∙ ap (turned_if minus) (cost_at u ∙ ap (λ c. value m.cost.factor *ℚ value c) (cost_coefficient n rows.objective u (unknown_is j u minus l e))
-        ∙ ap (λ y. value m.cost.factor *ℚ y) (value-opposite (coefficient_at rows.objective.terms u)))
+        ∙ ap (λ y. value m.cost.factor *ℚ y) (value-negative (coefficient_at rows.objective.terms u)))
         ∙ turned-cost minus (value m.cost.factor) (value (coefficient_at rows.objective.terms u))
         ∙ ap (λ f. neg_ℚ (f *ℚ turned_if minus (value (coefficient_at rows.objective.terms u)))) (sym lead_is);
     right = ap whole m.objective.right ∙ cost_at n ∙ ap (λ c. value m.cost.factor *ℚ value c) (cost_right n rows.objective) ∙ ap (λ f. f *ℚ value rows.objective.constant) (sym lead_is);

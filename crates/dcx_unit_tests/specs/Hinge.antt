@@ -6,7 +6,7 @@ use Rattle.std.proofs.lemmas.List.Elements.{All-head, All-cons, All-nil}
 use Rattle.dcx_math.specs.Rational.{ℚ, whole, ◌+ℚ◌, ◌*ℚ◌, ◌≤ℚ◌, neg_ℚ, rat_max}
 use Rattle.dcx_math.specs.Sums.{IsNonnegative, rat_sum_below}
 use Rattle.dcx_math.proofs.Ring.{ring, reads}
-use Rattle.dcx_math.proofs.Orders.{≤ℚ_refl, ≤ℚ-from_≡, +ℚ-≤ℚ, *ℚ-≤ℚ, neg_ℚ-≤ℚ, +ℚ-nonnegative, linear}
+use Rattle.dcx_math.proofs.Orders.{≤ℚ_refl, ≤ℚ-from_≡, +ℚ-≤ℚ, *ℚ-≤ℚ, neg_ℚ-≤ℚ, neg_ℚ-nonnegative, neg_ℚ-nonpositive, +ℚ-nonnegative, linear}
 use Rattle.dcx_math.proofs.Products.{*ℚ-nonnegative}
 use Rattle.dcx_math.proofs.Bounds.{≤ℚ-rat_max_left, ≤ℚ-rat_max_right, rat_max-≤ℚ, rat_max-monotone}
 use Rattle.dcx_frac.specs.Fits.{IsRepresentable}
@@ -194,14 +194,8 @@ turned_is x = ring (x ∷ []) (search reads depth 30) tt
 pub turned_linear : IsLinear turned_meaning
 turned_linear args sides is j b a = turned_is (a 0 0)
 
-at_least_zero : (x : ℚ) → x ≤ℚ whole (pos 0) → whole (pos 0) ≤ℚ neg_ℚ x
-at_least_zero x h = linear (x ∷ []) h (search reads depth 30) tt
-
-at_most_zero : (x : ℚ) → whole (pos 0) ≤ℚ x → neg_ℚ x ≤ℚ whole (pos 0)
-at_most_zero x h = linear (x ∷ []) h (search reads depth 30) tt
-
 pub turned_sign : linear_call.KeepsSign turned_meaning
-turned_sign args sides is j b signs a n h = record { nonneg = λ t. at_least_zero (a 0 0) ((h 0 0).nonpos t); nonpos = λ t. at_most_zero (a 0 0) ((h 0 0).nonneg t) }
+turned_sign args sides is j b signs a n h = record { nonneg = λ t. neg_ℚ-nonnegative (a 0 0) ((h 0 0).nonpos t); nonpos = λ t. neg_ℚ-nonpositive (a 0 0) ((h 0 0).nonneg t) }
 
 pub turned_trend : linear_call.KeepsTrend turned_meaning
 turned_trend args sides is j below Convex a b f = by (f 0 0)

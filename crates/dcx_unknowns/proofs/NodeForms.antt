@@ -16,7 +16,7 @@ use Rattle.dcx_convex.proofs.Told.{judgement_tells}
 use Rattle.dcx_tree.specs.declared.problem.Problem.{Problem}
 use Rattle.dcx_tree.specs.Nodes.{Node, head_of, arg_sides, convex_node}
 use Rattle.dcx_tree.specs.Meaning.{names_in, convex_problem}
-use Rattle.dcx_tree.proofs.Lawful.{tree_lawful}
+use Rattle.dcx_tree.proofs.Lawful.{problem_lawful}
 use Rattle.dcx_tree.proofs.AllReached.{convex_at}
 use Rattle.dcx_unknowns.specs.Layout.{is_reduced}
 use Rattle.dcx_unknowns.specs.Equations.{Forms, entry_by, Stands, AllStand}
@@ -28,7 +28,7 @@ module _ (p : Problem) where
   nodes_of = (convex_problem p).nodes
 
   pub nodes_ordered : IsOrdered nodes_of
-  nodes_ordered = (tree_lawful (names_in p) p.tree p.nodes).ordered
+  nodes_ordered = (problem_lawful p).ordered
 
   pub nodes_counted : length nodes_of ≡ length p.tree
   nodes_counted = length-map p.tree (convex_node (names_in p) p.tree)

@@ -1,10 +1,9 @@
 -- One shape after another is joined to that of those before it.
 use Rattle.std.proofs.Common.{◌≡◌, ℕ, zero, suc, ◌+◌, ◌<◌, List, [], ◌∷◌, ◌++◌, map, length, take, get_or, Some, sym, ap, ◌∙◌, refl, arith}
 use Rattle.std.specs.Prelude.{option_and_then}
-use Rattle.std.proofs.lemmas.List.{map-append, take_all}
+use Rattle.std.proofs.lemmas.List.{map-append, take_all, take_more}
 use Rattle.dcx_shape.specs.declared.shape.Shape.{Shape}
 use Rattle.dcx_shape.specs.Shape.{sides_of}
-use Rattle.dcx_atom.proofs.FormedSums.{take-next}
 use Rattle.dcx_array.specs.Shapes.{shape_with, common_with}
 use Rattle.dcx_array.proofs.AllowedShapes.{shape_with-sides}
 use Rattle.dcx_array.proofs.Broadcasts.{none_after, common_more}
@@ -32,7 +31,7 @@ loop-shape-preserved c =
     let xs : List Shape = c.args.others.now in
     let i : ℕ = c.loop-shape.shape-index in
     let one : map sides_of (take (i + 1) xs) ≡ map sides_of (take i xs) ++ sides_of c.shape-item.result ∷ [] =
-    ap (map sides_of) (take-next xs i c.shape-item.result c.loop-shape-test.true ∙ ap (λ y. take i xs ++ y ∷ []) (sym c.shape-item.is))
+    ap (map sides_of) (take_more xs i c.shape-item.result c.loop-shape-test.true ∙ ap (λ y. take i xs ++ y ∷ []) (sym c.shape-item.is))
     ∙ map-append sides_of (take i xs) (c.shape-item.result ∷ []) in
     ap (common_with (Some (sides_of c.args.first))) one
     ∙ common_more c.args.first c.loop-shape.common c.in_ok-common.common (map sides_of (take i xs)) (sides_of c.shape-item.result) c.loop-shape.invariant c.in_ok-common.ensures.sides

@@ -1,10 +1,10 @@
 -- A node is reduced, or it is a number.
-use Rattle.std.proofs.Common.{◌≡◌, ◌+◌, sym, ◌∙◌}
+use Rattle.std.proofs.Common.{sym, ◌∙◌}
+use Rattle.dcx_arena.proofs.Results.{on_ok}
 use Rattle.dcx_entries.specs.Standing.{all_forms}
-use Rattle.dcx_nodes.specs.Given.{first_marked}
 use Rattle.dcx_nodes.specs.Formed.{ValueGives, ReducedGives, MarkedGives}
 use Rattle.dcx_nodes.proofs.Auxiliaries.{next_unmarked}
-use Rattle.dcx_nodes.proofs.Standings.{value_by, standing_weaker, on_ok, marked_reduced, marked_number}
+use Rattle.dcx_nodes.proofs.Standings.{value_by, standing_weaker, marked_reduced, marked_number}
 use Rattle.dcx_nodes.proofs.node.form_node.Goals as goal
 
 pub node_value-requires-clause-given : goal.node_value-requires-clause-given
@@ -37,5 +37,5 @@ returns-else-given-node-clause-entries g c =
 pub returns-else-given-node-clause-next : goal.returns-else-given-node-clause-next
 returns-else-given-node-clause-next g c =
     let t = g.C.Coef in
-    on_ok c.as_value.result (c.args.next.now ≡ first_marked c.args.given.now.problem.now c.args.given.now.reduced.now (c.args.node.0 + 1))
+    on_ok c.as_value.result
     (c.requires.next ∙ sym (next_unmarked c.args.given.now.problem.now c.args.given.now.reduced.now c.args.node.0 c.if-given-node.false))

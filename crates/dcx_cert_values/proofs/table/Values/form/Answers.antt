@@ -1,5 +1,6 @@
 -- What the roots reach is marked or kept.
 use Rattle.std.proofs.Common.{◌≡◌, ◌⊎◌, inl, inr, ℕ, true, List, Option, None, IsSome, sym, subst, ◌∙◌, arith}
+use Rattle.std.proofs.lemmas.Result.{on_ok_weaker}
 use Rattle.dcx_atom.specs.declared.array.Array.{Array}
 use Rattle.dcx_arena.specs.Nodes.{positions}
 use Rattle.dcx_arena.specs.Gather.{has}
@@ -10,7 +11,7 @@ use Rattle.dcx_cert_values.specs.Marks.{AreMarkedFrom}
 use Rattle.dcx_cert_values.proofs.Known.{all_given}
 use Rattle.dcx_cert_values.proofs.Marking.{some_or_none, all_known, kept_below}
 use Rattle.dcx_cert_values.proofs.Keeping.{stays_some, kept_formed, passes_where, fails_where}
-use Rattle.dcx_cert_values.proofs.Weaker.{checked_weaker, on_ok}
+use Rattle.dcx_cert_values.proofs.Weaker.{checked_weaker}
 use Rattle.dcx_cert_values.proofs.table.Values.form.Goals as goal
 
 pub returns-then-end-eq0-clause-kept : goal.returns-then-end-eq0-clause-kept
@@ -64,7 +65,7 @@ returns-clause-kept c =
     let from : AreMarkedFrom p.tree arrays roots marks =
     subst (AreMarkedFrom p.tree arrays roots) (sym c.deref-3.ensures.value)
     (subst (λ (xs : List (Option Array)). AreMarkedFrom p.tree xs roots c.in_ok-marks.marks.items) same c.in_ok-marks.ensures.marked) in
-    on_ok c.form_marked.result
+    on_ok_weaker c.form_marked.result
     (λ h i r. elim (all_known p.tree arrays marks from.closed c.requires.values.closed roots from.starts i r) [
       | inl m ↦ h i m
       | inr k ↦ stays_some arrays c.form_marked.new.self c.form_marked.ensures.stays i k
