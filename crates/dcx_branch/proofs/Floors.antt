@@ -1,19 +1,18 @@
 -- Where the root is solved, no node falls for ever: its solutions solve the rows of the root.
-use Rattle.std.proofs.Common.{◌≡◌, ℕ, zero, suc, ◌+◌, arith, List, [], ◌∷◌, map, Some, option_map, slice_get, refl, sym, ap, ◌∙◌, subst, pos, add-zero, zero-add}
+use Rattle.std.proofs.Common.{◌≡◌, ℕ, zero, suc, List, [], ◌∷◌, map, Some, option_map, slice_get, refl, sym, ap, ◌∙◌, subst, pos}
 use Rattle.std.proofs.lemmas.Option.{none-some, same_Some, slice_get-map}
 use Rattle.std.proofs.Math.Logic.{∥∥₁_elim}
 use Rattle.dcx_math.specs.Rational.{ℚ, whole, ◌+ℚ◌, ◌-ℚ◌, ◌*ℚ◌, ◌≤ℚ◌}
-use Rattle.dcx_math.proofs.Orders.{≤ℚ_refl, ≤ℚ_trans, ≤ℚ-from_≡, +ℚ-nonpositive, *ℚ-zero, <ℚ-not, whole-≤ℤ}
-use Rattle.dcx_math.proofs.Products.{*ℚ-nonpositive, falls_below, zero-<ℚ-one}
+use Rattle.dcx_math.proofs.Orders.{≤ℚ_trans, <ℚ-not, whole-≤ℤ}
+use Rattle.dcx_math.proofs.Products.{falls_below, zero-<ℚ-one}
 use Rattle.dcx_frac.specs.declared.fraction.Frac.{Frac}
 use Rattle.dcx_call.specs.declared.attribute.Whole.{Whole}
 use Rattle.dcx_call.specs.declared.attribute.Whole.TheVariants.{Not, Integer, Boolean}
-use Rattle.dcx_convex.proofs.OneAnswer.{without, less_by_one}
+use Rattle.dcx_convex.proofs.OneAnswer.{less_by_one}
 use Rattle.dcx_tree.specs.declared.problem.Problem.{Problem}
 use Rattle.dcx_linear.specs.FormTerms.{Unknowns}
-use Rattle.dcx_linear.specs.declared.row.RowKind.{RowKind}
-use Rattle.dcx_linear.specs.declared.row.RowKind.TheVariants.{AtMost, Equal}
-use Rattle.dcx_linear.specs.Rows.{RowAt, LinearProgram, IsSolution, StandsTo, combined_from, IsOptimal, IsUnbounded}
+use Rattle.dcx_linear.specs.Rows.{RowAt, LinearProgram, IsSolution, StandsTo, IsOptimal, IsUnbounded}
+use Rattle.dcx_linear.proofs.RowAnswers.{least}
 use Rattle.dcx_postsolve.specs.Programs.{bound_row}
 use Rattle.dcx_postsolve.proofs.Rows.{AllFrom, all_left, all_right}
 use Rattle.dcx_std.specs.Solutions.{linear_program}
@@ -30,31 +29,12 @@ use Rattle.dcx_branch.proofs.Members.{Each, each_append, each_place}
 use Rattle.dcx_branch.proofs.Bounds.{Keeps, kept_within, within_keeps}
 use Rattle.dcx_branch.proofs.Found.{root_at}
 
--- ---- a least objective
-one_nonpositive : (kind : RowKind) (m x : ℚ) → (kind ≡ AtMost → whole (pos 0) ≤ℚ m) → StandsTo kind x → m *ℚ x ≤ℚ whole (pos 0)
-one_nonpositive AtMost m x h k = *ℚ-nonpositive (h refl) k
-one_nonpositive Equal m x h k = ≤ℚ-from_≡ (ap (λ y. m *ℚ y) k ∙ *ℚ-zero m)
-
--- multipliers times rows that hold are at most 0
-rows_nonpositive : (m : ℕ → ℚ) (u : Unknowns) (i : ℕ) (rows : List RowAt) → ((k : ℕ) (r : RowAt) → slice_get rows k ≡ Some r → r.kind ≡ AtMost → whole (pos 0) ≤ℚ m (i + k)) →
-    ((k : ℕ) (r : RowAt) → slice_get rows k ≡ Some r → StandsTo r.kind (r.number u)) → combined_from m i rows u ≤ℚ whole (pos 0)
-rows_nonpositive m u i [] h k = ≤ℚ_refl _
-rows_nonpositive m u i (r ∷ rows) h k =
-    +ℚ-nonpositive (one_nonpositive r.kind (m i) (r.number u) (λ e. subst (λ n. whole (pos 0) ≤ℚ m n) (add-zero i) (h 0 r refl e)) (k 0 r refl))
-    (rows_nonpositive m u (suc i) rows (λ l s at e. let q : i + suc l ≡ suc i + l = omega arith in subst (λ n. whole (pos 0) ≤ℚ m n) q (h (suc l) s at e)) (λ l. k (suc l)))
-
--- no solution has a smaller objective than the value of an optimal answer
-least_there : (l : LinearProgram) (v : ℚ) (x u : Unknowns) (m : ℕ → ℚ) → IsOptimal l v x m → IsSolution l u → v ≤ℚ l.objective u
-least_there l v x u m h s =
-    without v (l.objective u) (combined_from m 0 l.rows u) (h.bound u s.kinds)
-    (rows_nonpositive m u 0 l.rows (λ k r at e. subst (λ n. whole (pos 0) ≤ℚ m n) (sym (zero-add k)) (h.signs k r at e)) s.rows)
-
 module _ (p : Problem) (q : Program Frac) where
   abbrev l : LinearProgram
   l = linear_program (rows_of q)
 
   pub root_floor : (v : ℚ) (x : Unknowns) (m : ℕ → ℚ) → IsOptimal (node_program l (bounds_in p (root_box p))) v x m → HasFloor p q
-  root_floor v x m h = record { least = v; bound = λ u s. least_there (node_program l (bounds_in p (root_box p))) v x u m h s }
+  root_floor v x m h = record { least = v; bound = λ u s. least (node_program l (bounds_in p (root_box p))) v x u m h s }
 
   -- ---- rows of bounds
   -- the rows of the program and those of bounds, apart

@@ -1,22 +1,19 @@
 -- Lists that are made item by item: what is made so far, and then the rest, is all.
-use Rattle.std.proofs.Common.{◌≡◌, ◌==◌, ℕ, zero, suc, ◌+◌, ◌-◌, ◌<◌, ◌≤◌, arith, List, [], ◌∷◌, ◌++◌, length, get_or, take, drop, set}
-use Rattle.std.proofs.Common.{Option, Some, None, Bool, true, false, refl, sym, ap, ap₂, ◌∙◌, append_assoc, add-one}
+use Rattle.std.proofs.Common.{◌≡◌, ◌==◌, ℕ, zero, suc, ◌+◌, ◌-◌, ◌<◌, arith, List, [], ◌∷◌, ◌++◌, length, get_or, take, drop, set}
+use Rattle.std.proofs.Common.{Option, Some, None, Bool, true, false, refl, sym, ap, ◌∙◌, append_assoc, add-one}
 use Rattle.std.proofs.lemmas.Bool.Decides.{nat_tests}
-use Rattle.std.proofs.lemmas.List.{append-nil, drop_all}
-use Rattle.dcx_frac.specs.declared.fraction.Frac.{Frac}
+use Rattle.std.proofs.lemmas.List.{append-nil}
 use Rattle.dcx_call.specs.declared.attribute.Variable.{Variable}
 use Rattle.dcx_call.specs.declared.attribute.Whole.{Whole}
 use Rattle.dcx_linear.proofs.Formed.{drop_at}
 use Rattle.dcx_unknowns.specs.Unknowns.{first_unknown}
-use Rattle.dcx_right.specs.Boxes.{Bounds, Box, mark_bounds}
+use Rattle.dcx_right.specs.Boxes.{Box, mark_bounds}
 use Rattle.dcx_branch.specs.declared.place.Place.{Place}
 use Rattle.dcx_branch.specs.declared.bound.BoundAt.{BoundAt}
 use Rattle.dcx_branch.specs.declared.side.Side.{Side}
-use Rattle.dcx_answer.specs.declared.branch_tree.BoundWeight.{BoundWeight}
 use Rattle.dcx_branch.specs.Places.{places_of, place_if, variable_places, places_from}
 use Rattle.dcx_branch.specs.Rows.{bounds_of, bound_row, bound_rows}
 use Rattle.dcx_branch.specs.Sides.{sided, box_bounds, open_sides, box_of, IsUpperOf}
-use Rattle.dcx_branch.specs.Leaves.{bound_duals}
 use Rattle.dcx_branch.proofs.Boxes.{open_above, open_turned}
 
 -- one part more
@@ -26,22 +23,6 @@ joins xs ys part rest all e h = ap (λ l. l ++ rest) e ∙ append_assoc xs part 
 -- nothing is left
 pub ends : {A : Type 0} (xs rest all : List A) → rest ≡ [] → xs ++ rest ≡ all → xs ≡ all
 ends xs rest all e h = sym (append-nil xs) ∙ ap (λ l. xs ++ l) (sym e) ∙ h
-
--- ---- bounds with their multipliers
-pub weighed_more : (bs : List BoundAt) (ws : List Frac) (i : ℕ) (b : BoundAt) (w : Frac) → i < length bs → b ≡ get_or bs i b → i < length ws → w ≡ get_or ws i w →
-    bound_duals (drop i bs) (drop i ws) ≡ (let d : BoundWeight = record { variable = b.place.variable; entry = b.place.entry; upper = b.upper; weight = w } in
-    d ∷ bound_duals (drop (i + 1) bs) (drop (i + 1) ws))
-weighed_more bs ws i b w l is m at = ap₂ bound_duals (drop_at bs i b l is) (drop_at ws i w m at)
-
-pub weighed_all : (bs : List BoundAt) (ws : List Frac) (i : ℕ) → length bs ≤ i → bound_duals (drop i bs) (drop i ws) ≡ []
-weighed_all bs ws i l = ap (λ l. bound_duals l (drop i ws)) (drop_all i bs l)
-
--- ---- sides of an entry
-pub sided_more : (b c : Bounds) (k j : ℕ) (ds : List Side) (i : ℕ) (d : Side) → i < length ds → d ≡ get_or ds i d → c ≡ sided b k j (d ∷ []) → sided c k j (drop (i + 1) ds) ≡ sided b k j (drop i ds)
-sided_more b c k j ds i d l is e = ap (λ (x : Bounds). sided x k j (drop (i + 1) ds)) e ∙ sym (ap (sided b k j) (drop_at ds i d l is))
-
-pub sided_all : (b c : Bounds) (k j : ℕ) (ds : List Side) (i : ℕ) → length ds ≤ i → sided b k j (drop i ds) ≡ c → b ≡ c
-sided_all b c k j ds i l h = sym (ap (sided b k j) (drop_all i ds l)) ∙ h
 
 -- ---- bounds of a box
 pub bounds_more : (ps : List Place) (ds : List Side) (i : ℕ) (q : Place) → i < length ps → q ≡ get_or ps i q →

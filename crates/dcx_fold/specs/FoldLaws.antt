@@ -252,7 +252,7 @@ pub fold_recession : (p : Fold) (axis : Axis) → Recedes (fold_meaning p axis)
 fold_recession p axis = recession_of (fold_meaning p axis) (fold_soundness p axis) (fold_tightness p axis)
 
 -- ---- slopes
-greatest_slope : (w x : ℚ) → w *ℚ x ≡ w *ℚ (whole (pos 1) *ℚ x +ℚ (whole (negsuc 0) *ℚ whole (pos 0) +ℚ whole (pos 0))) +ℚ whole (pos 0)
+pub greatest_slope : (w x : ℚ) → w *ℚ x ≡ w *ℚ (whole (pos 1) *ℚ x +ℚ (whole (negsuc 0) *ℚ whole (pos 0) +ℚ whole (pos 0))) +ℚ whole (pos 0)
 greatest_slope w x = ring (w ∷ x ∷ []) (search reads depth 30) tt
 
 least_slope : (w x : ℚ) → neg_ℚ w *ℚ x ≡ w *ℚ (whole (pos 1) *ℚ whole (pos 0) +ℚ (neg_ℚ (whole (pos 1)) *ℚ x +ℚ whole (pos 0))) +ℚ whole (pos 0)

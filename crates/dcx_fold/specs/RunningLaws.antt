@@ -23,7 +23,7 @@ use Rattle.dcx_atom.specs.Duality.{no_entries, no_filling, AreRowSlopes, AreBala
 use Rattle.dcx_atom.proofs.Duality.{subgradient_of}
 use Rattle.dcx_atom.proofs.LinearSums.{follows_rising}
 use Rattle.dcx_atom.proofs.BoundRows.{beyond_of_row, row_of_beyond, alone_is, below_or_last}
-use Rattle.dcx_fold.specs.FoldLaws.{each_beyond, all_beyond, extreme_goes, extreme_signed}
+use Rattle.dcx_fold.specs.FoldLaws.{each_beyond, all_beyond, extreme_goes, extreme_signed, greatest_slope}
 use Rattle.dcx_fold.specs.Running.{only_vector, greatest_so_far, running_rows, own_weights, next_weights, running_condition, running_meaning}
 
 -- the only argument is a vector
@@ -100,15 +100,12 @@ pub running_recession : Recedes running_meaning
 running_recession = recession_of running_meaning running_soundness running_tightness
 
 -- ---- slopes
-first_slope : (w x : ℚ) → w *ℚ x ≡ w *ℚ (whole (pos 1) *ℚ x +ℚ (whole (negsuc 0) *ℚ whole (pos 0) +ℚ whole (pos 0))) +ℚ whole (pos 0)
-first_slope w x = ring (w ∷ x ∷ []) (search reads depth 30) tt
-
 next_slope : (w v x : ℚ) → w *ℚ x ≡ w *ℚ (whole (pos 1) *ℚ x +ℚ (whole (negsuc 0) *ℚ whole (pos 0) +ℚ whole (pos 0)))
     +ℚ (v *ℚ (whole (pos 1) *ℚ whole (pos 0) +ℚ (whole (negsuc 0) *ℚ whole (pos 0) +ℚ whole (pos 0))) +ℚ whole (pos 0))
 next_slope w v x = ring (w ∷ v ∷ x ∷ []) (search reads depth 30) tt
 
 slope_of_entry : (j : ℕ) (w : ℕ → ℚ) (a : Entries) → w 0 *ℚ a 0 j ≡ weighted (running_rows j) w a no_filling
-slope_of_entry zero w a = first_slope (w 0) (a 0 0)
+slope_of_entry zero w a = greatest_slope (w 0) (a 0 0)
 slope_of_entry (suc j) w a = next_slope (w 0) (w 1) (a 0 (suc j))
 
 pub row_slopes : AreRowSlopes running_meaning

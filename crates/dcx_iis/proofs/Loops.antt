@@ -56,12 +56,6 @@ module _ {A : Type 0} (set : ConstraintSet) (cs : List Constraint) (rows : List 
       ∙ ap (λ xs. copies ++ xs) (sym rows_are)
       ∙ before
 
--- where no constraint is left
-pub rows_last : {A : Type 0} (set : ConstraintSet) (cs : List Constraint) (rows : List A) (i next : ℕ) (copies more all : List A) → length cs ≤ i
-    → copies ++ rows_from set i (drop i cs) (drop next rows) ≡ all
-    → more ≡ copies ++ drop next rows → more ≡ all
-rows_last set cs rows i next copies more all h before added = added ∙ ap (λ l. copies ++ rows_from set i l (drop next rows)) (sym (drop_all i cs h)) ∙ before
-
 -- ---- constraints, and numbers
 module _ {A : Type 0} (set : ConstraintSet) (xs : List A) (i : ℕ) (x : A) (lt : i < length xs) (is : x ≡ get_or xs i x) where
   kept_are : kept_from set i (drop i xs) ≡ one_if (set i) x (kept_from set (i + 1) (drop (i + 1) xs))

@@ -17,8 +17,8 @@ use Rattle.dcx_linear.specs.declared.param_term.ParamTerm.{ParamTerm}
 use Rattle.dcx_linear.proofs.Formed.{drop_at}
 use Rattle.dcx_range.specs.declared.rates.Rate.{Rate}
 use Rattle.dcx_range.specs.Coefficients.{coefficient_in, coefficient_of}
-use Rattle.dcx_range.specs.Operations.{turned, kept_rate, rate_of, rates_of}
-use Rattle.dcx_std.specs.WholeRows.{opposite}
+use Rattle.dcx_range.specs.Operations.{kept_rate, rate_of, rates_of}
+use Rattle.dcx_std.specs.WholeRows.{opposite, turned_frac}
 
 -- the term at a place, or what the terms behind it have
 next : (k : ℕ) (ts : List ParamTerm) (i : ℕ) (t : ParamTerm) → i < length ts → t ≡ get_or ts i t
@@ -32,8 +32,8 @@ pub passed : (k : ℕ) (ts : List ParamTerm) (i : ℕ) (t : ParamTerm) → i < l
 passed k ts i t lt is n = next k ts i t lt is ∙ ap (λ b. if b then t.coefficient else coefficient_in k (drop (i + 1) ts)) (ne_eqb t.position k n)
 
 -- ---- the change of a row
-pub rate_is : (k : ℕ) (constant : ParamForm) (int : IntRow) (f g : Frac) (r : Result Frac Passes) → f ≡ turned int.negated int.factor → g ≡ opposite (coefficient_of k constant) → r ≡ product_of f g
-    → rate_of k constant int ≡ and_then r (λ h. Ok (kept_rate int h))
+pub rate_is : (k : ℕ) (constant : ParamForm) (int : IntRow) (f g : Frac) (r : Result Frac Passes) → f ≡ turned_frac int.negated int.factor → g ≡ opposite (coefficient_of k constant)
+    → r ≡ product_of f g → rate_of k constant int ≡ and_then r (λ h. Ok (kept_rate int h))
 rate_is k constant int f g r e d p = sym (ap (λ z. and_then z (λ h. Ok (kept_rate int h))) (p ∙ ap₂ product_of e d))
 
 -- ---- those of all rows: what is done, and then what is left

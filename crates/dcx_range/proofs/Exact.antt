@@ -26,8 +26,8 @@ use Rattle.dcx_lp_answer.specs.Right.{turned_if}
 use Rattle.dcx_lp_answer.proofs.Fractions.{value-whole}
 use Rattle.dcx_range.specs.declared.rates.Rate.{Rate}
 use Rattle.dcx_range.specs.Coefficients.{coefficient_of}
-use Rattle.dcx_range.specs.Operations.{turned, kept_rate, rate_of, rates_of, factors_at, change_at, zero_of, slope_of, constant_of}
-use Rattle.dcx_std.specs.WholeRows.{opposite}
+use Rattle.dcx_range.specs.Operations.{kept_rate, rate_of, rates_of, factors_at, change_at, zero_of, slope_of, constant_of}
+use Rattle.dcx_std.specs.WholeRows.{opposite, turned_frac}
 
 -- ---- steps
 -- what is formed in two steps is formed in each
@@ -40,7 +40,7 @@ pub holds_of : {A E : Type 0} (r : Result A E) (P : A → Type 0) (x : A) → If
 holds_of {A} {E} r P x h e = subst (λ (z : Result A E). IfOk z P) e h
 
 -- ---- the change of a row of the program
-turned_value : (b : Bool) (x : Frac) → value (turned b x) ≡ turned_if b (value x)
+turned_value : (b : Bool) (x : Frac) → value (turned_frac b x) ≡ turned_if b (value x)
 turned_value true x = value-negative x
 turned_value false x = refl
 
@@ -51,7 +51,7 @@ turned_product false f c = refl
 pub rate_value : (k : ℕ) (constant : ParamForm) (int : IntRow) (h : Rate) → rate_of k constant int ≡ Ok h
     → (h.column ≡ int.basic) × (value h.change ≡ turned_if int.negated (value int.factor *ℚ neg_ℚ (value (coefficient_of k constant))))
 rate_value k constant int h e =
-    let f = turned int.negated int.factor in
+    let f = turned_frac int.negated int.factor in
     let g = opposite (coefficient_of k constant) in
     let a = both_formed (product_of f g) (λ x. Ok (kept_rate int x)) h e in
     let last = a.2 in

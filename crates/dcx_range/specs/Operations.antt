@@ -20,13 +20,9 @@ use Rattle.dcx_range.specs.declared.ends.Ends.{Ends}
 use Rattle.dcx_range.specs.declared.asked.Asked.{Asked}
 use Rattle.dcx_answer.specs.declared.ranged.Ranged.{Ranged}
 use Rattle.dcx_answer.specs.declared.ranged.Ranged.TheVariants.{Span}
-use Rattle.dcx_std.specs.WholeRows.{opposite}
+use Rattle.dcx_std.specs.WholeRows.{opposite, turned_frac}
 
 -- ---- the changes of the right sides
-abbrev pub turned : Bool → Frac → Frac
-turned true x = opposite x
-turned false x = x
-
 -- the change of a row, kept with its first basic column
 abbrev pub kept_rate : IntRow → Frac → Rate
 kept_rate int h = record { column = int.basic; change = h }
@@ -34,7 +30,7 @@ kept_rate int h = record { column = int.basic; change = h }
 -- how the right side of an integer row changes, where its row has this constant: the factor, negated where the row was negated, times
 -- the negated coefficient
 abbrev pub rate_of : ℕ → ParamForm → IntRow → Result Rate Passes
-rate_of k constant int = and_then (product_of (turned int.negated int.factor) (opposite (coefficient_of k constant))) (λ h. Ok (kept_rate int h))
+rate_of k constant int = and_then (product_of (turned_frac int.negated int.factor) (opposite (coefficient_of k constant))) (λ h. Ok (kept_rate int h))
 
 -- those of all rows, in order
 abbrev pub rates_of : ℕ → List (Row ParamForm) → List IntRow → Result (List Rate) Passes

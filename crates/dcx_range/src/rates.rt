@@ -3,8 +3,8 @@ ghost use Rattle.std.specs.Prelude.{◌≡◌, ◌≤◌, length, Ok, IfOk, IfEr
 ghost use Rattle.std.specs.List.{All};
 ghost use Rattle.dcx_linear.specs.ParamTerms.{HoldsTerms};
 ghost use Rattle.dcx_range.specs.Coefficients.{coefficient_of};
-ghost use Rattle.dcx_range.specs.Operations.{turned, rate_of, rates_of};
-ghost use Rattle.dcx_std.specs.WholeRows.{opposite};
+ghost use Rattle.dcx_range.specs.Operations.{rate_of, rates_of};
+ghost use Rattle.dcx_std.specs.WholeRows.{opposite, turned_frac};
 ghost use Rattle.dcx_range.specs.Stops.{StopsAt};
 
 use crate::numbers::zero;
@@ -45,7 +45,7 @@ fn opposite(number: Frac) -> Frac
 
 /// The number, with its sign turned where the test holds.
 fn turned(is_negated: bool, number: Frac) -> Frac
-    ensures { result ≡ turned is_negated number }
+    ensures { result ≡ turned_frac is_negated number }
 {
     if is_negated { opposite(number) } else { number }
 }

@@ -1,19 +1,14 @@
 -- A fraction with its sign turned.
-use Rattle.std.specs.Prelude.{◌≡◌, ℤ, pos, negsuc, zero, suc, neg_ℤ, unsigned_abs, ◌<◌, ◌^◌}
-use Rattle.std.proofs.Common.{refl, sym, subst}
+use Rattle.std.specs.Prelude.{neg_ℤ, unsigned_abs, ◌<◌, ◌^◌}
+use Rattle.std.proofs.Common.{sym, subst}
 use Rattle.dcx_math.specs.Divisors.{IsCoprime}
+use Rattle.dcx_math.proofs.IntegerLaws.{unsigned_abs-neg}
 use Rattle.dcx_frac.specs.declared.fraction.Frac.{Frac}
-
--- a number and its negative have one size
-pub unsigned_abs-neg_ℤ : (z : ℤ) → unsigned_abs (neg_ℤ z) ≡ unsigned_abs z
-unsigned_abs-neg_ℤ (pos zero) = refl
-unsigned_abs-neg_ℤ (pos (suc n)) = refl
-unsigned_abs-neg_ℤ (negsuc n) = refl
 
 -- -n / d of n / d
 unfoldable pub negated : Frac → Frac
 negated f =
-    let size = sym (unsigned_abs-neg_ℤ f.num) in
+    let size = sym (unsigned_abs-neg f.num) in
     record {
       num = neg_ℤ f.num;
       den = f.den;

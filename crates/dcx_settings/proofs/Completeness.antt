@@ -6,9 +6,9 @@ use Rattle.std.proofs.lemmas.List.{append-nil, map-append, length-append}
 use Rattle.dcx_settings.specs.Terminal.{Terminal, name, digits, decimal, minus, slash, equal, comma, semicolon, open_square, close_square, newline}
 use Rattle.dcx_settings.specs.Grammar.{Size, integer, point, quotient, size_text, sign_text, Number, number_text, Value, one, row, matrix}
 use Rattle.dcx_settings.specs.Grammar.{preceded, separated, row_text, value_text, Item, item_text, Line, nothing, items, line_text, settings_text}
-use Rattle.dcx_settings.specs.Grammar.{names_of, is_among, are_new, Every, IsGoodSize, IsGoodNumber, IsGoodRow, IsGoodValue, IsGoodLine}
+use Rattle.dcx_settings.specs.Grammar.{names_of, row_length, is_among, are_new, Every, IsGoodSize, IsGoodNumber, IsGoodRow, IsGoodValue, IsGoodLine}
 use Rattle.dcx_settings.specs.Machine.{Part, start, whole_read, complete, Outer, no_matrix, rows_before, Context, alone, in_row, Phase, fresh, named, assigned, bracket, number}
-use Rattle.dcx_settings.specs.Machine.{row_closed, ended, at, number_of, number_begun, reading, value_read, limit, may_end, row_ended, number_read, width, in_number, step, go, run}
+use Rattle.dcx_settings.specs.Machine.{row_closed, ended, at, number_of, number_begun, reading, value_read, limit, may_end, row_ended, number_read, in_number, step, go, run}
 use Rattle.dcx_settings.proofs.Facts.{every_more, not_zero}
 
 -- ---- numbers
@@ -116,9 +116,9 @@ row_may_end : (w : ℕ) (rows : List (List Number)) → Every (λ r. length r �
 row_may_end w [] h = refl
 row_may_end w (r ∷ rs) h = eq-eqb w (length r) (sym h.0)
 
-width_is : (w : ℕ) (rows : List (List Number)) → 0 < length rows → Every (λ r. length r ≡ w) rows → width rows ≡ w
-width_is w [] l h = absurd (omega arith)
-width_is w (r ∷ rs) l h = h.0
+row_length_is : (w : ℕ) (rows : List (List Number)) → 0 < length rows → Every (λ r. length r ≡ w) rows → row_length rows ≡ w
+row_length_is w [] l h = absurd (omega arith)
+row_length_is w (r ∷ rs) l h = h.0
 
 less_room : (k m w : ℕ) → (k + suc m) * w ≤ 20000 → (k + 1) * w ≤ 20000
 less_room k m w h = grind arith
@@ -148,7 +148,7 @@ module _ (lines : List Line) (is : List Item) (n : List ℕ) where
   run_rows w rows [] some h g ts = ap (λ rs. run ts (at lines (ended is n (matrix rs)))) (sym (append-nil rows))
   run_rows w rows (r ∷ rs) some h g ts =
       let f = h.fits in
-      let room : nat_le ((length rows + 1) * width rows) 20000 ≡ true = rw (width_is w rows some h.widths) (le-leb _ _ (less_room (length rows) (length rs) w f)) in
+      let room : nat_le ((length rows + 1) * row_length rows) 20000 ≡ true = rw (row_length_is w rows some h.widths) (le-leb _ _ (less_room (length rows) (length rs) w f)) in
       let l = length-append rows (r ∷ []) in
       rw room
       (ap (λ us. run us (at lines (number is n (in_row (rows_before rows) []) start))) (inner (separated comma (map number_text r)) (preceded comma (map row_text rs)) (close_square ∷ ts))

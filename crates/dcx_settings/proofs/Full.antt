@@ -2,8 +2,8 @@
 use Rattle.std.proofs.Common.{◌≡◌, ℕ, ◌*◌, List, [], ◌∷◌, length, refl, sym, ap, ◌∙◌}
 use Rattle.dcx_shape.specs.Sides.{entries_of}
 use Rattle.dcx_settings.specs.declared.settings.SettingItem.{SettingItem}
-use Rattle.dcx_settings.specs.Grammar.{Number, Value, one, row, matrix, Item, Line, nothing, items, Every, AreGoodRows, IsGoodValue, IsGoodLine}
-use Rattle.dcx_settings.specs.Meaning.{row_length, value_sides, joined, value_numbers, IsItemOf, IsFull, AreItemsOf, IsLineOf, AreLinesOf}
+use Rattle.dcx_settings.specs.Grammar.{Number, Value, one, row, matrix, Item, Line, nothing, items, Every, row_length, AreGoodRows, IsGoodValue, IsGoodLine}
+use Rattle.dcx_settings.specs.Meaning.{value_sides, joined, value_numbers, IsItemOf, IsFull, AreItemsOf, IsLineOf, AreLinesOf}
 use Rattle.dcx_settings.specs.Laws.{ItemsAreFull}
 use Rattle.dcx_settings.proofs.Matrices.{total}
 use Rattle.dcx_settings.proofs.Rows.{same_length}

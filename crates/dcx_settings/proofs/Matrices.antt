@@ -10,8 +10,8 @@ use Rattle.dcx_shape.specs.Sides.{HasFewEntries}
 use Rattle.dcx_shape.specs.declared.shape.Sides.TheVariants.{Matrix}
 use Rattle.dcx_tokens.specs.declared.token.Token.{Token}
 use Rattle.dcx_settings.specs.Terminal.{Terminal, comma, open_square, close_square, terminals}
-use Rattle.dcx_settings.specs.Grammar.{Number, Item, Line, Every, IsGoodRow, AreGoodRows, matrix}
-use Rattle.dcx_settings.specs.Machine.{at, start, in_row, rows_before, row_closed, next_row, ended, before_row, width, when}
+use Rattle.dcx_settings.specs.Grammar.{Number, Item, Line, Every, IsGoodRow, row_length, AreGoodRows, matrix}
+use Rattle.dcx_settings.specs.Machine.{at, start, in_row, rows_before, row_closed, next_row, ended, before_row, when}
 use Rattle.dcx_settings.specs.Meaning.{number_value, joined}
 use Rattle.dcx_settings.specs.declared.stop.Stop.{Stop}
 use Rattle.dcx_settings.specs.declared.stop.Stop.TheVariants.{Memory, At}
@@ -34,9 +34,9 @@ rows_first us rest fs h =
       reads = λ lines is n. h.reads lines is n (rows_before []) tt;
     }
 
-width_is : (w : ℕ) (rows : List (List Number)) → AreGoodRows w rows → width rows ≡ w
-width_is w [] h = let s = h.some in absurd (omega (arith, s))
-width_is w (r ∷ rs) h = h.rows_are.0.1
+pub row_length_is : (w : ℕ) (rows : List (List Number)) → AreGoodRows w rows → row_length rows ≡ w
+row_length_is w [] h = let s = h.some in absurd (omega (arith, s))
+row_length_is w (r ∷ rs) h = h.rows_are.0.1
 
 stands : (w : ℕ) (rows : List (List Number)) → AreGoodRows w rows → HasWidth (rows_before rows) (Some w)
 stands w [] h = let s = h.some in absurd (omega (arith, s))
@@ -60,14 +60,14 @@ module _ (w k : ℕ) (us : List Terminal) (fs : List Frac) (from : List Terminal
   rows_total = same_length (joined h.rows) fs h.numbers_are ∙ total w h.rows h.good.rows_are
 
   module _ (rest : List Terminal) (e : from ≡ comma ∷ rest) where
-    room : length fs + w ≤ 20000 → (length h.rows + 1) * width h.rows ≤ 20000
-    room r = let t = rows_total in let v = width_is w h.rows h.good in within (length h.rows) w (width h.rows) v (omega (arith, r, t))
+    room : length fs + w ≤ 20000 → (length h.rows + 1) * row_length h.rows ≤ 20000
+    room r = let t = rows_total in let v = row_length_is w h.rows h.good in within (length h.rows) w (row_length h.rows) v (omega (arith, r, t))
       where
         within : (a b c : ℕ) → c ≡ b → a * b + b ≤ 20000 → (a + 1) * c ≤ 20000
         within a b c e l = grind arith
 
-    full : 20000 < length fs + w → 20000 < (length h.rows + 1) * width h.rows
-    full r = let t = rows_total in let v = width_is w h.rows h.good in within (length h.rows) w (width h.rows) v (omega (arith, r, t))
+    full : 20000 < length fs + w → 20000 < (length h.rows + 1) * row_length h.rows
+    full r = let t = rows_total in let v = row_length_is w h.rows h.good in within (length h.rows) w (row_length h.rows) v (omega (arith, r, t))
       where
         within : (a b c : ℕ) → c ≡ b → 20000 < a * b + b → 20000 < (a + 1) * c
         within a b c e l = grind arith

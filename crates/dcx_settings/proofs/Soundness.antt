@@ -7,11 +7,11 @@ use Rattle.std.proofs.lemmas.List.{append-nil, map-append, length-append}
 use Rattle.dcx_settings.specs.Terminal.{Terminal, name, digits, decimal, minus, slash, equal, comma, semicolon, open_square, close_square, open_curly, close_curly, newline}
 use Rattle.dcx_settings.specs.Grammar.{integer, point, quotient, sign_text, Number, number_text, Value, one, matrix, preceded, separated, row_text, value_text}
 use Rattle.dcx_settings.specs.Grammar.{Item, item_text, Line, nothing, items, line_text, settings_text, names_of, is_among, are_new, Every, IsGoodNumber}
-use Rattle.dcx_settings.specs.Grammar.{IsGoodRow, AreGoodRows, IsGoodValue, IsGoodLine}
+use Rattle.dcx_settings.specs.Grammar.{IsGoodRow, row_length, AreGoodRows, IsGoodValue, IsGoodLine}
 use Rattle.dcx_settings.specs.Machine.{Part, start, negated, whole_read, divided, complete, Outer, no_matrix, rows_before, Context, alone, in_row, Phase, fresh}
 use Rattle.dcx_settings.specs.Machine.{opened, closed, next_item, named, assigned, bracket, number, row_closed, next_row, ended, State, at, when, is_zero}
 use Rattle.dcx_settings.specs.Machine.{number_of, size_begun, number_begun, quotient_read, divisor_read, reading, with_item, value_read, limit, may_end}
-use Rattle.dcx_settings.specs.Machine.{row_ended, in_row_read, number_read, whole_read_on, width, after_fresh, after_opened, after_closed, after_semicolon}
+use Rattle.dcx_settings.specs.Machine.{row_ended, in_row_read, number_read, whole_read_on, after_fresh, after_opened, after_closed, after_semicolon}
 use Rattle.dcx_settings.specs.Machine.{after_name, after_equal, after_bracket, in_number, after_row, before_row, step, go, run}
 use Rattle.dcx_settings.proofs.Facts.{every_more}
 
@@ -113,8 +113,8 @@ IsGoodPhase (named is n) = IsGoodName is n
 IsGoodPhase (assigned is n) = IsGoodName is n
 IsGoodPhase (bracket is n) = IsGoodName is n
 IsGoodPhase (number is n c part) = IsGoodName is n × IsGoodContext c × IsGoodPart part
-IsGoodPhase (row_closed is n rows) = IsGoodName is n × AreGoodRows (width rows) rows × (length rows * width rows ≤ 20000)
-IsGoodPhase (next_row is n rows) = IsGoodName is n × AreGoodRows (width rows) rows × ((length rows + 1) * width rows ≤ 20000)
+IsGoodPhase (row_closed is n rows) = IsGoodName is n × AreGoodRows (row_length rows) rows × (length rows * row_length rows ≤ 20000)
+IsGoodPhase (next_row is n rows) = IsGoodName is n × AreGoodRows (row_length rows) rows × ((length rows + 1) * row_length rows ≤ 20000)
 IsGoodPhase (ended is n v) = IsGoodName is n × IsGoodValue v
 
 pub record IsGoodState (s : State) : Type 0 where
@@ -337,12 +337,12 @@ rows_followed (r ∷ rs) h = separated-followed comma (map row_text rs) (row_tex
 row_closed_sound : (lines : List Line) (is : List Item) (n : List ℕ) (rows : List (List Number)) → Every IsGoodLine lines → IsGoodPhase (row_closed is n rows)
     → (t : Terminal) (s : State) → after_row lines is n rows t ≡ Some s → Reaches lines (row_closed is n rows) t s
 row_closed_sound lines is n rows ls g comma s k =
-    kept_when (nat_le ((length rows + 1) * width rows) 20000) lines (row_closed is n rows) (next_row is n rows) comma s ls
+    kept_when (nat_le ((length rows + 1) * row_length rows) 20000) lines (row_closed is n rows) (next_row is n rows) comma s ls
     (ap (λ y. item_front is n ++ open_square ∷ y) (rows_followed rows g.1.some) ∙ (simp append_assoc)) (λ b. (g.0, g.1, leb-true _ _ b)) k
-row_closed_sound lines is n rows ls g close_square s k = kept lines (row_closed is n rows) (ended is n (matrix rows)) close_square s ls (simp append_assoc) (g.0, (width rows, g.1, g.2)) k
+row_closed_sound lines is n rows ls g close_square s k = kept lines (row_closed is n rows) (ended is n (matrix rows)) close_square s ls (simp append_assoc) (g.0, (row_length rows, g.1, g.2)) k
 row_closed_sound lines is n rows ls g t s k = cc
 
-pub rows_outer : (rows : List (List Number)) → AreGoodRows (width rows) rows → (length rows + 1) * width rows ≤ 20000 → IsGoodContext (in_row (rows_before rows) [])
+pub rows_outer : (rows : List (List Number)) → AreGoodRows (row_length rows) rows → (length rows + 1) * row_length rows ≤ 20000 → IsGoodContext (in_row (rows_before rows) [])
 rows_outer [] g h = (tt, tt, omega arith)
 rows_outer (r ∷ rs) g h = let some = g.rows_are.0.0.some in ((g, h), tt, omega (arith, some))
 

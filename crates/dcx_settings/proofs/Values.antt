@@ -1,5 +1,5 @@
 -- Reading a value, step by step.
-use Rattle.std.proofs.Common.{◌≡◌, ℕ, List, [], ◌∷◌, map, length, None, Err, refl, sym, ap, ap₂, ◌∙◌, arith}
+use Rattle.std.proofs.Common.{◌≡◌, ℕ, List, [], ◌∷◌, map, length, None, Err, refl, sym, ap, ap₂, ◌∙◌}
 use Rattle.dcx_frac.specs.declared.fraction.Frac.{Frac}
 use Rattle.dcx_frac.specs.Frac.{value}
 use Rattle.dcx_shape.specs.declared.shape.Shape.{Shape}
@@ -7,15 +7,14 @@ use Rattle.dcx_shape.specs.declared.shape.Sides.TheVariants.{Scalar, Vector, Mat
 use Rattle.dcx_shape.specs.Shape.{sides_of}
 use Rattle.dcx_tokens.specs.declared.token.Token.{Token}
 use Rattle.dcx_settings.specs.Terminal.{Terminal, comma, open_square, close_square, terminals}
-use Rattle.dcx_settings.specs.Grammar.{Number, Value, one, row, matrix, Item, Line, AreGoodRows}
+use Rattle.dcx_settings.specs.Grammar.{Value, one, row, matrix, Item, Line}
 use Rattle.dcx_settings.specs.Machine.{at, start, alone, in_row, no_matrix, rows_before, assigned, bracket, ended, value_read}
-use Rattle.dcx_settings.specs.Meaning.{row_length}
 use Rattle.dcx_settings.specs.declared.stop.Stop.{Stop}
 use Rattle.dcx_settings.specs.declared.stop.Stop.TheVariants.{Memory, At}
 use Rattle.dcx_settings.specs.Steps.{read, read_by, Lacks, number_from, IsNumberRead, StopsAt, IsRowRead, RowStopsAt, IsStopAt, AreRowsRead, RowsStopAt, IsValueRead, ValueStopsAt, matrix_begun}
 use Rattle.dcx_settings.proofs.Numbers.{read_part}
 use Rattle.dcx_settings.proofs.Rows.{same_length}
-use Rattle.dcx_settings.proofs.Matrices.{rows_close, rows_open}
+use Rattle.dcx_settings.proofs.Matrices.{row_length_is, rows_close, rows_open}
 
 -- behind a value
 pub read_ended : (lines : List Line) (is : List Item) (n : List ℕ) (v : Value) (us : List Terminal) → read us (at lines (ended is n v)) ≡ read_by (value_read lines is n v) us
@@ -28,14 +27,10 @@ module _ (w k : ℕ) (us : List Terminal) (fs : List Frac) (from : List Terminal
   matrix_read rest e shape s = record {
     value = matrix h.rows;
     good = (w, h.good, h.few);
-    sides = s ∙ ap₂ (λ a b. Matrix a b) (sym h.counted) (sym (long w h.rows h.good));
+    sides = s ∙ ap₂ (λ a b. Matrix a b) (sym h.counted) (sym (row_length_is w h.rows h.good));
     numbers_are = h.numbers_are;
     reads = λ lines is n. read_part lines is n (in_row (rows_before []) []) start us ∙ rows_close w k us fs from h rest e lines is n ∙ read_ended lines is n (matrix h.rows) rest;
   }
-    where
-      long : (w : ℕ) (rows : List (List Number)) → AreGoodRows w rows → row_length rows ≡ w
-      long w [] g = let s = g.some in absurd (omega (arith, s))
-      long w (r ∷ rs) g = g.rows_are.0.1
 
   pub matrix_open : (text : List ℕ) (ts : List Token) → from ≡ terminals text ts → Lacks comma from → (s : Stop) → IsStopAt ts s → Lacks close_square from → ValueStopsAt matrix_begun text us s
   matrix_open text ts d c Memory a l = tt

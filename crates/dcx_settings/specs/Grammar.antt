@@ -93,6 +93,11 @@ pub record IsGoodRow (xs : List Number) : Type 0 where
   pub some : 0 < length xs
   pub numbers : Every IsGoodNumber xs
 
+-- the length of the rows
+abbrev pub row_length : List (List Number) → ℕ
+row_length [] = 0
+row_length (r ∷ rs) = length r
+
 -- rows of this length, at least one
 pub record AreGoodRows (width : ℕ) (rows : List (List Number)) : Type 0 where
   pub some : 0 < length rows

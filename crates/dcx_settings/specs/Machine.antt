@@ -2,7 +2,7 @@
 use Rattle.std.proofs.Common.{ℕ, zero, suc, ◌+◌, ◌*◌, Bool, true, false, ℤ, pos, negsuc, List, [], ◌∷◌, ◌++◌, length, Option, Some, None, Result, Ok, Err}
 use Rattle.std.specs.Prelude.{nat_le, nat_eq, if◌then◌else◌}
 use Rattle.dcx_settings.specs.Terminal.{Terminal, name, digits, decimal, minus, slash, equal, comma, semicolon, open_square, close_square, open_curly, close_curly, newline}
-use Rattle.dcx_settings.specs.Grammar.{Size, integer, point, quotient, Number, Value, one, row, matrix, Item, Line, nothing, items, names_of, is_among}
+use Rattle.dcx_settings.specs.Grammar.{Size, integer, point, quotient, Number, Value, one, row, matrix, Item, Line, nothing, items, names_of, row_length, is_among}
 
 -- how far a number is read
 pub data Part : Type 0 where
@@ -119,10 +119,6 @@ whole_read_on lines is n c s f slash = Some (at lines (number is n c (divided s 
 whole_read_on lines is n c s f t = number_read lines is n c (number_of s (integer f)) t
 
 -- ---- the phases
-abbrev pub width : List (List Number) → ℕ
-width [] = 0
-width (r ∷ rs) = length r
-
 abbrev pub after_fresh : List Line → Terminal → Option State
 after_fresh lines (name n) = Some (at lines (named [] n))
 after_fresh lines open_curly = Some (at lines opened)
@@ -160,7 +156,7 @@ in_number lines is n c (divided s f) t = reading lines is n c (divisor_read s f 
 in_number lines is n c (complete x) t = number_read lines is n c x t
 
 abbrev pub after_row : List Line → List Item → List ℕ → List (List Number) → Terminal → Option State
-after_row lines is n rows comma = when (nat_le ((length rows + 1) * width rows) 20000) (at lines (next_row is n rows))
+after_row lines is n rows comma = when (nat_le ((length rows + 1) * row_length rows) 20000) (at lines (next_row is n rows))
 after_row lines is n rows close_square = Some (at lines (ended is n (matrix rows)))
 after_row lines is n rows t = None
 

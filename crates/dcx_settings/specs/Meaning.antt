@@ -1,5 +1,5 @@
 -- What settings mean: the shape and the numbers of each named value.
-use Rattle.std.specs.Prelude.{◌≡◌, ⊤, ℕ, Bool, true, false, List, [], ◌∷◌, ◌++◌, map, length}
+use Rattle.std.specs.Prelude.{◌≡◌, ⊤, Bool, true, false, List, [], ◌∷◌, ◌++◌, map, length}
 use Rattle.dcx_math.specs.Rational.{ℚ, whole, ◌/ℚ◌, neg_ℚ}
 use Rattle.dcx_frac.specs.declared.fraction.Frac.{Frac}
 use Rattle.dcx_frac.specs.Frac.{value}
@@ -10,7 +10,7 @@ use Rattle.dcx_shape.specs.Sides.{entries_of}
 use Rattle.dcx_settings.specs.declared.settings.SettingItem.{SettingItem}
 use Rattle.dcx_settings.specs.Terminal.{Terminal}
 use Rattle.dcx_settings.specs.Reading.{AreSpelled}
-use Rattle.dcx_settings.specs.Grammar.{Size, integer, point, quotient, Number, Value, one, row, matrix, Item, Line, nothing, items}
+use Rattle.dcx_settings.specs.Grammar.{Size, integer, point, quotient, Number, Value, one, row, matrix, Item, Line, nothing, items, row_length}
 
 abbrev pub size_value : Size → ℚ
 size_value (integer n) = whole n
@@ -24,11 +24,6 @@ signed_value false x = x
 -- the number that is written
 abbrev pub number_value : Number → ℚ
 number_value x = signed_value x.is_negative (size_value x.size)
-
--- the length of the rows
-abbrev pub row_length : List (List Number) → ℕ
-row_length [] = 0
-row_length (r ∷ rs) = length r
 
 abbrev pub value_sides : Value → Sides
 value_sides (one x) = Scalar

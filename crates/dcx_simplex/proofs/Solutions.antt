@@ -10,7 +10,7 @@ use Rattle.dcx_tab.proofs.RowLaws.{int_dot-unit, entry-added, entry-scaled, unit
 use Rattle.dcx_tab.specs.Rows.{Row, Assignment, row_at, basic_at, Solves}
 use Rattle.dcx_tab.specs.Table.{Table, entry_at, IsOf}
 use Rattle.dcx_tab.proofs.Elimination.{pos_factor}
-use Rattle.dcx_tab.proofs.Unique.{spread, int_dot-spread, product, product-pos, others, others-is}
+use Rattle.dcx_tab.proofs.Spread.{spread, int_dot-spread, product, product-pos, others, others-is}
 use Rattle.dcx_simplex.specs.Run.{right_at, NoneLeaves, IsEntering}
 use Rattle.dcx_simplex.specs.Basis.{IsFeasible, IsIdle, lead_at}
 use Rattle.dcx_simplex.specs.Meaning.{IsPoint, IsRay}

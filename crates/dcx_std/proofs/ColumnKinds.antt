@@ -11,7 +11,7 @@ use Rattle.dcx_tab.specs.declared.rows.ColumnKind.{ColumnKind}
 use Rattle.dcx_tab.specs.declared.rows.ColumnKind.TheVariants.{Unknown, Slack, Artificial}
 use Rattle.dcx_tab.specs.Program.{kind_at}
 use Rattle.dcx_lp_answer.specs.Right.{is_slack_of}
-use Rattle.dcx_lp_answer.specs.Right.{is_inequality as has_slack_column}
+use Rattle.dcx_lp_answer.specs.Right.{is_inequality}
 use Rattle.dcx_std.specs.declared.start.Start.{Start}
 use Rattle.dcx_std.specs.Columns.{all_unknown_columns, has_slack, needs_artificial, slack_columns, artificial_columns, plain_columns_of, columns_of}
 use Rattle.dcx_std.proofs.ColumnLaws.{All-both, marked_All, marked_in, marked_true, marked_get, contains_first, contains_second, slack_place}
@@ -74,9 +74,9 @@ allowed a (Nonpos ∷ kinds) (suc j) zero minus kind l e s = let b = later a (su
 allowed a (Nonpos ∷ kinds) (suc j) (suc i) minus kind l e s = let d : a + suc i ≡ suc a + i = omega arith in allowed (suc a) kinds j i minus kind (omega (arith, l)) (e ∙ ap (λ u. Unknown u minus) d) s
 
 -- a row that has a slack column is an inequality
-inequality_of : (ks : List ColumnKind) (i j : ℕ) → j < length ks → kind_at ks j ≡ Slack i → has_slack_column ks i ≡ true
+inequality_of : (ks : List ColumnKind) (i j : ℕ) → j < length ks → kind_at ks j ≡ Slack i → is_inequality ks i ≡ true
 inequality_of [] i j l e = absurd (omega (arith, l))
-inequality_of (k ∷ ks) i zero l e = ap (λ c. is_slack_of i c || has_slack_column ks i) e ∙ ap (λ b. b || has_slack_column ks i) (eq-eqb i i refl)
+inequality_of (k ∷ ks) i zero l e = ap (λ c. is_slack_of i c || is_inequality ks i) e ∙ ap (λ b. b || is_inequality ks i) (eq-eqb i i refl)
 inequality_of (k ∷ ks) i (suc j) l e = ap (λ b. is_slack_of i k || b) (inequality_of ks i j (omega (arith, l)) e) ∙ or_right (is_slack_of i k) true refl
 
 module _ (kinds : List UnknownKind) (starts : List Start) where
@@ -124,5 +124,5 @@ module _ (kinds : List UnknownKind) (starts : List Start) where
       (there.0, there.1, get_or_default (columns_of kinds starts) there.0 (Unknown 0 false) (Slack i) there.1 ∙ there.2)
 
   -- so the columns show which rows are inequalities
-  pub is_inequality_there : (i : ℕ) (s : Start) → slice_get starts i ≡ Some s → has_slack s ≡ true → has_slack_column (columns_of kinds starts) i ≡ true
+  pub is_inequality_there : (i : ℕ) (s : Start) → slice_get starts i ≡ Some s → has_slack s ≡ true → is_inequality (columns_of kinds starts) i ≡ true
   is_inequality_there i s e h = let p = slack_found i s e h in inequality_of (columns_of kinds starts) i p.0 p.1 p.2

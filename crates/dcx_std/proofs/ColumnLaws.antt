@@ -13,10 +13,11 @@ use Rattle.dcx_linear.specs.declared.row.UnknownKind.TheVariants.{Free, Nonneg, 
 use Rattle.dcx_tab.specs.declared.rows.ColumnKind.{ColumnKind}
 use Rattle.dcx_tab.specs.declared.rows.ColumnKind.TheVariants.{Unknown, Slack, Artificial}
 use Rattle.dcx_tab.specs.Program.{kind_at, is_plain, plain_count}
+use Rattle.dcx_lp_answer.specs.Multipliers.{is_at_most}
 use Rattle.dcx_std.specs.declared.start.Start.{Start}
 use Rattle.dcx_linear.specs.Size.{columns_for}
 use Rattle.dcx_std.specs.Size.{slacks_for}
-use Rattle.dcx_std.specs.Columns.{all_unknown_columns, is_inequality, has_slack, needs_artificial, marked_from, slack_columns, artificial_columns, plain_columns_of, columns_of, start_column}
+use Rattle.dcx_std.specs.Columns.{all_unknown_columns, has_slack, needs_artificial, marked_from, slack_columns, artificial_columns, plain_columns_of, columns_of, start_column}
 
 -- ---- a list of two parts
 abbrev none : ColumnKind
@@ -140,7 +141,7 @@ slacks_count i [] = refl
 slacks_count i (s ∷ ss) = by s.kind (slacks_count (suc i) ss) ∙ sym (sum_by-cons (λ (r : Start). slacks_for r.kind) s ss)
   where
     by : (k : RowKind) → length (marked_from Slack (suc i) (map has_slack ss)) ≡ sum_by (λ (r : Start). slacks_for r.kind) ss
-        → length (if is_inequality k then Slack i ∷ marked_from Slack (suc i) (map has_slack ss) else marked_from Slack (suc i) (map has_slack ss))
+        → length (if is_at_most k then Slack i ∷ marked_from Slack (suc i) (map has_slack ss) else marked_from Slack (suc i) (map has_slack ss))
         ≡ slacks_for k + sum_by (λ (r : Start). slacks_for r.kind) ss
     by AtMost e = omega (arith, e)
     by Equal e = omega (arith, e)

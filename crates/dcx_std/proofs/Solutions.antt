@@ -32,11 +32,10 @@ use Rattle.dcx_tab.specs.declared.rows.IntRow.{IntRow}
 use Rattle.dcx_tab.specs.declared.program.Program.{Program}
 use Rattle.dcx_tab.specs.Program.{IsProgramRow, kind_at, is_plain, plain_count, entries_of, right_side_at, right_of, is_negated}
 use Rattle.dcx_lp_answer.specs.Notes.{row_factor}
-use Rattle.dcx_lp_answer.specs.Right.{turned_if, row_at_columns, cost_at_columns, form_at, IsSolution}
-use Rattle.dcx_lp_answer.specs.Right.{is_inequality as has_slack_column}
+use Rattle.dcx_lp_answer.specs.Right.{turned_if, is_inequality, row_at_columns, cost_at_columns, form_at, IsSolution}
+use Rattle.dcx_lp_answer.specs.Multipliers.{is_at_most}
 use Rattle.dcx_std.specs.declared.start.Start.{Start}
 use Rattle.dcx_std.specs.WholeRows.{coefficient_at, IsSparseForm}
-use Rattle.dcx_std.specs.Columns.{is_inequality}
 use Rattle.dcx_std.specs.GivenRows.{GivenRows}
 use Rattle.dcx_std.specs.ScaledProgram.{IsScaledRow, IsScaledProgram}
 use Rattle.dcx_std.specs.Solutions.{form_number, row_at, linear_program, column_part, unknowns_at, HasKinds}
@@ -194,17 +193,17 @@ module _ (rows : GivenRows) (q : Program) (known : HasKinds rows) (s : IsScaledP
   pub no_slack : (i : ℕ) (h : RowFacts i) → h.row.kind ≡ Equal → (j : ℕ) → kind_at q.columns j ≡ Slack i → ⊥
   no_slack i h e j k =
       let w = slack_wanted rows.kinds s.starts j i h.start (sym (ap (λ ks. kind_at ks j) s.columns) ∙ k) h.start_is in
-      let f : is_inequality Equal ≡ true = ap is_inequality (sym (h.kind ∙ e)) ∙ w in cc
+      let f : is_at_most Equal ≡ true = ap is_at_most (sym (h.kind ∙ e)) ∙ w in cc
 
   -- an inequality has one
   pub slack_there : (i : ℕ) (h : RowFacts i) → h.row.kind ≡ AtMost → (j : ℕ) × (j < length q.columns) × (kind_at q.columns j ≡ Slack i)
   slack_there i h e =
-      let p = slack_found rows.kinds s.starts i h.start h.start_is (ap is_inequality (h.kind ∙ e)) in
+      let p = slack_found rows.kinds s.starts i h.start h.start_is (ap is_at_most (h.kind ∙ e)) in
       (p.0, subst (λ ks. p.0 < length ks) (sym s.columns) p.1, ap (λ ks. kind_at ks p.0) s.columns ∙ p.2)
 
   -- its columns show that
-  pub inequality_there : (i : ℕ) (h : RowFacts i) → h.row.kind ≡ AtMost → has_slack_column q.columns i ≡ true
-  inequality_there i h e = ap (λ ks. has_slack_column ks i) s.columns ∙ is_inequality_there rows.kinds s.starts i h.start h.start_is (ap is_inequality (h.kind ∙ e))
+  pub inequality_there : (i : ℕ) (h : RowFacts i) → h.row.kind ≡ AtMost → is_inequality q.columns i ≡ true
+  inequality_there i h e = ap (λ ks. is_inequality ks i) s.columns ∙ is_inequality_there rows.kinds s.starts i h.start h.start_is (ap is_at_most (h.kind ∙ e))
 
   -- behind the plain columns stand artificials
   pub plain_below_artificial : (j : ℕ) → plain_count q.columns ≤ j → j < length q.columns → (i : ℕ) × (kind_at q.columns j ≡ Artificial i)

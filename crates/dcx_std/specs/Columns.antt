@@ -1,12 +1,11 @@
 -- The columns of a scaled program: those of the unknowns, the slacks of the inequalities, and the artificials.
 use Rattle.std.specs.Prelude.{ℕ, suc, Bool, true, false, not, ◌||◌, nat_eq, if◌then◌else◌, List, [], ◌∷◌, ◌++◌, map, ℤ, pos, negsuc, neg_ℤ}
-use Rattle.dcx_linear.specs.declared.row.RowKind.{RowKind}
-use Rattle.dcx_linear.specs.declared.row.RowKind.TheVariants.{AtMost, Equal}
 use Rattle.dcx_linear.specs.declared.row.UnknownKind.{UnknownKind}
 use Rattle.dcx_linear.specs.declared.row.UnknownKind.TheVariants.{Free, Nonneg, Nonpos}
 use Rattle.dcx_tab.specs.declared.rows.ColumnKind.{ColumnKind}
 use Rattle.dcx_tab.specs.declared.rows.ColumnKind.TheVariants.{Unknown, Slack, Artificial}
 use Rattle.dcx_tab.specs.Rows.{entry}
+use Rattle.dcx_lp_answer.specs.Multipliers.{is_at_most}
 use Rattle.dcx_std.specs.declared.start.Start.{Start}
 
 -- ---- the columns of unknowns
@@ -22,12 +21,8 @@ all_unknown_columns u [] = []
 all_unknown_columns u (kind ∷ kinds) = unknown_columns u kind ++ all_unknown_columns (suc u) kinds
 
 -- ---- the columns of rows
-abbrev pub is_inequality : RowKind → Bool
-is_inequality AtMost = true
-is_inequality Equal = false
-
 abbrev pub has_slack : Start → Bool
-has_slack s = is_inequality s.kind
+has_slack s = is_at_most s.kind
 
 -- every row but an inequality that was not negated
 abbrev pub needs_artificial : Start → Bool

@@ -178,9 +178,6 @@ pub record Graded (P : Judgement → Type 0) (v : Value) (s : State) : Type 0 wh
   pub same : v ≡ expression node
   pub knows : Knows P s node
 
-pub graded-later : (P : Judgement → Type 0) (v : Value) (s t : State) → Later s t → Graded P v s → Graded P v t
-graded-later P v s t l g = record { node = g.node; same = g.same; knows = knows-later P s t g.node l g.knows }
-
 pub expression-gives : (R : Judgement → Type 0) (m : Act ℕ) (s : State) → Gives (λ i t. Knows R t i) (m s) → Gives (Graded R) (as_expression m s)
 expression-gives R m s g =
     then-gives (λ i t. Knows R t i) (Graded R) (m s) (λ i. done (expression i)) g (λ i t k. ok-gives (Graded R) (expression i) t (record { node = i; same = refl; knows = k }))

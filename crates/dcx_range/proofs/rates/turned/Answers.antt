@@ -1,6 +1,6 @@
 -- The number is turned where the test holds.
 use Rattle.std.proofs.Common.{sym, ap, ◌∙◌}
-use Rattle.dcx_range.specs.Operations.{turned as turned_of}
+use Rattle.dcx_std.specs.WholeRows.{turned_frac as turned_of}
 use Rattle.dcx_range.proofs.rates.turned.Goals as goal
 
 pub returns-then-is_negated : goal.returns-then-is_negated
