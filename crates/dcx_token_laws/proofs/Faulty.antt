@@ -17,7 +17,7 @@ use Rattle.dcx_tokens.specs.Front.{is_blank, is_quote, begins_name, begins_numbe
 use Rattle.dcx_tokens.specs.Reading.{IsLexed}
 use Rattle.dcx_tokens.specs.State.{State}
 use Rattle.dcx_token_laws.specs.Cut.{IsLineEnd, IsBetween, place_behind, Cut}
-use Rattle.dcx_token_laws.specs.Faults.{BadCharsBeginNothing, BeginsNothing}
+use Rattle.dcx_token_laws.specs.Faults.{BadCharsBeginNothing, BeginsNothing, BeginsToken}
 use Rattle.dcx_token_laws.specs.Fine.{IsFineUpTo}
 use Rattle.dcx_token_laws.specs.Words.{IsSign, IsWord}
 use Rattle.dcx_token_laws.proofs.Basics.{feed_ends, head_is, tail_is, never_both}
@@ -94,11 +94,11 @@ begins_nothing c rest begun en ed eq eo = record { no_word = no_word; no_between
     no_between (d ∷ ds) behind e h =
         absurd (no_between_by c rest ds behind begun (tail_is c d rest (ds ++ behind) e) (subst (λ x. IsBetween (x ∷ ds) behind) (sym (head_is c d rest (ds ++ behind) e)) h))
 
--- a token is no such character
-pub starts_some : (c : ℕ) (rest : List ℕ) → Starts c rest → BeginsNothing c rest → ⊥
-starts_some c rest (starts_token k n token) nothing = nothing.no_word k (take n (c ∷ rest)) (drop n (c ∷ rest)) (sym (take-append-drop n (c ∷ rest))) (is_word c rest k n token)
-starts_some c rest (starts_number n d none) nothing = never_both (begins_number c rest) d nothing.no_number
-starts_some c rest (starts_text n d q none) nothing = never_both (is_quote c) q nothing.no_text
+-- where a token begins
+pub token_begins : (c : ℕ) (rest : List ℕ) → Starts c rest → BeginsToken c rest
+token_begins c rest (starts_token k n token) = inl (k, take n (c ∷ rest), drop n (c ∷ rest), sym (take-append-drop n (c ∷ rest)), is_word c rest k n token)
+token_begins c rest (starts_number n d none) = inr (inl d)
+token_begins c rest (starts_text n d q none) = inr (inr q)
 
 -- ---- what stops a reading, and where
 pub place_is : (s : State) (front : List ℕ) → IsBehind front s → s.at.place ≡ place_behind front

@@ -74,6 +74,10 @@ UnclosedAreOpen = (text : List ℕ) (ts : List Token) (p : Place) → IsLexed te
     ⊎ (IsFineUpTo text ts (chars text) [] × IsLeftOpen ts p)
 
 -- ---- 5: indentations
+-- a token is spelled there, or a number or a text begins, which may be malformed
+abbrev pub BeginsToken : ℕ → List ℕ → Type 0
+BeginsToken c rest = ((k : TokenKind) × (word : List ℕ) × (behind : List ℕ) × (c ∷ rest ≡ word ++ behind) × IsWord k word) ⊎ IsTrue (begins_number c rest) ⊎ IsTrue (is_quote c)
+
 -- the depths of the blocks that are open behind a token, outermost first
 abbrev pub blocks_with : List ℕ → ℕ → TokenKind → List ℕ
 blocks_with blocks depth kind.Indent = blocks ++ depth ∷ []
@@ -91,7 +95,7 @@ DoesNotFollow blanks ts = IsTrue (tab_among blanks) ⊎ ((marks : List TokenKind
 
 abbrev pub IndentsDoNotFollow : Type 0
 IndentsDoNotFollow = (text : List ℕ) (ts : List Token) (p : Place) → IsLexed text ts (Some (fault.Indent p)) →
-    (front : List ℕ) × (c : ℕ) × (rest : List ℕ) × (blanks : List ℕ) × IsFineUpTo text ts front (c ∷ rest) × (p ≡ place_behind front) × (BeginsNothing c rest → ⊥)
+    (front : List ℕ) × (c : ℕ) × (rest : List ℕ) × (blanks : List ℕ) × IsFineUpTo text ts front (c ∷ rest) × (p ≡ place_behind front) × BeginsToken c rest
     × IsLedBy blanks ts front × DoesNotFollow blanks ts
 
 -- ---- 7: more than 64 are open
@@ -101,7 +105,7 @@ OpensBracket c = (symbol : Symbol) × IsTrue (opens symbol) × IsWord (kind.Sign
 
 -- or a line that is deeper than each block that is open
 abbrev pub BeginsBlock : ℕ → List ℕ → List Token → List ℕ → Type 0
-BeginsBlock c rest ts front = (blanks : List ℕ) × (BeginsNothing c rest → ⊥) × IsLedBy blanks ts front × IsFalse (tab_among blanks) × All (λ d. d < length blanks) (open_blocks [] ts)
+BeginsBlock c rest ts front = (blanks : List ℕ) × BeginsToken c rest × IsLedBy blanks ts front × IsFalse (tab_among blanks) × All (λ d. d < length blanks) (open_blocks [] ts)
 
 -- there are 64 already
 abbrev pub TooDeepAreAbove64 : Type 0

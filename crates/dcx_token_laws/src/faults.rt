@@ -19,7 +19,7 @@ pub fn unclosed()
     ensures { UnclosedAreOpen }
 {}
 
-/// An indentation that is refused stands in front of a token, outside brackets: there is a tab in it, or none of the marks
+/// An indentation that is refused stands where a token begins, outside brackets: there is a tab in it, or none of the marks
 /// of lines leads from the blocks that are open to a line of this depth.
 pub fn indents()
     ensures { IndentsDoNotFollow }
