@@ -1,6 +1,6 @@
 -- The fault of a text says what stands at its place.
 use Rattle.std.proofs.Common.{◌≡◌, ◌⊎◌, inl, inr, ℕ, ◌-◌, true, false, eqb, List, [], ◌∷◌, ◌++◌, length, take, drop, Option, Some, None, refl, sym, ap, ◌∙◌, subst, arith}
-use Rattle.std.specs.Prelude.{IsTrue, slice_get}
+use Rattle.std.specs.Prelude.{IsTrue, Ok, slice_get}
 use Rattle.std.specs.Str.{chars}
 use Rattle.std.proofs.lemmas.Bool.Decides.{nat_tests}
 use Rattle.std.proofs.lemmas.List.{append-nil, take-append-drop}
@@ -15,9 +15,9 @@ use Rattle.dcx_tokens.specs.declared.token.TokenKind.{TokenKind}
 use Rattle.dcx_tokens.specs.declared.token.TokenKind.TheVariants as kind
 use Rattle.dcx_tokens.specs.Front.{is_blank, is_quote, begins_name, begins_number, ends_line, long_sign, short_sign, or_else, sign_at}
 use Rattle.dcx_tokens.specs.Reading.{IsLexed}
-use Rattle.dcx_tokens.specs.State.{State}
+use Rattle.dcx_tokens.specs.State.{State, line_begun_at}
 use Rattle.dcx_token_laws.specs.Cut.{IsLineEnd, IsBetween, place_behind, Cut}
-use Rattle.dcx_token_laws.specs.Faults.{BadCharsBeginNothing, BeginsNothing, BeginsToken}
+use Rattle.dcx_token_laws.specs.Faults.{LineFollows, BadCharsBeginNothing, BeginsNothing, BeginsToken}
 use Rattle.dcx_token_laws.specs.Fine.{IsFineUpTo}
 use Rattle.dcx_token_laws.specs.Words.{IsSign, IsWord}
 use Rattle.dcx_token_laws.proofs.Basics.{feed_ends, head_is, tail_is, never_both}
@@ -29,7 +29,7 @@ use Rattle.dcx_token_laws.proofs.Shallow.{shallow}
 use Rattle.dcx_token_laws.proofs.Spelled.{begins_more, is_word}
 use Rattle.dcx_token_laws.proofs.Spots.{spot_formed}
 use Rattle.dcx_token_laws.proofs.Stacks.{Stacks}
-use Rattle.dcx_token_laws.proofs.Standing.{numbers_end, spaces_lead}
+use Rattle.dcx_token_laws.proofs.Standing.{numbers_end, spaces_lead, line_follows}
 use Rattle.dcx_token_laws.proofs.Stopped.{Walks, StopsAt, in_step, at_end, stops_in}
 use Rattle.dcx_token_laws.proofs.Stretches.{IsBehind}
 
@@ -167,6 +167,10 @@ stopping text ts f lexed =
           last = last;
           is = f_is;
         })
+
+-- its line has begun, where it is one that does
+pub follows_at : (text : List ℕ) (ts : List Token) (f : ReadFault) (x : Stopping text ts f) → IsBegun x.first x.rest → line_begun_at x.state x.state.line ≡ (x.left, Ok tt) → LineFollows ts x.front
+follows_at text ts f x begun first = subst (λ us. LineFollows us x.front) x.tokens (line_follows text x.state x.left x.front x.first x.rest x.walks begun.no_end first)
 
 -- the faults differ
 abbrev pub place_in : ReadFault → Place

@@ -19,12 +19,12 @@ use Rattle.dcx_tokens.specs.Reading.{IsLexed}
 use Rattle.dcx_tokens.specs.State.{State, is_full}
 use Rattle.dcx_tokens.proofs.Nesting.{shallow_end}
 use Rattle.dcx_token_laws.specs.Cut.{place_behind}
-use Rattle.dcx_token_laws.specs.Faults.{IndentsDoNotFollow, TooDeepAreAbove64, BeginsToken, DoesNotFollow, OpensBracket, BeginsBlock, open_blocks}
+use Rattle.dcx_token_laws.specs.Faults.{LineFollows, IndentsDoNotFollow, TooDeepAreAbove64, BeginsToken, DoesNotFollow, OpensBracket, BeginsBlock, open_blocks}
 use Rattle.dcx_token_laws.specs.Fine.{IsFineUpTo, IsLedBy}
 use Rattle.dcx_token_laws.specs.Lines.{StandsAt, Turns, deeper, back}
 use Rattle.dcx_token_laws.specs.Words.{IsSign}
 use Rattle.dcx_token_laws.proofs.Basics.{head_is, never_both, nil_not}
-use Rattle.dcx_token_laws.proofs.Faulty.{Stopping, AtEnd, stopping, place_is, place_in, clash, token_begins}
+use Rattle.dcx_token_laws.proofs.Faulty.{Stopping, AtEnd, stopping, follows_at, place_is, place_in, clash, token_begins}
 use Rattle.dcx_token_laws.proofs.Firsts.{long_len}
 use Rattle.dcx_token_laws.proofs.Forms.{HasBegun, IsLed}
 use Rattle.dcx_token_laws.proofs.Halts.{IsBegun, LineHalts, tab, full, apart, Halts, char, line, bad_number, open_text, bracket}
@@ -153,7 +153,7 @@ too_deep text ts p lexed = by (stopping text ts (fault.TooDeep p) lexed)
   where
     Goal : Type 0
     Goal = (front : List ℕ) × (c : ℕ) × (rest : List ℕ) × IsFineUpTo text ts front (c ∷ rest) × (p ≡ place_behind front) × (brackets_left 0 ts + blocks_left 0 ts ≡ 64)
-        × (OpensBracket c ⊎ BeginsBlock c rest ts front)
+        × ((LineFollows ts front × OpensBracket c) ⊎ BeginsBlock c rest ts front)
 
     one_block : (s : State) (blanks : List ℕ) → s.indents ≡ open_blocks [] ts → LineHalts s blanks (fault.TooDeep p)
         → (p ≡ s.at.place) × (is_full s ≡ true) × (tab_among blanks ≡ false) × All (λ d. d < length blanks) (open_blocks [] ts)
@@ -194,7 +194,7 @@ too_deep text ts p lexed = by (stopping text ts (fault.TooDeep p) lexed)
           ap place_in is
               ∙ begun_place x.state x.left x.front x.walks.behind formed first,
           all_64 text ts (Some (fault.TooDeep p)) x.left lexed stacks room,
-          inl (symbol, opener, sign),
+          inl (follows_at text ts (fault.TooDeep p) x begun first, (symbol, opener, sign)),
         )
 
     by : Stopping text ts (fault.TooDeep p) ⊎ AtEnd text ts (fault.TooDeep p) → Goal
