@@ -1,6 +1,6 @@
 -- The fault of a text says what stands at its place.
 use Rattle.std.proofs.Common.{◌≡◌, ◌⊎◌, inl, inr, ℕ, ◌-◌, true, false, eqb, List, [], ◌∷◌, ◌++◌, length, take, drop, Option, Some, None, refl, sym, ap, ◌∙◌, subst, arith}
-use Rattle.std.specs.Prelude.{IsTrue, slice_get}
+use Rattle.std.specs.Prelude.{IsTrue, Ok, slice_get}
 use Rattle.std.specs.Str.{chars}
 use Rattle.std.proofs.lemmas.Bool.Decides.{nat_tests}
 use Rattle.std.proofs.lemmas.List.{append-nil, take-append-drop}
@@ -15,9 +15,9 @@ use Rattle.dcx_tokens.specs.declared.token.TokenKind.{TokenKind}
 use Rattle.dcx_tokens.specs.declared.token.TokenKind.TheVariants as kind
 use Rattle.dcx_tokens.specs.Front.{is_blank, is_quote, begins_name, begins_number, ends_line, long_sign, short_sign, or_else, sign_at}
 use Rattle.dcx_tokens.specs.Reading.{IsLexed}
-use Rattle.dcx_tokens.specs.State.{State}
+use Rattle.dcx_tokens.specs.State.{State, line_begun_at}
 use Rattle.dcx_token_laws.specs.Cut.{IsLineEnd, IsBetween, place_behind, Cut}
-use Rattle.dcx_token_laws.specs.Faults.{BadCharsBeginNothing, BeginsNothing}
+use Rattle.dcx_token_laws.specs.Faults.{LineFollows, BadCharsBeginNothing, BeginsNothing, BeginsToken}
 use Rattle.dcx_token_laws.specs.Fine.{IsFineUpTo}
 use Rattle.dcx_token_laws.specs.Words.{IsSign, IsWord}
 use Rattle.dcx_token_laws.proofs.Basics.{feed_ends, head_is, tail_is, never_both}
@@ -29,7 +29,7 @@ use Rattle.dcx_token_laws.proofs.Shallow.{shallow}
 use Rattle.dcx_token_laws.proofs.Spelled.{begins_more, is_word}
 use Rattle.dcx_token_laws.proofs.Spots.{spot_formed}
 use Rattle.dcx_token_laws.proofs.Stacks.{Stacks}
-use Rattle.dcx_token_laws.proofs.Standing.{numbers_end, spaces_lead}
+use Rattle.dcx_token_laws.proofs.Standing.{numbers_end, spaces_lead, line_follows}
 use Rattle.dcx_token_laws.proofs.Stopped.{Walks, StopsAt, in_step, at_end, stops_in}
 use Rattle.dcx_token_laws.proofs.Stretches.{IsBehind}
 
@@ -94,11 +94,11 @@ begins_nothing c rest begun en ed eq eo = record { no_word = no_word; no_between
     no_between (d ∷ ds) behind e h =
         absurd (no_between_by c rest ds behind begun (tail_is c d rest (ds ++ behind) e) (subst (λ x. IsBetween (x ∷ ds) behind) (sym (head_is c d rest (ds ++ behind) e)) h))
 
--- a token is no such character
-pub starts_some : (c : ℕ) (rest : List ℕ) → Starts c rest → BeginsNothing c rest → ⊥
-starts_some c rest (starts_token k n token) nothing = nothing.no_word k (take n (c ∷ rest)) (drop n (c ∷ rest)) (sym (take-append-drop n (c ∷ rest))) (is_word c rest k n token)
-starts_some c rest (starts_number n d none) nothing = never_both (begins_number c rest) d nothing.no_number
-starts_some c rest (starts_text n d q none) nothing = never_both (is_quote c) q nothing.no_text
+-- where a token begins
+pub token_begins : (c : ℕ) (rest : List ℕ) → Starts c rest → BeginsToken c rest
+token_begins c rest (starts_token k n token) = inl (k, take n (c ∷ rest), drop n (c ∷ rest), sym (take-append-drop n (c ∷ rest)), is_word c rest k n token)
+token_begins c rest (starts_number n d none) = inr (inl d)
+token_begins c rest (starts_text n d q none) = inr (inr q)
 
 -- ---- what stops a reading, and where
 pub place_is : (s : State) (front : List ℕ) → IsBehind front s → s.at.place ≡ place_behind front
@@ -167,6 +167,10 @@ stopping text ts f lexed =
           last = last;
           is = f_is;
         })
+
+-- its line has begun, where it is one that does
+pub follows_at : (text : List ℕ) (ts : List Token) (f : ReadFault) (x : Stopping text ts f) → IsBegun x.first x.rest → line_begun_at x.state x.state.line ≡ (x.left, Ok tt) → LineFollows ts x.front
+follows_at text ts f x begun first = subst (λ us. LineFollows us x.front) x.tokens (line_follows text x.state x.left x.front x.first x.rest x.walks begun.no_end first)
 
 -- the faults differ
 abbrev pub place_in : ReadFault → Place

@@ -19,12 +19,12 @@ use Rattle.dcx_tokens.specs.Reading.{IsLexed}
 use Rattle.dcx_tokens.specs.State.{State, is_full}
 use Rattle.dcx_tokens.proofs.Nesting.{shallow_end}
 use Rattle.dcx_token_laws.specs.Cut.{place_behind}
-use Rattle.dcx_token_laws.specs.Faults.{IndentsDoNotFollow, TooDeepAreAbove64, BeginsNothing, DoesNotFollow, OpensBracket, BeginsBlock, open_blocks}
+use Rattle.dcx_token_laws.specs.Faults.{LineFollows, IndentsDoNotFollow, TooDeepAreAbove64, BeginsToken, DoesNotFollow, OpensBracket, BeginsBlock, open_blocks}
 use Rattle.dcx_token_laws.specs.Fine.{IsFineUpTo, IsLedBy}
 use Rattle.dcx_token_laws.specs.Lines.{StandsAt, Turns, deeper, back}
 use Rattle.dcx_token_laws.specs.Words.{IsSign}
 use Rattle.dcx_token_laws.proofs.Basics.{head_is, never_both, nil_not}
-use Rattle.dcx_token_laws.proofs.Faulty.{Stopping, AtEnd, stopping, place_is, place_in, clash, starts_some}
+use Rattle.dcx_token_laws.proofs.Faulty.{Stopping, AtEnd, stopping, follows_at, place_is, place_in, clash, token_begins}
 use Rattle.dcx_token_laws.proofs.Firsts.{long_len}
 use Rattle.dcx_token_laws.proofs.Forms.{HasBegun, IsLed}
 use Rattle.dcx_token_laws.proofs.Halts.{IsBegun, LineHalts, tab, full, apart, Halts, char, line, bad_number, open_text, bracket}
@@ -98,7 +98,7 @@ pub indents : IndentsDoNotFollow
 indents text ts p lexed = by (stopping text ts (fault.Indent p) lexed)
   where
     Goal : Type 0
-    Goal = (front : List ℕ) × (c : ℕ) × (rest : List ℕ) × (blanks : List ℕ) × IsFineUpTo text ts front (c ∷ rest) × (p ≡ place_behind front) × (BeginsNothing c rest → ⊥)
+    Goal = (front : List ℕ) × (c : ℕ) × (rest : List ℕ) × (blanks : List ℕ) × IsFineUpTo text ts front (c ∷ rest) × (p ≡ place_behind front) × BeginsToken c rest
         × IsLedBy blanks ts front × DoesNotFollow blanks ts
 
     follows_not : (s : State) (blanks : List ℕ) → s.indents ≡ open_blocks [] ts → LineHalts s blanks (fault.Indent p) → (p ≡ s.at.place) × DoesNotFollow blanks ts
@@ -114,7 +114,7 @@ indents text ts p lexed = by (stopping text ts (fault.Indent p) lexed)
     of x (line begun starts not same how) =
         let first = is_first text ts (fault.Indent p) x begun not same how in
         let apart_so = follows_not x.state first.blanks first.stacks.blocks_are first.halts in
-        (x.front, x.first, x.rest, first.blanks, x.up_to, apart_so.0 ∙ place_is x.state x.front x.walks.behind, starts_some x.first x.rest starts, first.led, apart_so.1)
+        (x.front, x.first, x.rest, first.blanks, x.up_to, apart_so.0 ∙ place_is x.state x.front x.walks.behind, token_begins x.first x.rest starts, first.led, apart_so.1)
     of x (bad_number begun first en ed none is) = absurd (clash (fault.Indent p) (fault.BadNumber x.left.at.place) is refl)
     of x (open_text begun first en ed eq none is) = absurd (clash (fault.Indent p) (fault.Unclosed x.left.at.place) is refl)
     of x (bracket symbol n begun first token opener room is) = absurd (clash (fault.Indent p) (fault.TooDeep x.left.at.place) is refl)
@@ -153,7 +153,7 @@ too_deep text ts p lexed = by (stopping text ts (fault.TooDeep p) lexed)
   where
     Goal : Type 0
     Goal = (front : List ℕ) × (c : ℕ) × (rest : List ℕ) × IsFineUpTo text ts front (c ∷ rest) × (p ≡ place_behind front) × (brackets_left 0 ts + blocks_left 0 ts ≡ 64)
-        × (OpensBracket c ⊎ BeginsBlock c rest ts front)
+        × ((LineFollows ts front × OpensBracket c) ⊎ BeginsBlock c rest ts front)
 
     one_block : (s : State) (blanks : List ℕ) → s.indents ≡ open_blocks [] ts → LineHalts s blanks (fault.TooDeep p)
         → (p ≡ s.at.place) × (is_full s ≡ true) × (tab_among blanks ≡ false) × All (λ d. d < length blanks) (open_blocks [] ts)
@@ -178,7 +178,7 @@ too_deep text ts p lexed = by (stopping text ts (fault.TooDeep p) lexed)
           x.up_to,
           one.0 ∙ place_is x.state x.front x.walks.behind,
           all_64 text ts (Some (fault.TooDeep p)) x.state lexed first.stacks one.1,
-          inr (first.blanks, starts_some x.first x.rest starts, first.led, one.2, one.3),
+          inr (first.blanks, token_begins x.first x.rest starts, first.led, one.2, one.3),
         )
     of x (bad_number begun first en ed none is) = absurd (clash (fault.TooDeep p) (fault.BadNumber x.left.at.place) is refl)
     of x (open_text begun first en ed eq none is) = absurd (clash (fault.TooDeep p) (fault.Unclosed x.left.at.place) is refl)
@@ -194,7 +194,7 @@ too_deep text ts p lexed = by (stopping text ts (fault.TooDeep p) lexed)
           ap place_in is
               ∙ begun_place x.state x.left x.front x.walks.behind formed first,
           all_64 text ts (Some (fault.TooDeep p)) x.left lexed stacks room,
-          inl (symbol, opener, sign),
+          inl (follows_at text ts (fault.TooDeep p) x begun first, (symbol, opener, sign)),
         )
 
     by : Stopping text ts (fault.TooDeep p) ⊎ AtEnd text ts (fault.TooDeep p) → Goal

@@ -85,7 +85,7 @@ pub deeper_rising : (blocks : List ℕ) (depth : ℕ) → IsRising 0 blocks → 
 deeper_rising blocks depth r e =
     rising_push 0 blocks depth (ltb-true 0 depth (and_parts (nat_lt 0 depth) (list_all (λ i. nat_lt i depth) blocks) e).0) r (and_parts (nat_lt 0 depth) (list_all (λ i. nat_lt i depth) blocks) e).1
 
-stands : (blocks : List ℕ) (depth : ℕ) → IsRising 0 blocks → is_standing blocks depth ≡ true → StandsAt (kept blocks depth) depth
+pub stands : (blocks : List ℕ) (depth : ℕ) → IsRising 0 blocks → is_standing blocks depth ≡ true → StandsAt (kept blocks depth) depth
 stands blocks depth r = by (eqb depth 0) refl
   where
     by : (b : Bool) → eqb depth 0 ≡ b → (b || list_any (λ i. eqb i depth) blocks) ≡ true → StandsAt (kept blocks depth) depth

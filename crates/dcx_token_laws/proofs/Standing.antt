@@ -26,15 +26,17 @@ use Rattle.dcx_tokens.proofs.Bytes.{length-le-bytes}
 use Rattle.dcx_tokens.proofs.Kept.{token_of}
 use Rattle.dcx_token_laws.specs.Cut.{AreBlanks, AreMarks, IsMark, Spans}
 use Rattle.dcx_token_laws.specs.Fine.{NumbersEnd, SpacesLead, StartsLine, IsLedBy}
-use Rattle.dcx_token_laws.specs.Lines.{IsOfWords}
+use Rattle.dcx_token_laws.specs.Faults.{open_blocks, LineFollows}
+use Rattle.dcx_token_laws.specs.Lines.{IsOfWords, StandsAt}
 use Rattle.dcx_token_laws.proofs.Basics.{never_both}
-use Rattle.dcx_token_laws.proofs.Forms.{IsFormed, IsLed, begins, never_ok, nests, over, inside, LineEnds, closes_it, empty, line_ends}
+use Rattle.dcx_token_laws.proofs.Forms.{IsFormed, IsLed, Turned, deeper, back, turns, begun_is, begins, never_ok, nests, over, inside, LineEnds, closes_it, empty, line_ends}
 use Rattle.dcx_token_laws.proofs.Heads.{Fronts, first_on, second_on, fronts}
 use Rattle.dcx_token_laws.proofs.Numerals.{by_spelling, told}
+use Rattle.dcx_token_laws.proofs.Rising.{IsRising, stands}
 use Rattle.dcx_token_laws.proofs.Spots as spots
 use Rattle.dcx_token_laws.proofs.Spelled.{all_left}
 use Rattle.dcx_token_laws.proofs.Spots.{Spot, spot_formed, starts_more, ten_blank}
-use Rattle.dcx_token_laws.proofs.Stacks.{marks_outside, LastOf, is_last, is_inner, last_of, some_there}
+use Rattle.dcx_token_laws.proofs.Stacks.{stacks_turned, marks_outside, LastOf, is_last, is_inner, last_of, some_there}
 use Rattle.dcx_token_laws.proofs.Steps as steps
 use Rattle.dcx_token_laws.proofs.Steps.{IsToken, Step, stepped}
 use Rattle.dcx_token_laws.proofs.Stopped.{Walks, walks_next, walks_first}
@@ -277,3 +279,24 @@ numbers_end text ts f lexed before t front behind x there is = (all_hold text ts
 
 pub spaces_lead : (text : List ℕ) (ts : List Token) (f : Option ReadFault) → IsLexed text ts f → SpacesLead (chars text) ts
 spaces_lead text ts f lexed before t front behind blanks there is led = (all_hold text ts f lexed before t there.after there.among).spaces front there.word behind blanks there.parts there.spans is led
+
+-- ---- what isn't read
+turned_stands : (s u : State) (spaces : ℕ) → IsRising 0 s.indents → Turned s u spaces → StandsAt u.indents spaces
+turned_stands s u spaces rising (deeper d same) = subst (λ (w : State). StandsAt w.indents spaces) (sym same) (inr (s.indents, refl))
+turned_stands s u spaces rising (back st same) = subst (λ (w : State). StandsAt w.indents spaces) (sym same) (stands s.indents spaces rising st)
+
+-- its line has begun
+pub line_follows : (text : List ℕ) (s u : State) (front : List ℕ) (c : ℕ) (cs : List ℕ) → Walks text s front (c ∷ cs) → ends_line c cs ≡ false
+    → line_begun_at s s.line ≡ (u, Ok tt) → LineFollows u.tokens front
+line_follows text s u front c cs walks l first blanks led = by walks.spot
+  where
+    by : Spot s front (c ∷ cs) → (tab_among blanks ≡ false) × StandsAt (open_blocks [] u.tokens) (length blanks)
+    by (spots.within is apart) =
+        let same = begun_is s u is first in
+        absurd (apart (walks.stacks.count ∙ ap (λ (w : State). brackets_left 0 w.tokens) (sym same) ∙ led.outside) led.before blanks led.parts led.starts led.are)
+    by (spots.leads before found is none parts starts are column last) =
+        let how = turns s u found is first in
+        let stack = stacks_turned s u (length found) column how walks.stacks in
+        subst (λ bs. (tab_among bs ≡ false) × StandsAt (open_blocks [] u.tokens) (length bs)) (one_lead before found led.before blanks (sym parts ∙ led.parts) starts led.starts are led.are)
+        (no_tab s u found is first, subst (λ bs. StandsAt bs (length found)) stack.blocks_are (turned_stands s u (length found) walks.rising how))
+    by (spots.closing found is none end) = absurd (never_both (ends_line c cs) end l)

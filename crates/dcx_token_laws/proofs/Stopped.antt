@@ -14,9 +14,11 @@ use Rattle.dcx_tokens.specs.Front.{is_blank}
 use Rattle.dcx_tokens.specs.Reading.{Reads, ends, stops, goes_on, IsLexed, fault_of}
 use Rattle.dcx_tokens.specs.State.{State, Answer, finished, finished_at, step, start}
 use Rattle.dcx_token_laws.specs.Cut.{Cut, ended}
+use Rattle.dcx_token_laws.proofs.Forms.{IsFormed, Begins, begun, turned, deeper, back, begins, nests, over, inside, LineEnds, closes_it, empty, line_ends}
+use Rattle.dcx_token_laws.proofs.Rising.{IsRising, deeper_rising, back_rising}
 use Rattle.dcx_token_laws.proofs.Spots.{Spot, leads, spot_formed, leads_next}
 use Rattle.dcx_token_laws.proofs.Stacks.{StacksOf, no_stacks}
-use Rattle.dcx_token_laws.proofs.Steps.{stepped}
+use Rattle.dcx_token_laws.proofs.Steps.{Step, line_end, blank, comment, word, stepped}
 use Rattle.dcx_token_laws.proofs.Stops.{stopped}
 use Rattle.dcx_token_laws.proofs.Stretches.{IsBehind, next_behind, IsCut, step_cut, stop_cut, step_moved}
 
@@ -26,6 +28,7 @@ pub record Walks (text : List ℕ) (s : State) (front cs : List ℕ) : Type 0 wh
   pub behind : IsBehind front s
   pub spot : Spot s front cs
   pub stacks : StacksOf s
+  pub rising : IsRising 0 s.indents
 
 -- it stops there in a step, or at the end of the text, where a bracket is open
 pub data StopsAt (text : List ℕ) (ts : List Token) (f : ReadFault) (front rest : List ℕ) : Type 0 where
@@ -57,6 +60,24 @@ end_stops s f = by (slice_get s.brackets (length s.brackets - 1)) refl
     by (Some opener) e g = record { opener = opener; last = e; is = sym (same_Some (fault.Unclosed opener) f g); left = refl }
     by None e g = absurd (none-some f g)
 
+-- the blocks that are open rise behind a step too
+rising_next : (s t : State) (c : ℕ) (cs : List ℕ) (n : ℕ) → Step s t c cs n → IsFormed s → IsRising 0 s.indents → IsRising 0 t.indents
+rising_next s t c cs n (line_end l count same) formed h = by (line_ends s t (take n (c ∷ cs)) formed same)
+  where
+    by : LineEnds s t (take n (c ∷ cs)) → IsRising 0 t.indents
+    by (closes_it is (over none e)) = subst (λ (w : State). IsRising 0 w.indents) (sym e) h
+    by (closes_it is (inside some e)) = subst (λ (w : State). IsRising 0 w.indents) (sym e) h
+    by (empty blanks is e) = subst (λ (w : State). IsRising 0 w.indents) (sym e) h
+rising_next s t c cs n (blank l b count same) formed h = subst (λ (w : State). IsRising 0 w.indents) (sym same) h
+rising_next s t c cs n (comment l b count same) formed h = subst (λ (w : State). IsRising 0 w.indents) (sym same) h
+rising_next s t c cs n (word u v k l b begins_so token nested_so same) formed h =
+    subst (λ (w : State). IsRising 0 w.indents) (sym same) (subst (IsRising 0) (sym (nests u v k nested_so).indents) (by (begins s u formed begins_so)))
+  where
+    by : Begins s u → IsRising 0 u.indents
+    by (begun is e) = subst (λ (w : State). IsRising 0 w.indents) (sym e) h
+    by (turned blanks is (deeper d e)) = subst (λ (w : State). IsRising 0 w.indents) (sym e) (deeper_rising s.indents (length blanks) h d)
+    by (turned blanks is (back st e)) = subst (λ (w : State). IsRising 0 w.indents) (sym e) (back_rising s.indents (length blanks) h)
+
 -- behind a step
 pub walks_next : (text : List ℕ) (s t : State) (front : List ℕ) (c : ℕ) (cs : List ℕ) (n : ℕ) → Walks text s front (c ∷ cs) → step s c cs ≡ (t, Ok n)
     → Walks text t (front ++ take n (c ∷ cs)) (drop n (c ∷ cs))
@@ -67,11 +88,12 @@ walks_next text s t front c cs n walks e =
       behind = next_behind s t front (take n (c ∷ cs)) walks.behind (step_moved s t c cs n e);
       spot = next.spot;
       stacks = next.stacks;
+      rising = rising_next s t c cs n (stepped s t c cs n e) (spot_formed s front (c ∷ cs) walks.spot) walks.rising;
     }
 
 -- before the first step
 pub walks_first : (text : List ℕ) → Walks text start [] (chars text)
-walks_first text = record { parts = refl; behind = refl; spot = leads [] [] refl refl refl (inl refl) (All-nil (λ d. IsTrue (is_blank d))) refl tt; stacks = no_stacks }
+walks_first text = record { parts = refl; behind = refl; spot = leads [] [] refl refl refl (inl refl) (All-nil (λ d. IsTrue (is_blank d))) refl tt; stacks = no_stacks; rising = tt }
 
 pub reads_stopped : {s : State} {cs : List ℕ} {ts : List Token} {g : Option ReadFault} (text : List ℕ) (f : ReadFault) (front : List ℕ) → g ≡ Some f → Walks text s front cs
     → Reads s cs ts g → Stopped text s front cs ts f

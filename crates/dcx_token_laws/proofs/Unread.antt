@@ -12,11 +12,11 @@ use Rattle.dcx_tokens.specs.Number.{is_spoiled, number_at}
 use Rattle.dcx_tokens.specs.Quoted.{up_to_quote}
 use Rattle.dcx_tokens.specs.State.{State, line_begun_at}
 use Rattle.dcx_token_laws.specs.Cut.{place_behind}
-use Rattle.dcx_token_laws.specs.Faults.{BadNumbersAreNone, UnclosedAreOpen, BeginsBadNumber, OpensText, IsLeftOpen}
+use Rattle.dcx_token_laws.specs.Faults.{LineFollows, BadNumbersAreNone, UnclosedAreOpen, BeginsBadNumber, OpensText, IsLeftOpen}
 use Rattle.dcx_token_laws.specs.Fine.{IsFineUpTo}
 use Rattle.dcx_token_laws.specs.Words.{IsNumber, IsQuoted}
 use Rattle.dcx_token_laws.proofs.Basics.{head_is, tail_is}
-use Rattle.dcx_token_laws.proofs.Faulty.{Stopping, AtEnd, stopping, place_is, place_in, clash, no_line}
+use Rattle.dcx_token_laws.proofs.Faulty.{Stopping, AtEnd, stopping, follows_at, place_is, place_in, clash, no_line}
 use Rattle.dcx_token_laws.proofs.Forms.{IsFormed, begins}
 use Rattle.dcx_token_laws.proofs.Halts.{Halts, char, line, bad_number, open_text, bracket}
 use Rattle.dcx_token_laws.proofs.Longer.{number_longer}
@@ -45,14 +45,15 @@ pub bad_numbers : BadNumbersAreNone
 bad_numbers text ts p lexed = by (stopping text ts (fault.BadNumber p) lexed)
   where
     Goal : Type 0
-    Goal = (front : List ℕ) × (c : ℕ) × (rest : List ℕ) × IsFineUpTo text ts front (c ∷ rest) × (p ≡ place_behind front) × BeginsBadNumber c rest
+    Goal = (front : List ℕ) × (c : ℕ) × (rest : List ℕ) × IsFineUpTo text ts front (c ∷ rest) × (p ≡ place_behind front) × LineFollows ts front × BeginsBadNumber c rest
 
     of : (x : Stopping text ts (fault.BadNumber p)) → Halts x.state x.left x.first x.rest (fault.BadNumber p) → Goal
     of x (char begun en ed eq eo same is) = absurd (clash (fault.BadNumber p) (fault.BadChar x.state.at.place) is refl)
     of x (line begun starts not same how) = absurd (no_line x.state (fault.BadNumber p) (spot_formed x.state x.front (x.first ∷ x.rest) x.walks.spot) not how refl refl)
     of x (bad_number begun first en ed none is) =
         let formed = spot_formed x.state x.front (x.first ∷ x.rest) x.walks.spot in
-        (x.front, x.first, x.rest, x.up_to, ap place_in is ∙ begun_place x.state x.left x.front x.walks.behind formed first, bad_number_at x.first x.rest ed none)
+        let at = ap place_in is ∙ begun_place x.state x.left x.front x.walks.behind formed first in
+        (x.front, x.first, x.rest, x.up_to, at, follows_at text ts (fault.BadNumber p) x begun first, bad_number_at x.first x.rest ed none)
     of x (open_text begun first en ed eq none is) = absurd (clash (fault.BadNumber p) (fault.Unclosed x.left.at.place) is refl)
     of x (bracket symbol n begun first token opener room is) = absurd (clash (fault.BadNumber p) (fault.TooDeep x.left.at.place) is refl)
 
@@ -97,7 +98,8 @@ pub unclosed : UnclosedAreOpen
 unclosed text ts p lexed = by (stopping text ts (fault.Unclosed p) lexed)
   where
     Goal : Type 0
-    Goal = ((front : List ℕ) × (c : ℕ) × (rest : List ℕ) × IsFineUpTo text ts front (c ∷ rest) × (p ≡ place_behind front) × OpensText c rest) ⊎ (IsFineUpTo text ts (chars text) [] × IsLeftOpen ts p)
+    Goal = ((front : List ℕ) × (c : ℕ) × (rest : List ℕ) × IsFineUpTo text ts front (c ∷ rest) × (p ≡ place_behind front) × LineFollows ts front × OpensText c rest)
+        ⊎ (IsFineUpTo text ts (chars text) [] × IsLeftOpen ts p)
 
     of : (x : Stopping text ts (fault.Unclosed p)) → Halts x.state x.left x.first x.rest (fault.Unclosed p) → Goal
     of x (char begun en ed eq eo same is) = absurd (clash (fault.Unclosed p) (fault.BadChar x.state.at.place) is refl)
@@ -105,7 +107,8 @@ unclosed text ts p lexed = by (stopping text ts (fault.Unclosed p) lexed)
     of x (bad_number begun first en ed none is) = absurd (clash (fault.Unclosed p) (fault.BadNumber x.left.at.place) is refl)
     of x (open_text begun first en ed eq none is) =
         let formed = spot_formed x.state x.front (x.first ∷ x.rest) x.walks.spot in
-        inl (x.front, x.first, x.rest, x.up_to, ap place_in is ∙ begun_place x.state x.left x.front x.walks.behind formed first, opens_text x.first x.rest eq none)
+        let at = ap place_in is ∙ begun_place x.state x.left x.front x.walks.behind formed first in
+        inl (x.front, x.first, x.rest, x.up_to, at, follows_at text ts (fault.Unclosed p) x begun first, opens_text x.first x.rest eq none)
     of x (bracket symbol n begun first token opener room is) = absurd (clash (fault.Unclosed p) (fault.TooDeep x.left.at.place) is refl)
 
     by : Stopping text ts (fault.Unclosed p) ⊎ AtEnd text ts (fault.Unclosed p) → Goal

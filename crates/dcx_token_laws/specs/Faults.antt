@@ -16,8 +16,25 @@ use Rattle.dcx_tokens.specs.Number.{is_spoiled}
 use Rattle.dcx_tokens.specs.Reading.{IsLexed}
 use Rattle.dcx_token_laws.specs.Cut.{IsBetween, place_behind}
 use Rattle.dcx_token_laws.specs.Fine.{IsLedBy, IsFineUpTo}
-use Rattle.dcx_token_laws.specs.Lines.{depth_of, Turns}
+use Rattle.dcx_token_laws.specs.Lines.{depth_of, StandsAt, Turns}
 use Rattle.dcx_token_laws.specs.Words.{IsNumber, IsQuoted, IsWord}
+
+-- ---- lines
+-- the depths of the blocks that are open behind a token, outermost first
+abbrev pub blocks_with : List ℕ → ℕ → TokenKind → List ℕ
+blocks_with blocks depth kind.Indent = blocks ++ depth ∷ []
+blocks_with blocks depth kind.Dedent = take (length blocks - 1) blocks
+blocks_with blocks depth _ = blocks
+
+-- and behind all tokens
+abbrev pub open_blocks : List ℕ → List Token → List ℕ
+open_blocks blocks [] = blocks
+open_blocks blocks (t ∷ ts) = open_blocks (blocks_with blocks (depth_of t) t.kind) ts
+
+-- where what comes behind the characters front is the first on its line, no tab is among the blanks that lead it, and the innermost block has
+-- its depth: the marks of the line are the last of the tokens ts
+abbrev pub LineFollows : List Token → List ℕ → Type 0
+LineFollows ts front = (blanks : List ℕ) → IsLedBy blanks ts front → IsFalse (tab_among blanks) × StandsAt (open_blocks [] ts) (length blanks)
 
 -- ---- 2: characters
 -- c is spelled in no token and in nothing between tokens, where the characters rest stand behind it, nor does it open a text
@@ -39,7 +56,7 @@ pub record BeginsBadNumber (c : ℕ) (rest : List ℕ) : Type 0 where
 
 abbrev pub BadNumbersAreNone : Type 0
 BadNumbersAreNone = (text : List ℕ) (ts : List Token) (p : Place) → IsLexed text ts (Some (fault.BadNumber p)) →
-    (front : List ℕ) × (c : ℕ) × (rest : List ℕ) × IsFineUpTo text ts front (c ∷ rest) × (p ≡ place_behind front) × BeginsBadNumber c rest
+    (front : List ℕ) × (c : ℕ) × (rest : List ℕ) × IsFineUpTo text ts front (c ∷ rest) × (p ≡ place_behind front) × LineFollows ts front × BeginsBadNumber c rest
 
 -- ---- 4: texts and brackets that aren't closed
 -- a quote, with which no text is spelled
@@ -70,20 +87,13 @@ pub record IsLeftOpen (ts : List Token) (p : Place) : Type 0 where
 -- a text is not closed on its line, or the text has no characters more and a bracket is left open
 abbrev pub UnclosedAreOpen : Type 0
 UnclosedAreOpen = (text : List ℕ) (ts : List Token) (p : Place) → IsLexed text ts (Some (fault.Unclosed p)) →
-    ((front : List ℕ) × (c : ℕ) × (rest : List ℕ) × IsFineUpTo text ts front (c ∷ rest) × (p ≡ place_behind front) × OpensText c rest)
+    ((front : List ℕ) × (c : ℕ) × (rest : List ℕ) × IsFineUpTo text ts front (c ∷ rest) × (p ≡ place_behind front) × LineFollows ts front × OpensText c rest)
     ⊎ (IsFineUpTo text ts (chars text) [] × IsLeftOpen ts p)
 
 -- ---- 5: indentations
--- the depths of the blocks that are open behind a token, outermost first
-abbrev pub blocks_with : List ℕ → ℕ → TokenKind → List ℕ
-blocks_with blocks depth kind.Indent = blocks ++ depth ∷ []
-blocks_with blocks depth kind.Dedent = take (length blocks - 1) blocks
-blocks_with blocks depth _ = blocks
-
--- and behind all tokens
-abbrev pub open_blocks : List ℕ → List Token → List ℕ
-open_blocks blocks [] = blocks
-open_blocks blocks (t ∷ ts) = open_blocks (blocks_with blocks (depth_of t) t.kind) ts
+-- a token is spelled there, or a number or a text begins, which may be malformed
+abbrev pub BeginsToken : ℕ → List ℕ → Type 0
+BeginsToken c rest = ((k : TokenKind) × (word : List ℕ) × (behind : List ℕ) × (c ∷ rest ≡ word ++ behind) × IsWord k word) ⊎ IsTrue (begins_number c rest) ⊎ IsTrue (is_quote c)
 
 -- a tab stands among the blanks, or no marks make a line of this depth follow
 abbrev pub DoesNotFollow : List ℕ → List Token → Type 0
@@ -91,7 +101,7 @@ DoesNotFollow blanks ts = IsTrue (tab_among blanks) ⊎ ((marks : List TokenKind
 
 abbrev pub IndentsDoNotFollow : Type 0
 IndentsDoNotFollow = (text : List ℕ) (ts : List Token) (p : Place) → IsLexed text ts (Some (fault.Indent p)) →
-    (front : List ℕ) × (c : ℕ) × (rest : List ℕ) × (blanks : List ℕ) × IsFineUpTo text ts front (c ∷ rest) × (p ≡ place_behind front) × (BeginsNothing c rest → ⊥)
+    (front : List ℕ) × (c : ℕ) × (rest : List ℕ) × (blanks : List ℕ) × IsFineUpTo text ts front (c ∷ rest) × (p ≡ place_behind front) × BeginsToken c rest
     × IsLedBy blanks ts front × DoesNotFollow blanks ts
 
 -- ---- 7: more than 64 are open
@@ -101,10 +111,10 @@ OpensBracket c = (symbol : Symbol) × IsTrue (opens symbol) × IsWord (kind.Sign
 
 -- or a line that is deeper than each block that is open
 abbrev pub BeginsBlock : ℕ → List ℕ → List Token → List ℕ → Type 0
-BeginsBlock c rest ts front = (blanks : List ℕ) × (BeginsNothing c rest → ⊥) × IsLedBy blanks ts front × IsFalse (tab_among blanks) × All (λ d. d < length blanks) (open_blocks [] ts)
+BeginsBlock c rest ts front = (blanks : List ℕ) × BeginsToken c rest × IsLedBy blanks ts front × IsFalse (tab_among blanks) × All (λ d. d < length blanks) (open_blocks [] ts)
 
 -- there are 64 already
 abbrev pub TooDeepAreAbove64 : Type 0
 TooDeepAreAbove64 = (text : List ℕ) (ts : List Token) (p : Place) → IsLexed text ts (Some (fault.TooDeep p)) →
     (front : List ℕ) × (c : ℕ) × (rest : List ℕ) × IsFineUpTo text ts front (c ∷ rest) × (p ≡ place_behind front) × (brackets_left 0 ts + blocks_left 0 ts ≡ 64)
-    × (OpensBracket c ⊎ BeginsBlock c rest ts front)
+    × ((LineFollows ts front × OpensBracket c) ⊎ BeginsBlock c rest ts front)

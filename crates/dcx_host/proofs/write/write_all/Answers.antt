@@ -1,3 +1,4 @@
+-- Before the first write nothing is written, and each write goes on where those before it ended.
 use Rattle.std.proofs.Common.{ℕ, arith, length-take, length-drop, zero-le, le_refl}
 use Rattle.dcx_host.proofs.Writing.{Appends_none, Appends_trans, fronts, hands_none, hands_more, hands_kept}
 use Rattle.dcx_host.proofs.write.write_all.Goals as goal

@@ -1,3 +1,4 @@
+-- What is written so far is a front of the text, and each write was handed all the rest.
 use Rattle.std.proofs.Common.{length, ◌-◌, ◌≤◌, take}
 use Rattle.std.specs.Io.KnownBytes.{Appends}
 use Rattle.dcx_host.specs.Pieces.{HandsRests}

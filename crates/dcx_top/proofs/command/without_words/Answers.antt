@@ -1,3 +1,4 @@
+-- Without words the status is that of want of memory.
 use Rattle.dcx_top.proofs.Writing.{five}
 use Rattle.dcx_top.proofs.command.without_words.Goals as goal
 
