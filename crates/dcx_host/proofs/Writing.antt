@@ -5,7 +5,7 @@ use Rattle.std.proofs.lemmas.List.{take_rest}
 use Rattle.std.specs.declared.option.Option.{Option}
 use Rattle.std.specs.Io.KnownBytes.{Appends}
 use Rattle.dcx_host.specs.declared.sink.SinkFault.{SinkFault}
-use Rattle.dcx_host.specs.Pieces.{WriteHands, Hands, AreRests, HandsRests}
+use Rattle.dcx_host.specs.Pieces.{Handed, WriteHands, Hands, AreRests, HandsRests}
 
 pub Appends_none : (a : Option (List ℕ)) → Appends a a []
 Appends_none None = tt
@@ -27,40 +27,42 @@ pub fronts : (d n : ℕ) (s : List ℕ) → take d s ++ take n (take (length s -
 fronts d n s = rw take_rest (sym (take-add d n s))
 
 -- ---- pieces
-Hands_none : (a : Option (List (List ℕ))) → Hands a a []
+Hands_none : (a : Option (List Handed)) → Hands a a []
 Hands_none None = tt
 Hands_none (Some old) = sym (append-nil old)
 
 -- one piece more
-Hands_more : (a b c : Option (List (List ℕ))) (pieces : List (List ℕ)) (n : ℕ) (piece : List ℕ) → Hands a b pieces → WriteHands {E = SinkFault} b c (Ok n) piece → Hands a c (pieces ++ piece ∷ [])
+Hands_more : (a b c : Option (List Handed)) (pieces : List Handed) (n : ℕ) (piece : List ℕ) → Hands a b pieces
+    → WriteHands {E = SinkFault} b c (Ok n) piece → Hands a c (pieces ++ record { piece = piece; taken = n } ∷ [])
 Hands_more None b c pieces n piece h k = tt
 Hands_more (Some old) None c pieces n piece h k = absurd h
 Hands_more (Some old) (Some mid) None pieces n piece h k = absurd k
-Hands_more (Some old) (Some mid) (Some new) pieces n piece h k = k ∙ ap (λ v. v ++ piece ∷ []) h ∙ append_assoc old pieces (piece ∷ [])
+Hands_more (Some old) (Some mid) (Some new) pieces n piece h k =
+    let more : List Handed = record { piece = piece; taken = n } ∷ [] in k ∙ ap (λ v. v ++ more) h ∙ append_assoc old pieces more
 
 -- and none more
-Hands_kept : (a b c : Option (List (List ℕ))) (pieces : List (List ℕ)) (e : SinkFault) (piece : List ℕ) → Hands a b pieces → WriteHands {E = SinkFault} b c (Err e) piece → Hands a c pieces
+Hands_kept : (a b c : Option (List Handed)) (pieces : List Handed) (e : SinkFault) (piece : List ℕ) → Hands a b pieces → WriteHands {E = SinkFault} b c (Err e) piece → Hands a c pieces
 Hands_kept None b c pieces e piece h k = tt
 Hands_kept (Some old) None c pieces e piece h k = absurd h
 Hands_kept (Some old) (Some mid) None pieces e piece h k = absurd k
 Hands_kept (Some old) (Some mid) (Some new) pieces e piece h k = k ∙ h
 
-rests_more : (text : List ℕ) (start done taken : ℕ) (pieces : List (List ℕ)) (piece : List ℕ) → AreRests text start pieces done → piece ≡ drop done text
-    → AreRests text start (pieces ++ piece ∷ []) (done + taken)
-rests_more text start done taken [] piece h e = (e ∙ ap (λ n. drop n text) h, (taken, ap (λ n. n + taken) h))
-rests_more text start done taken (p ∷ pieces) piece (is, (t, h)) e = (is, (t, rests_more text (start + t) done taken pieces piece h e))
+rests_more : (text : List ℕ) (start done taken : ℕ) (pieces : List Handed) (piece : List ℕ) → AreRests text start pieces done → piece ≡ drop done text
+    → AreRests text start (pieces ++ record { piece = piece; taken = taken } ∷ []) (done + taken)
+rests_more text start done taken [] piece h e = (e ∙ ap (λ n. drop n text) h, ap (λ n. n + taken) h)
+rests_more text start done taken (p ∷ pieces) piece (is, h) e = (is, rests_more text (start + p.taken) done taken pieces piece h e)
 
 -- a text of which nothing is handed yet
-pub hands_none : (a : Option (List (List ℕ))) (text : List ℕ) → HandsRests a a text 0
+pub hands_none : (a : Option (List Handed)) (text : List ℕ) → HandsRests a a text 0
 hands_none a text = ([], Hands_none a, refl)
 
 -- a write that is handed the rest
-pub hands_more : (a b c : Option (List (List ℕ))) (text : List ℕ) (done n : ℕ) → HandsRests a b text done
+pub hands_more : (a b c : Option (List Handed)) (text : List ℕ) (done n : ℕ) → HandsRests a b text done
     → WriteHands {E = SinkFault} b c (Ok n) (take (length text - done) (drop done text)) → HandsRests a c text (done + n)
 hands_more a b c text done n (pieces, h, r) k =
     let rest = take (length text - done) (drop done text) in
-    (pieces ++ rest ∷ [], Hands_more a b c pieces n rest h k, rests_more text 0 done n pieces rest r (whole_rest done text))
+    (pieces ++ record { piece = rest; taken = n } ∷ [], Hands_more a b c pieces n rest h k, rests_more text 0 done n pieces rest r (whole_rest done text))
 
-pub hands_kept : (a b c : Option (List (List ℕ))) (text piece : List ℕ) (done : ℕ) (e : SinkFault) → HandsRests a b text done → WriteHands {E = SinkFault} b c (Err e) piece
+pub hands_kept : (a b c : Option (List Handed)) (text piece : List ℕ) (done : ℕ) (e : SinkFault) → HandsRests a b text done → WriteHands {E = SinkFault} b c (Err e) piece
     → (n : ℕ) × HandsRests a c text n
 hands_kept a b c text piece done e (pieces, h, r) k = (done, (pieces, Hands_kept a b c pieces e piece h k, r))

@@ -3,24 +3,29 @@ use Rattle.std.specs.Prelude.{◌≡◌, ⊤, ℕ, ◌+◌, List, [], ◌∷◌,
 use Rattle.std.specs.declared.option.Option.{Option}
 use Rattle.std.specs.declared.result.Result.{Result}
 
--- `write(piece)` took a front of the piece at `Ok`, and nothing at `Err`
-abbrev pub WriteHands : {E : Type 0} → Option (List (List ℕ)) → Option (List (List ℕ)) → Result ℕ E → List ℕ → Type 0
+-- a piece that a write was handed, and how many bytes of its front that write took
+pub record Handed : Type 0 where
+  pub piece : List ℕ
+  pub taken : ℕ
+
+-- `write(piece)` took the first `n` bytes of the piece at `Ok n`, and nothing at `Err`
+abbrev pub WriteHands : {E : Type 0} → Option (List Handed) → Option (List Handed) → Result ℕ E → List ℕ → Type 0
 WriteHands None new r piece = ⊤
 WriteHands (Some old) None r piece = ⊥
-WriteHands (Some old) (Some new) (Ok n) piece = new ≡ old ++ piece ∷ []
+WriteHands (Some old) (Some new) (Ok n) piece = new ≡ old ++ record { piece = piece; taken = n } ∷ []
 WriteHands (Some old) (Some new) (Err e) piece = new ≡ old
 
 -- these pieces were handed besides
-abbrev pub Hands : Option (List (List ℕ)) → Option (List (List ℕ)) → List (List ℕ) → Type 0
+abbrev pub Hands : Option (List Handed) → Option (List Handed) → List Handed → Type 0
 Hands None new pieces = ⊤
 Hands (Some old) None pieces = ⊥
 Hands (Some old) (Some new) pieces = new ≡ old ++ pieces
 
--- each piece is all that is left of the text behind what was taken before: of the first so many bytes were, and of all of them `end`
-abbrev pub AreRests : List ℕ → ℕ → List (List ℕ) → ℕ → Type 0
+-- each piece is all of the text behind its first `done` bytes and those that were taken of the pieces before it; at last its first `end` bytes are taken
+abbrev pub AreRests : List ℕ → ℕ → List Handed → ℕ → Type 0
 AreRests text done [] end = end ≡ done
-AreRests text done (piece ∷ pieces) end = (piece ≡ drop done text) × ((taken : ℕ) × AreRests text (done + taken) pieces end)
+AreRests text done (h ∷ pieces) end = (h.piece ≡ drop done text) × AreRests text (done + h.taken) pieces end
 
 -- the text was handed so, of which the sink took the first `end` bytes
-abbrev pub HandsRests : Option (List (List ℕ)) → Option (List (List ℕ)) → List ℕ → ℕ → Type 0
-HandsRests old new text end = (pieces : List (List ℕ)) × Hands old new pieces × AreRests text 0 pieces end
+abbrev pub HandsRests : Option (List Handed) → Option (List Handed) → List ℕ → ℕ → Type 0
+HandsRests old new text end = (pieces : List Handed) × Hands old new pieces × AreRests text 0 pieces end

@@ -3,7 +3,7 @@ ghost use Rattle.std.specs.Prelude.{ℕ, ◌<◌, ◌≤◌, List, length, None,
 ghost use Rattle.std.specs.declared.option.Option.{Option};
 ghost use Rattle.std.specs.Io.KnownBytes.{WriteAppends};
 ghost use Rattle.dcx_host.specs.Faults.{Rose};
-ghost use Rattle.dcx_host.specs.Pieces.{WriteHands};
+ghost use Rattle.dcx_host.specs.Pieces.{Handed, WriteHands};
 
 use thiserror::Error;
 
@@ -29,8 +29,8 @@ pub trait Sink {
     /// How often a write has failed. The count stands still at the end of a `u64`.
     ghost faults: { Self → ℕ };
 
-    /// The pieces of which it took the front so far, one for each write, where the sink tells them.
-    ghost handed: { Self → Option (List (List ℕ)) } = { λ _. None };
+    /// The pieces of which it took a front so far, one for each write, with how many bytes it took, where the sink tells them.
+    ghost handed: { Self → Option (List Handed) } = { λ _. None };
 
     /// Appends the first `n` bytes of the piece and answers `n`, which is at least 1 unless the
     /// piece is empty.

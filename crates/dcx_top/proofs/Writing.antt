@@ -3,14 +3,14 @@ use Rattle.std.proofs.Common.{◌≡◌, ◌≢◌, ℕ, ◌<◌, ◌⊎◌, Lis
 use Rattle.std.proofs.lemmas.List.{take-append-drop}
 use Rattle.std.specs.declared.option.Option.{Option}
 use Rattle.std.specs.Io.KnownBytes.{Appends}
-use Rattle.dcx_host.specs.Pieces.{HandsRests}
+use Rattle.dcx_host.specs.Pieces.{Handed, HandsRests}
 use Rattle.dcx_report.specs.declared.run.Run.TheVariants.{Memory}
 use Rattle.dcx_report.specs.ReportText.{text_of}
 use Rattle.dcx_top.specs.declared.ended.Ended.{Ended}
 use Rattle.dcx_top.specs.Ended.{status_of, IsCutStatus, Reports}
 
 -- the text is that of the run
-pub handed_text : (old new : Option (List (List ℕ))) (text all : List ℕ) → text ≡ all → (n : ℕ) × HandsRests old new text n → (n : ℕ) × HandsRests old new all n
+pub handed_text : (old new : Option (List Handed)) (text all : List ℕ) → text ≡ all → (n : ℕ) × HandsRests old new text n → (n : ℕ) × HandsRests old new all n
 handed_text old new text all e h = subst (λ t. (n : ℕ) × HandsRests old new t n) e h
 
 -- the status of a run that wants memory

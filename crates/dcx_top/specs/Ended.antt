@@ -3,7 +3,7 @@ use Rattle.std.specs.Prelude.{◌≡◌, ◌≢◌, ◌<◌, ℕ, Bool, ◌⊎�
 use Rattle.std.specs.List.{list_any, list_all}
 use Rattle.std.specs.declared.option.Option.{Option}
 use Rattle.std.specs.Io.KnownBytes.{Appends}
-use Rattle.dcx_host.specs.Pieces.{HandsRests}
+use Rattle.dcx_host.specs.Pieces.{Handed, HandsRests}
 use Rattle.dcx_report.specs.ReportText.{text_of}
 use Rattle.dcx_report.specs.Ends.{is_answer, is_filtered, is_ranged, wants_memory, filter_wants_memory, range_wants_memory}
 use Rattle.dcx_report.specs.declared.run.Run.{Run}
@@ -47,7 +47,7 @@ abbrev pub Reports : Option (List ℕ) → Option (List ℕ) → Type 0 → Ende
 Reports old new risen ended = EndsWhole old new ended ⊎ EndsEarly old new risen ended
 
 -- each write that took something was handed all that was left of the report, from its start on
-abbrev pub IsHandedWhole : Option (List (List ℕ)) → Option (List (List ℕ)) → Ended → Type 0
+abbrev pub IsHandedWhole : Option (List Handed) → Option (List Handed) → Ended → Type 0
 IsHandedWhole old new ended = (n : ℕ) × HandsRests old new (text_of ended.run) n
 
 -- the run that is told of a run: itself, or, where there is no memory for its report, that memory is wanting; the usage line wants none
