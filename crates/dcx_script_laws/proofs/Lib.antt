@@ -1,5 +1,5 @@
 -- The proofs of the laws on names, nodes, prints and differences, by what each form of a script keeps.
-mod Renamed
+pub mod Renamed
 mod Prints
 pub mod Carried
 pub mod CarriedNodes
