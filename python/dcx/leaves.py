@@ -32,7 +32,7 @@ class Leaf(Expression):
     program's language (nonneg, nonpos, symmetric, diag, boolean, integer) whether it holds.
     """
 
-    __slots__ = ("given_name", "id", "attributes", "bounds", "_value", "_own")
+    __slots__ = ("given_name", "id", "attributes", "bounds", "_value", "_shown", "_own")
 
     def __init__(self, kind: str, shape=(), name: str | None = None, value=None, **attributes):
         if name is not None and not isinstance(name, str):
@@ -42,6 +42,8 @@ class Leaf(Expression):
         self.given_name = name
         self.id = next_number()
         self._value: Array | None = None
+        # a value, and the floats that the user was given for it
+        self._shown = (None, None)
         self._own: list | None = None
         self._declare(attributes)
         if value is not None:
@@ -114,14 +116,35 @@ class Leaf(Expression):
 
     # ---- values
 
-    def _array(self) -> Array | None:
+    def _array(self) -> Array | Sparse | None:
+        array, shown = self._shown
+        if array is None or array is not self._value or not self.shape:
+            return self._value
+        rows = shown if isinstance(shown, list) else shown.tolist()
+        numbers = rows if self.ndim == 1 else [number for row in rows for number in row]
+        pairs = list(zip(array.entries, numbers))
+        if any(float(old) != new for old, new in pairs):
+            kept = (old if float(old) == new else arrays.exact(new) for old, new in pairs)
+            self._value = self._changed(Array(self.shape, kept))
+            self._shown = self._value, shown
         return self._value
+
+    def _changed(self, array: Array) -> Array | Sparse:
+        """The value after the user has set entries of the floats. As in CVXPY no attribute is tested."""
+        return array
 
     @property
     def value(self):
         """The value in floats: a NumPy array, lists where NumPy isn't there, a float where there is no side; None
-        before."""
-        return None if self._value is None else arrays.to_floats(self._value)
+        before. Entries that are set in this array are those of the value, as in CVXPY.
+
+        Setting it raises `ValueError` where its shape is another one, an attribute is broken, or an entry is NaN or
+        infinite, and `TypeError` where it is no numbers; then the value before stays.
+        """
+        array = self._array()
+        if array is not None and self._shown[0] is not array:
+            self._shown = array, arrays.to_floats(array)
+        return None if array is None else self._shown[1]
 
     @value.setter
     def value(self, value) -> None:
@@ -266,35 +289,15 @@ class Parameter(Leaf):
     """Numbers that may vary: `Parameter(shape=(), name=None, value=None, **attributes)`. The attributes nonneg and
     nonpos are what the rules know of it; every attribute is tested where a value is set."""
 
-    __slots__ = ("_shown",)
+    __slots__ = ()
 
     def __init__(self, shape=(), name: str | None = None, value=None, id=None, **attributes):
         if id is not None:
             raise UnsupportedError("id isn't offered: a parameter has a number of its own", sites.here())
-        # a value, and the array of floats that the user was given for it
-        self._shown = (None, None)
         super().__init__("parameter", shape, name, value, **attributes)
 
-    @Leaf.value.getter
-    def value(self):
-        """The value in floats. Entries that are set in this array are the parameter's, as in CVXPY."""
-        array = self._array()
-        if array is not None and self._shown[0] is not array:
-            self._shown = array, arrays.to_floats(array)
-        return None if array is None else self._shown[1]
-
-    def _array(self) -> Array | Sparse | None:
-        array, shown = self._shown
-        if array is None or array is not self._value or not self.shape:
-            return self._value
-        rows = shown if isinstance(shown, list) else shown.tolist()
-        numbers = rows if self.ndim == 1 else [number for row in rows for number in row]
-        pairs = list(zip(array.entries, numbers))
-        if any(float(old) != new for old, new in pairs):
-            kept = (old if float(old) == new else arrays.exact(new) for old, new in pairs)
-            self._value = self._tested(Array(self.shape, kept))
-            self._shown = self._value, shown
-        return self._value
+    def _changed(self, array: Array) -> Array | Sparse:
+        return self._tested(array)
 
     def _judge(self, word: str) -> None:
         super()._judge(word)

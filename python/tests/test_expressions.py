@@ -549,6 +549,26 @@ class Leaves(unittest.TestCase):
         q.value[1, 1] = -1
         self.assertRaisesRegex(ValueError, "nonnegative", prob.solve)
 
+    def test_entries_that_are_set_in_a_variables_value(self):
+        """What is evaluated has them, as NumPy has them in an array; the others stay the fractions that they were."""
+        third = Fraction(1, 3)
+        x = cp.Variable(3, nonneg=True)
+        rule = x >= [third, 2, 3]
+        problem = cp.Problem(cp.Minimize(cp.sum(x)), [rule])
+        problem.solve()
+        array, held = np.array([1 / 3, 2, 3]), x.value
+        for each in (array, held):
+            each[1] = 7.5
+            each[2] -= 4
+        np.testing.assert_array_equal(x.value, array)
+        self.assertEqual(list(x.exact), [third, Fraction(15, 2), -1])
+        self.assertEqual((cp.sum(x) * 6).exact, 41)
+        self.assertAlmostEqual(problem.objective.value, array.sum())
+        np.testing.assert_array_equal(rule.residual, [0, 0, 4])
+        self.assertEqual(problem.solve(), 16 / 3)  # an answer has an array of its own
+        held[0] = 9
+        self.assertEqual(list(x.exact), [third, 2, 3])
+
     def test_values_that_do_not_fit(self):
         for made, value, words in [
             (cp.Parameter(2), [1, 2, 3], "Invalid dimensions"), (cp.Parameter(2), 3, "Invalid dimensions"),
@@ -679,6 +699,8 @@ class WithoutNumPy(unittest.TestCase):
             print(cp.sum(X, axis=0).value, cp.maximum(x, 1.5).value, cp.diag(x).value[1])
             problem = cp.Problem(cp.Minimize(cp.norm1(x - [1, 2, 3])), [x >= [2, 0, 0], x[2] <= 1])
             print(problem.solve(), x.value, problem.constraints[0].dual_value)
+            X.value[1][0] = 9
+            print(X[1].value, cp.sum(X).value)
             try:
                 import numpy
             except ImportError:
@@ -689,6 +711,7 @@ class WithoutNumPy(unittest.TestCase):
             "[[1.0, 2.0, 3.0], [4.0, 5.0, 6.0]] [6.0, 16.0] [[3.0, 1.0], [6.0, 4.0]] [[1.0, 2.0, 3.0]] 1.0",
             "[5.0, 7.0, 9.0] [1.5, 2.0, 1.5] [0.0, 2.0, 0.0]",
             "3.0 [2.0, 2.0, 1.0] [1.0, 0.0, 0.0]",
+            "[9.0, 5.0, 6.0] 26.0",
             "out of reach",
         ])
 
