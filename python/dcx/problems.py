@@ -136,7 +136,13 @@ class Problem(Answered, Made):
 
     # -- answers
 
-    def solve(self, solver: Optional[str] = None, verbose: bool = False, **arguments: Any) -> float:
+    def solve(
+        self,
+        solver: Optional[str] = None,
+        warm_start: Optional[bool] = None,
+        verbose: bool = False,
+        **arguments: Any,
+    ) -> float:
         """Solves the problem at the parameters' values, and returns its value: infinite where it is infeasible or
         unbounded.
 
@@ -153,18 +159,19 @@ class Problem(Answered, Made):
         `max_nodes` boxes are solved at the most, and `progress` is called with a `dcx.whole.search.Progress` as it
         goes. Where a limit is passed, or Python is interrupted, the best point is kept, with the status `user_limit`.
 
-        The other arguments of CVXPY's solve and of its solvers are taken and have no meaning here, since there is one
-        solver and its answers are exact; `verbose` says so, and what is done.
+        The other arguments of CVXPY's solve, `warm_start` among them, and of its solvers are taken and have no meaning
+        here, since there is one solver and its answers are exact; `verbose` says so, and what is done.
 
         Raises `DCPError` where the rules refuse the problem, `ParameterError` where a parameter has no value,
         `LimitError` where the model passes a limit of the language, `SolverError` where there is no answer (then there
         are no values), `CertificateError` where the program refuses what the exact solver says, `ProgramError` where
         it can't be run, `UnsupportedError` where an argument asks for what isn't offered, `TypeError` where one isn't
-        known.
+        known, `ValueError` where a limit is none.
         """
         from . import solving
 
-        return solving.solve(self, Arguments(solver, arguments), verbose)
+        given = arguments if warm_start is None else {"warm_start": warm_start, **arguments}
+        return solving.solve(self, Arguments(solver, given), verbose)
 
     def verify(
         self,

@@ -9,7 +9,7 @@ from typing import Any, Callable, Iterable, Iterator, Mapping, NamedTuple, Optio
 
 from . import program, solving
 from .arguments import box as box_of
-from .arguments import pivots, seconds_of, trust_of
+from .arguments import pivots, seconds_of, trust_of, whole_number
 from .certificates import CertificateError
 from .errors import ParameterError, SolverError
 from .expressions import Expression
@@ -260,9 +260,7 @@ def _outcome(part: Part, ask: Callable[[], program.Run]) -> Union[Report, Except
 def _chunk(chunk: Optional[int], count: int, executor: Any) -> int:
     """How many settings a part has: as many as are asked for, else enough for four parts for each worker."""
     if chunk is not None:
-        if isinstance(chunk, bool) or int(chunk) != chunk or chunk < 1:
-            raise ValueError(f"chunk is a whole number from 1 to {MOST_SETTINGS:,}, and not {chunk!r}")
-        return min(int(chunk), MOST_SETTINGS)
+        return min(whole_number(chunk, "chunk"), MOST_SETTINGS)
     if executor is None:
         return MOST_SETTINGS
     workers = getattr(executor, "_max_workers", None) or os.cpu_count() or 1

@@ -319,9 +319,31 @@ class Surface(unittest.TestCase):
         for name in ("gp", "qcp", "requires_grad", "method"):
             with self.assertRaises(UnsupportedError):
                 problem.solve(**{name: True})
-        for bad in (0, -1, 1.5, True, 10**10):
-            with self.assertRaises(ValueError):
+        for bad in (0, -1, 1.5, True, 10**10, INFINITY, float("nan"), "9", [9]):
+            with self.assertRaisesRegex(ValueError, "max_iters is a whole number from 1 to 1,000,000,000, and not"):
                 problem.solve(max_iters=bad)
+
+    def test_options_of_other_solvers(self):
+        """Scripts of CVXPY name these, each for its solver."""
+        x = cp.Variable()
+        problem = cp.Problem(cp.Minimize(x), [x >= 1])
+        for solver, options in {
+            cp.CBC: {"numberThreads": 4, "maximumNodes": 1000, "allowableGap": 1e-3, "maximumSeconds": 60},
+            cp.CLARABEL: {"max_iter": 100, "tol_infeas_rel": 1e-8, "max_threads": 2},
+            cp.GUROBI: {"env": object(), "Heuristics": 0.1, "MIPGap": 0, "NodeLimit": 1000, "TimeLimit": INFINITY},
+            cp.HIGHS: {"presolve": "off", "mip_feasibility_tolerance": 1e-9, "time_limit": 1e100},
+            cp.OSQP: {"polish_refine_iter": 3, "adaptive_rho_interval": 25},
+            cp.SCS: {"adaptive_scale": False, "time_limit_secs": 10},
+        }.items():
+            self.assertEqual(problem.solve(solver=solver, **options), 1, solver)
+
+    def test_the_order_of_arguments_is_that_of_cvxpy(self):
+        x = cp.Variable()
+        problem = cp.Problem(cp.Minimize(x), [x >= 1])
+        for given, is_told in (((cp.OSQP, True), False), ((cp.OSQP, False, True), True), ((None, None, True), True)):
+            with contextlib.redirect_stdout(io.StringIO()) as out:
+                problem.solve(*given)
+            self.assertEqual("optimal" in out.getvalue(), is_told, given)
 
     def test_what_is_said(self):
         problem, x, y, p = self.model()
@@ -444,8 +466,11 @@ class Stops(unittest.TestCase):
                     with self.assertRaisesRegex(SolverError, "no answer after 0.2 s.*time_limit"):
                         problem.solve(**{name: 0.2})
                 self.assertEqual((problem.status, problem.value, x.value), ("solver_error", None, None))
-        with self.assertRaises(ValueError):
-            problem.solve(time_limit=0)
+        for bad in (0, -1, float("nan"), True, "9", [9]):
+            with self.assertRaisesRegex(ValueError, "time_limit is a number of seconds above 0, and not"):
+                problem.solve(time_limit=bad)
+        for long in (INFINITY, 1e100, 10**9):
+            self.assertEqual(problem.solve(time_limit=long), 1)
 
     def test_a_program_that_is_not_there_is_no_stop(self):
         with mock.patch.dict("os.environ", DCX="/nowhere"), self.assertRaises(program.ProgramError) as caught:

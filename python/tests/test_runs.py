@@ -170,7 +170,7 @@ class Here(Case):
             problem.solve_at([{p: [1, 2, 3]}, {p: [1, float("nan"), 3]}])
         with self.assertRaisesRegex(TypeError, "setting 0 is a list"):
             problem.solve_at([[1]])
-        for chunk in (0, -3, 1.5, True):
+        for chunk in (0, -3, 1.5, True, float("inf"), "3"):
             with self.assertRaisesRegex(ValueError, "chunk is a whole number"):
                 problem.solve_at([], chunk=chunk)
         x = cp.Variable()

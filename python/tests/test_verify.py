@@ -111,6 +111,9 @@ class Outside(unittest.TestCase):
             self.problem.verify({"x": [1] * 4}, {self.x >= 1: 1})
         with self.assertRaises(ValueError):
             self.problem.verify({"x": [1] * 4}, {self.rules[0]: [1, 2]})
+        for limit in ({"time_limit": 0}, {"time_limit": "9"}, {"box": 0}):
+            with self.assertRaises(ValueError):
+                self.problem.verify({"x": [0.75] * 4}, **limit)
         whole = cp.Variable(integer=True, name="w")
         with self.assertRaises(UnsupportedError):
             cp.Problem(cp.Minimize(whole), [whole >= 1.5]).verify({"w": 2})

@@ -121,7 +121,8 @@ class Answers(unittest.TestCase):
 
     def test_arguments(self):
         problem = knapsack(4, 2)
-        for wrong in ({"program_seconds": 0}, {"max_nodes": 0}, {"max_nodes": 1.5}):
+        infinite = float("inf")
+        for wrong in ({"program_seconds": 0}, {"max_nodes": 0}, {"max_nodes": 1.5}, {"max_nodes": infinite}):
             with self.assertRaises(ValueError):
                 problem.solve(**wrong)
         with self.assertRaises(TypeError):

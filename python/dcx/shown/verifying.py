@@ -6,6 +6,7 @@ from typing import Any, Mapping, NamedTuple, Optional
 
 from .. import arrays, program
 from ..arguments import box as box_of
+from ..arguments import seconds_of
 from ..arrays import Array, size_of, to_fractions
 from ..errors import UnsupportedError
 from ..refusals import read
@@ -81,8 +82,8 @@ def verify(
     read(program.run("check", script.text), script)
     named = _values(script, values)
     stated = None if duals is None else _duals(script, duals)
-    box = box_of(box)
-    made, lacks, value, moved = asking.asked("verified", script.text, settings, box, named, stated, seconds=time_limit)
+    limits = {"seconds": seconds_of(time_limit)}
+    made, lacks, value, moved = asking.asked("verified", script.text, settings, box_of(box), named, stated, **limits)
     interval = fallback.checked(made, settings, problem._maximized)
     broken = {}
     for number, lack in lacks.items():
