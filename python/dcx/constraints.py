@@ -3,7 +3,7 @@ from __future__ import annotations
 
 from fractions import Fraction
 
-from . import arrays, evaluation, shapes, sites
+from . import arrays, evaluation, missing, shapes, sites
 from .arrays import Array
 from .errors import UnsupportedError
 from .expressions import Expression, as_expression, next_number
@@ -140,6 +140,9 @@ class Constraint(Sided, Made):
     def _set_dual(self, array: Array | None) -> None:
         """What an answer sets: the multipliers row by row, of as many entries as the constraint has, or None."""
         self._dual = None if array is None else Array(self.shape, array.entries)
+
+
+missing.refuse(Constraint, "constraint")
 
 
 def zero(expr) -> Constraint:

@@ -4,7 +4,7 @@ from __future__ import annotations
 import itertools
 from typing import Iterator, Sequence
 
-from . import arrays, shapes, sites
+from . import arrays, missing, shapes, sites
 from .arrays import Array, Sparse
 from .errors import UnsupportedError
 from .questions import Questions
@@ -248,6 +248,10 @@ class Expression(Questions, Sided, Made):
         """`min(self, axis, keepdims)`."""
         return _method("min", self, axis, keepdims, None, out)
 
+    def ptp(self, axis=None, out=None, *, keepdims: bool = False):
+        """`ptp(self, axis, keepdims)`."""
+        return _method("ptp", self, axis, keepdims, None, out)
+
     def cumsum(self, axis: int = 0):
         """`cumsum(self, axis)`."""
         from . import atoms
@@ -267,6 +271,9 @@ class Expression(Questions, Sided, Made):
         """`reshape(self, shape, order)`."""
         from . import atoms
         return atoms.reshape(self, shape, order)
+
+
+missing.refuse(Expression, "expression")
 
 
 def _operator(name: str, left, right):

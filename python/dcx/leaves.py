@@ -3,7 +3,7 @@ from __future__ import annotations
 
 from fractions import Fraction
 
-from . import arrays, foreign, shapes, sites
+from . import arrays, foreign, missing, shapes, sites
 from .arrays import Array, Sparse
 from .constraints import Constraint
 from .errors import UnsupportedError
@@ -23,16 +23,17 @@ _REFUSED = {
 _OFFERED = ("nonneg", "nonpos", "pos", "neg", "symmetric", "diag", "boolean", "integer", "bounds")
 # what the program's language knows of a variable
 _OF_LANGUAGE = ("nonneg", "nonpos", "symmetric", "diag", "boolean", "integer")
+_INFINITY = float("inf")
 
 
 class Leaf(Expression):
     """A variable or a parameter.
 
-    `given_name` is the user's name or None, `id` a number of its own, and `attributes` tells of each attribute of the
-    program's language (nonneg, nonpos, symmetric, diag, boolean, integer) whether it holds.
+    `given_name` is the user's name or None, `id` a number of its own, and `attributes` tells of each attribute that
+    CVXPY has whether it holds: nonneg and nonpos also where pos, neg or bounds say so.
     """
 
-    __slots__ = ("given_name", "id", "attributes", "bounds", "_value", "_shown", "_own")
+    __slots__ = ("given_name", "id", "attributes", "_ends", "_value", "_shown", "_own")
 
     def __init__(self, kind: str, shape=(), name: str | None = None, value=None, **attributes):
         if name is not None and not isinstance(name, str):
@@ -54,7 +55,7 @@ class Leaf(Expression):
     def _declare(self, given: dict) -> None:
         word = type(self).__name__
         for key, setting in given.items():
-            if key in _REFUSED and setting not in (None, False):
+            if key in _REFUSED and setting is not None and setting is not False:
                 raise UnsupportedError(f"{word}(.., {key}=..) isn't offered: {_REFUSED[key]}", sites.here())
             if key not in _OFFERED and key not in _REFUSED:
                 raise TypeError(f"{word} has no argument {key!r}")
@@ -62,10 +63,10 @@ class Leaf(Expression):
                 raise UnsupportedError(f"{word}(.., {key}=..) takes True or False, and no places: declare two "
                                        f"variables, one of them with {key}=True, and join them by hstack", sites.here())
         is_set = {key: bool(given.get(key)) for key in _OFFERED if key != "bounds"}
-        self.attributes = {key: is_set[key] for key in _OF_LANGUAGE}
+        self.attributes = {**is_set, **dict.fromkeys(_REFUSED, False), "bounds": given.get("bounds")}
         self.attributes["nonneg"] |= is_set["pos"]
         self.attributes["nonpos"] |= is_set["neg"]
-        self.bounds = None if given.get("bounds") is None else self._bounds(given["bounds"])
+        self._ends = None if given.get("bounds") is None else self._bounds(given["bounds"])
         self._judge(word)
 
     def _judge(self, word: str) -> None:
@@ -102,6 +103,26 @@ class Leaf(Expression):
                              f"{shape}.")
         ends = list(found.entries) if shape else [found.entries[0]] * self.size
         return None if all(end is None for end in ends) else ends
+
+    @property
+    def bounds(self) -> list | None:
+        """The lower and the upper bounds in floats, in the leaf's shape, infinite where that end is open; None where
+        there are none."""
+        if self._ends is None:
+            return None
+        return [self._bound(ends, infinity) for ends, infinity in zip(self._ends, (-_INFINITY, _INFINITY))]
+
+    def _bound(self, ends: list | None, infinity: float):
+        each = [None] * self.size if ends is None else ends
+        return arrays.to_floats(Array(self.shape, (infinity if end is None else end for end in each)))
+
+    def is_pos(self) -> bool:
+        """Whether it was declared with pos=True, which is taken as nonneg=True."""
+        return self.attributes["pos"]
+
+    def is_neg(self) -> bool:
+        """Whether it was declared with neg=True, which is taken as nonpos=True."""
+        return self.attributes["neg"]
 
     # ---- names
 
@@ -197,7 +218,7 @@ class Leaf(Expression):
             return "boolean"
         if held["integer"] and any(number.denominator != 1 for number in entries):
             return "integer"
-        for ends, breaks in zip(self.bounds or (), (Fraction.__lt__, Fraction.__gt__)):
+        for ends, breaks in zip(self._ends or (), (Fraction.__lt__, Fraction.__gt__)):
             if ends is not None and any(end is not None and breaks(number, end) for number, end in zip(entries, ends)):
                 return "in bounds."
         return None
@@ -208,6 +229,9 @@ class Leaf(Expression):
                                sites.here())
 
     project_and_assign = project
+
+
+missing.refuse(Leaf, "leaf")
 
 
 class Variable(Leaf):
@@ -225,7 +249,7 @@ class Variable(Leaf):
         super().__init__("variable", shape, name, **attributes)
 
     def _judge(self, word: str) -> None:
-        low, high = self.bounds or (None, None)
+        low, high = self._ends or (None, None)
         held = self.attributes
         if not any(held[word] for word in _OF_LANGUAGE if word != "integer"):
             # bounds on one side of 0 give a sign, as they do in CVXPY
@@ -257,7 +281,7 @@ class Variable(Leaf):
             made.append(self >= 0)
         if held["nonpos"] and "nonpos" not in said:
             made.append(self <= 0)
-        for ends, sense in zip(self.bounds or (), ("low", "high")):
+        for ends, sense in zip(self._ends or (), ("low", "high")):
             if ends is not None:
                 made += self._bounded(ends, sense, said)
         for constraint in made:
@@ -322,7 +346,7 @@ class _Ends:
 
 
 def _open_ended(item, sign: int) -> _Ends:
-    infinity = float("inf") * sign
+    infinity = _INFINITY * sign
 
     def end(value):
         if value is None:

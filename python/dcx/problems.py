@@ -5,11 +5,11 @@ from __future__ import annotations
 import warnings
 from typing import Any, Callable, Iterable, Mapping, NamedTuple, Optional
 
-from . import sites
+from . import missing, sites
 from .answered import Answered, Solution, SolverStats
 from .arguments import Arguments
 from .constraints import Constraint
-from .errors import DCPError, UnsupportedError
+from .errors import DCPError
 from .expressions import Constant
 from .objectives import Maximize, Objective
 from .results import Result
@@ -274,30 +274,7 @@ class Problem(Answered, Made):
         return [self._objective.expr, *(side for item in self._constraints for side in item.args)]
 
 
-# what a problem of CVXPY has and this one doesn't, with the reason
-_REFUSED = {
-    "get_problem_data": "there is no other solver's data: problem.script() and problem.settings() are handed over",
-    "unpack_results": "there are no other solver's results to take",
-    "unpack": "there are no other solver's results to take",
-    "register_solve": "call the function itself with the problem",
-    "backward": "derivatives aren't taken; problem.range(p) tells the value along a parameter",
-    "derivative": "derivatives aren't taken; problem.range(p) tells the value along a parameter",
-}
-
-
-def _refusing(name: str, reason: str) -> Callable[..., Any]:
-    """A method that says why it isn't offered."""
-
-    def method(self: Problem, *args: Any, **arguments: Any) -> Any:
-        raise UnsupportedError(f"problem.{name}(..) isn't offered: {reason}", sites.here())
-
-    method.__name__ = name
-    method.__doc__ = f"Not offered: {reason}."
-    return method
-
-
-for _name, _reason in _REFUSED.items():
-    setattr(Problem, _name, _refusing(_name, _reason))
+missing.refuse(Problem, "problem")
 
 
 def _constraint(item: Any) -> Constraint:

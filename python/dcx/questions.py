@@ -68,6 +68,14 @@ class Questions:
         """Whether it is piecewise linear: everything that is offered is."""
         return True
 
+    def is_quadratic(self) -> bool:
+        """Whether it is at most quadratic by its form: here, where it is affine."""
+        return self.is_affine()
+
+    def is_qpwa(self) -> bool:
+        """Whether it is quadratic of what is piecewise affine: everything that is offered is piecewise affine."""
+        return True
+
     def is_real(self) -> bool:
         """True: there are no complex numbers."""
         return True

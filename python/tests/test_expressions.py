@@ -469,6 +469,27 @@ class Leaves(unittest.TestCase):
             x = cp.Variable((2, 2), **given)
             self.assertEqual(x.language_attributes(), said, given)
 
+    def test_attributes_have_the_keys_of_cvxpy(self):
+        keys = {"nonneg", "nonpos", "pos", "neg", "complex", "imag", "symmetric", "diag", "PSD", "NSD", "hermitian",
+                "boolean", "integer", "sparsity", "bounds"}
+        for given, held in [({}, set()), ({"pos": True}, {"pos", "nonneg"}), ({"neg": True}, {"neg", "nonpos"}),
+                            ({"integer": True, "nonneg": True}, {"integer", "nonneg"}),
+                            ({"diag": True, "PSD": False}, {"diag"}),
+                            ({"bounds": [0, 4]}, {"nonneg", "bounds"}), ({"bounds": [-4, 4]}, {"bounds"})]:
+            x = cp.Variable((2, 2), **given)
+            self.assertEqual((set(x.attributes), {key for key in keys if x.attributes[key]}), (keys, held), given)
+            self.assertEqual((x.is_pos(), x.is_neg()), ("pos" in held, "neg" in held))
+
+    def test_bounds_are_arrays(self):
+        infinite = np.full((2, 2), np.inf)
+        for given, low, high in [([0, 4], np.zeros((2, 2)), np.full((2, 2), 4)),
+                                 ([None, np.array([[1, 2], [np.inf, 0.5]])], -infinite, [[1, 2], [np.inf, 0.5]]),
+                                 ([-np.inf, np.inf], -infinite, infinite)]:
+            found = cp.Variable((2, 2), bounds=given).bounds
+            np.testing.assert_array_equal(found, [low, high])
+        self.assertEqual(cp.Variable(bounds=[-1, None]).bounds, [-1, np.inf])
+        self.assertIsNone(cp.Variable(nonneg=True).bounds)
+
     def test_own_constraints(self):
         def own(shape=(), **given):
             return [str(c).replace(x.name(), "x") for x in [cp.Variable(shape, **given)] for c in x.own_constraints()]
