@@ -1,9 +1,10 @@
 """Variables and parameters: their shapes, names, attributes and values."""
 from __future__ import annotations
 
-from fractions import Fraction
+from contextlib import contextmanager
+from typing import Iterator
 
-from . import arrays, foreign, missing, shapes, sites
+from . import arrays, foreign, missing, shapes, sites, spelling
 from .arrays import Array, Sparse
 from .constraints import Constraint
 from .errors import UnsupportedError
@@ -145,7 +146,8 @@ class Leaf(Expression):
         numbers = rows if self.ndim == 1 else [number for row in rows for number in row]
         pairs = list(zip(array.entries, numbers))
         if any(float(old) != new for old, new in pairs):
-            kept = (old if float(old) == new else arrays.exact(new) for old, new in pairs)
+            with self._named():
+                kept = [old if float(old) == new else arrays.exact(new) for old, new in pairs]
             self._value = self._changed(Array(self.shape, kept))
             self._shown = self._value, shown
         return self._value
@@ -187,41 +189,55 @@ class Leaf(Expression):
         if isinstance(value, Expression):
             array = value._array()
             if array is None:
-                raise ValueError("an expression without a value can't give one")
+                raise ValueError(f"an expression without a value can't give one to {self.name()}")
         else:
-            array = arrays.array_of(value)
+            with self._named():
+                array = arrays.array_of(value)
         if array.shape == self.shape:
             return array
         raise ValueError(f"Invalid dimensions {array.shape} for {type(self).__name__} value: {self.name()} has the "
                          f"shape {self.shape}.")
 
+    @contextmanager
+    def _named(self):
+        """Tells what is wrong with numbers by the leaf's name."""
+        try:
+            yield
+        except (TypeError, ValueError) as error:
+            kind = ValueError if isinstance(error, ValueError) else TypeError
+            raise kind(f"{type(self).__name__} value of {self.name()}: {error}") from None
+
     def _tested(self, value) -> Array | Sparse:
         array = self._shaped(value)
-        fault = self._fault(array)
-        if fault is not None:
-            raise ValueError(f"{type(self).__name__} value must be {fault}: {self.name()}")
+        for wanted, breaks in self._tests(array):
+            place = next((place for place, number in enumerate(array.entries) if breaks(place, number)), None)
+            if place is not None:
+                index = "" if not self.shape else [place] if self.ndim == 1 else list(divmod(place, self.shape[1]))
+                found = spelling.number_text(array.entries[place])
+                raise ValueError(f"{type(self).__name__} value must be {wanted}: {self.name()}{index} is {found}")
         return array
 
-    def _fault(self, array: Array | Sparse) -> str | None:
-        """The attribute that the value breaks, in CVXPY's words."""
-        entries = array.entries
+    def _tests(self, array: Array | Sparse) -> Iterator[tuple]:
+        """For each attribute its name in CVXPY's words, and whether an entry, of a place and a number, breaks it."""
         held = self.attributes
-        if held["nonneg"] and any(number < 0 for number in entries):
-            return "nonnegative"
-        if held["nonpos"] and any(number > 0 for number in entries):
-            return "nonpositive"
-        if held["symmetric"] and arrays.transposed(array.dense()) != array.dense():
-            return "symmetric"
-        if held["diag"] and any(number for place, number in enumerate(entries) if place % (self.shape[1] + 1)):
-            return "diagonal"
-        if held["boolean"] and any(number not in (0, 1) for number in entries):
-            return "boolean"
-        if held["integer"] and any(number.denominator != 1 for number in entries):
-            return "integer"
-        for ends, breaks in zip(self._ends or (), (Fraction.__lt__, Fraction.__gt__)):
-            if ends is not None and any(end is not None and breaks(number, end) for number, end in zip(entries, ends)):
-                return "in bounds."
-        return None
+        if held["nonneg"]:
+            yield "nonnegative", lambda place, number: number < 0
+        if held["nonpos"]:
+            yield "nonpositive", lambda place, number: number > 0
+        if held["symmetric"]:
+            turned = arrays.transposed(array.dense()).entries
+            yield "symmetric", lambda place, number: number != turned[place]
+        if held["diag"]:
+            yield "diagonal", lambda place, number: number and place % (self.shape[1] + 1)
+        if held["boolean"]:
+            yield "boolean", lambda place, number: number not in (0, 1)
+        if held["integer"]:
+            yield "integer", lambda place, number: number.denominator != 1
+        low, high = self._ends or (None, None)
+        if low is not None:
+            yield "in bounds", lambda place, number: low[place] is not None and number < low[place]
+        if high is not None:
+            yield "in bounds", lambda place, number: high[place] is not None and number > high[place]
 
     def project(self, value):
         """Not offered: what is near to a value is a question of its own."""

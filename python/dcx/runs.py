@@ -34,9 +34,9 @@ class Part(NamedTuple):
 
     @property
     def name(self) -> str:
-        """What the part is called where it is told of; people count from 1."""
+        """What the part is called where it is told of: its place in the user's list, as Python writes it."""
         last = self.first + self.count
-        return f"setting {last}" if self.count == 1 else f"settings {self.first + 1} to {last}"
+        return f"settings[{self.first}]" if self.count == 1 else f"settings[{self.first}:{last}]"
 
 
 def run_part(script: str, lines: str, options: tuple[str, ...]) -> program.Run:
@@ -281,23 +281,23 @@ def _cut(lines: list[str], chunk: int) -> Iterator[Part]:
 
 
 def _line(script: Script, setting: Mapping[Any, Any], number: int) -> str:
-    """The line of a setting. What is wrong with it is told with its number."""
+    """The line of a setting. What is wrong with it is told with its place in the list, from 0."""
     if not isinstance(setting, Mapping):
         kind = type(setting).__name__
-        raise TypeError(f"setting {number} is a {kind}, and not a dictionary of parameters with their values")
+        raise TypeError(f"settings[{number}] is a {kind}, and not a dictionary of parameters with their values")
     values = {}
     for key, value in setting.items():
         parameter = key if isinstance(key, Expression) else _by_name(script, key)
         if parameter not in script.names and parameter not in script.idle or parameter.kind != "parameter":
-            raise KeyError(f"setting {number} names {key!r}, which is no parameter that the problem reaches")
+            raise KeyError(f"settings[{number}] names {key!r}, which is no parameter that the problem reaches")
         try:
             values[parameter] = parameter._tested(value)
         except (ValueError, TypeError) as error:
-            raise type(error)(f"setting {number}: {error}") from None
+            raise type(error)(f"settings[{number}]: {error}") from None
     try:
         return script.settings_line(values)
     except ParameterError as error:
-        raise ParameterError(f"setting {number}: {error.reason}", error.site) from None
+        raise ParameterError(f"settings[{number}]: {error.reason}", error.site) from None
 
 
 def _by_name(script: Script, name: Any) -> Any:

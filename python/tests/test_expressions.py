@@ -271,8 +271,8 @@ class Operators(unittest.TestCase):
             self.assertRaises(TypeError, ask)
         with self.assertRaises(UnsupportedError):
             x[0] = 3
-        with self.assertRaises(UnsupportedError):
-            x in [cp.Variable()] or 3 in x
+        for ask in (lambda: x in [cp.Variable()], lambda: 3 in x):
+            self.assertRaises(UnsupportedError, ask)
 
 
 def variable_at(value):
@@ -606,6 +606,21 @@ class Leaves(unittest.TestCase):
                 made.value = value
             self.assertIsNone(made.value)
         self.assertRaises(ValueError, lambda: cp.Parameter(nonneg=True, value=-1))
+        named = {"shape": (2, 2), "name": "q"}
+        for made, value, told in [
+            (cp.Parameter(**named, nonneg=True), np.array([[1, 2], [-1e-9, -3]]), "nonnegative: q[1, 0] is -0.000000001"),
+            (cp.Parameter(**named, symmetric=True), np.array([[1, 2], [2.5, 3]]), "symmetric: q[0, 1] is 2"),
+            (cp.Parameter(**named, diag=True), np.array([[1, 0], [7, 3]]), "diagonal: q[1, 0] is 7"),
+            (cp.Variable(**named, bounds=[0, 5]), np.array([[1, 0], [7, 3]]), "in bounds: q[1, 0] is 7"),
+            (cp.Variable(3, "q", bounds=[[0, None, 1], None]), [0, -9, 0.5], "in bounds: q[2] is 0.5"),
+            (cp.Parameter(name="q", boolean=True), Fraction(1, 3), "boolean: q is 1/3"),
+        ]:
+            with self.assertRaises(ValueError) as caught:
+                made.value = value
+            self.assertTrue(str(caught.exception).endswith(f"value must be {told}"), str(caught.exception))
+        for value, kind in (([1, np.nan], ValueError), ([1, "2"], TypeError)):
+            with self.assertRaisesRegex(kind, "Parameter value of speed: "):
+                cp.Parameter(2, name="speed", value=value)
         kept = cp.Parameter(nonneg=True, value=1)
         with self.assertRaises(ValueError):
             kept.value = -2
