@@ -12,7 +12,6 @@ from .arguments import box as box_of
 from .arguments import pivots, seconds_of, trust_of, whole_number
 from .certificates import CertificateError
 from .errors import ParameterError, SolverError
-from .expressions import Expression
 from .refusals import taken
 from .reports import Report, read_report
 from .results import Result
@@ -84,8 +83,11 @@ def solve_at(
     `error` that names the part; the others stay. A setting that has no answer has such a result as well.
 
     Raises `DCPError`, `LimitError` as `Problem.solve`; `ParameterError` where a setting leaves a parameter without a
-    value; `KeyError` where it names what is no parameter of the problem, `ValueError` where a value doesn't fit.
+    value; `KeyError` where it names what is no parameter of the problem, `ValueError` where a value doesn't fit or a
+    limit is none; `TypeError` where a setting is no dictionary, or what is to carry the parts no executor.
     """
+    if executor is not None and not callable(getattr(executor, "submit", None)):
+        raise TypeError(f"an executor has a method submit, as those of concurrent.futures, and {executor!r} has none")
     script = problem.written
     settings = list(settings)
     lines = [_line(script, setting, number) for number, setting in enumerate(settings)]
@@ -287,8 +289,8 @@ def _line(script: Script, setting: Mapping[Any, Any], number: int) -> str:
         raise TypeError(f"settings[{number}] is a {kind}, and not a dictionary of parameters with their values")
     values = {}
     for key, value in setting.items():
-        parameter = key if isinstance(key, Expression) else _by_name(script, key)
-        if parameter not in script.names and parameter not in script.idle or parameter.kind != "parameter":
+        parameter = script.parameter(key)
+        if parameter is None:
             raise KeyError(f"settings[{number}] names {key!r}, which is no parameter that the problem reaches")
         try:
             values[parameter] = parameter._tested(value)
@@ -298,11 +300,3 @@ def _line(script: Script, setting: Mapping[Any, Any], number: int) -> str:
         return script.settings_line(values)
     except ParameterError as error:
         raise ParameterError(f"settings[{number}]: {error.reason}", error.site) from None
-
-
-def _by_name(script: Script, name: Any) -> Any:
-    """The parameter of this name: the user's, or the script's."""
-    for parameter in script.parameters.values():
-        if parameter.given_name == name:
-            return parameter
-    return script.parameters.get(name) if isinstance(name, str) else None

@@ -372,6 +372,20 @@ class Surface(unittest.TestCase):
         self.assertGreater(problem.solver_stats.solve_time, 0)
         self.assertTrue(problem.report.startswith(b"setting 1 optimal\nvalue 2\n"))
 
+    def test_a_solution_is_that_of_its_problem(self):
+        """Also where another problem, or the user, has set the values of its variables since."""
+        x, y = cp.Variable(2), cp.Variable()
+        rule = x >= 1
+        problem = cp.Problem(cp.Minimize(cp.sum(x) + 0 * y), [rule, x[:0] >= 2, sparse.csr_matrix((3, 2)) @ x <= 5])
+        problem.solve()
+        cp.Problem(cp.Minimize(cp.sum(x)), [x >= 7, rule]).solve()
+        y.value = 3
+        np.testing.assert_array_equal(problem.solution.primal_vars[x.id], [1, 1])
+        np.testing.assert_array_equal(problem.solution.dual_vars[rule.id], [1, 1])
+        infeasible = cp.Problem(cp.Minimize(cp.sum(x)), [rule, x <= 0])
+        infeasible.solve()
+        self.assertEqual(infeasible.solution[1:4], (INFINITY, {}, {}))
+
     def test_terms(self):
         x = cp.Variable()
         low, high = cp.Problem(cp.Minimize(x), [x >= 1]), cp.Problem(cp.Minimize(2 * x), [x >= 3])

@@ -173,6 +173,15 @@ class Here(Case):
         for chunk in (0, -3, 1.5, True, float("inf"), "3"):
             with self.assertRaisesRegex(ValueError, "chunk is a whole number"):
                 problem.solve_at([], chunk=chunk)
+        with self.assertRaisesRegex(TypeError, "an executor has a method submit, .* and 3 has none"):
+            problem.solve_at([{p: [1, 2, 3]}], executor=3)
+        (result,) = problem.solve_at([{"p": [1, 2, 3]}])
+        self.assertEqual(result.exact, self.model.by_hand({p: [1, 2, 3]}))
+        for ask in (lambda: result[p], lambda: result["x"], lambda: result.exact_value(cp.Variable())):
+            with self.assertRaisesRegex(KeyError, "is no variable that the problem reaches"):
+                ask()
+        with self.assertRaisesRegex(KeyError, "is no constraint of the problem"):
+            result.dual_value(self.model.x >= 1)
         x = cp.Variable()
         with self.assertRaises(DCPError):
             cp.Problem(cp.Maximize(cp.abs(x) * p[0]), []).solve_at([{p: [1, 2, 3]}])
