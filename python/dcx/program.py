@@ -24,7 +24,7 @@ try:
 except ImportError:  # a system without limits of this kind
     resource = None
 
-__all__ = ["ProgramError", "Run", "TimedOut", "find", "patience", "run"]
+__all__ = ["ProgramError", "Run", "TimedOut", "find", "limit_memory", "patience", "run"]
 
 _MEMORY = 4096  # MiB, where DCX_MEMORY says nothing
 _LONGEST = 1_000_000  # seconds: more than this some systems don't count in a wait
@@ -174,7 +174,8 @@ def _memory() -> int:
 
 
 def limit_memory(pid: int) -> None:
-    """Sets the limit on the memory of another process that works for the package: the one that the program has."""
+    """Sets the limit on the memory of a process that works for the package, or is to be the program: the one that the
+    program has. Raises `ProgramError` where the variable `DCX_MEMORY` is no number."""
     _limit(pid, _memory())
 
 

@@ -11,6 +11,7 @@ from importlib.abc import MetaPathFinder
 from typing import Optional
 
 from ..numbers import float_digits
+from . import whole
 
 PACKAGE = os.path.dirname(os.path.dirname(os.path.abspath(__file__)))
 # Files whose frames stand above the user's script in each traceback.
@@ -23,27 +24,11 @@ TOLD = ("DCX_RUN_DIGITS", "DCX_RUN_DECIMALS")
 
 def add_arguments(parser: argparse.ArgumentParser) -> None:
     """The script, and whatever stands behind it."""
+    digits, decimals = whole(1, 17), whole(0, 30)
     parser.add_argument("--digits", metavar="N", type=digits, help="round each float to N significant digits")
     parser.add_argument("--decimals", metavar="N", type=decimals, help="round each float to N digits behind the point")
     parser.add_argument("script", metavar="MODEL.py", help="a script that imports cvxpy")
     parser.add_argument("arguments", nargs=argparse.REMAINDER, metavar="ARGS", help="the script's own arguments")
-
-
-def digits(text: str) -> int:
-    """How many significant digits a float keeps: 1 to 17."""
-    return whole(text, 1, 17)
-
-
-def decimals(text: str) -> int:
-    """How many digits a float keeps behind the point: 0 to 30."""
-    return whole(text, 0, 30)
-
-
-def whole(text: str, least: int, most: int) -> int:
-    """A whole number within these limits."""
-    if not (text.isascii() and text.isdigit()) or not least <= int(text) <= most:
-        raise argparse.ArgumentTypeError(f"a whole number from {least} to {most}, and not {text!r}")
-    return int(text)
 
 
 def run(arguments: argparse.Namespace) -> int:
