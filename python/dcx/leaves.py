@@ -2,13 +2,13 @@
 from __future__ import annotations
 
 from contextlib import contextmanager
-from typing import Iterator
+from typing import Any, Iterator, Sequence, Union
 
 from . import arrays, foreign, missing, shapes, sites, spelling
 from .arrays import Array, Sparse
 from .constraints import Constraint
 from .errors import UnsupportedError
-from .expressions import Expression, next_number
+from .expressions import Expression, Operand, next_number
 
 # attributes of CVXPY that no constraint of linear pieces means
 _REFUSED = {
@@ -26,6 +26,9 @@ _OFFERED = ("nonneg", "nonpos", "pos", "neg", "symmetric", "diag", "boolean", "i
 _OF_LANGUAGE = ("nonneg", "nonpos", "symmetric", "diag", "boolean", "integer")
 _INFINITY = float("inf")
 
+# how a shape is given: a whole number, or a tuple of at most two
+ShapeLike = Union[int, Sequence[int]]
+
 
 class Leaf(Expression):
     """A variable or a parameter.
@@ -36,7 +39,9 @@ class Leaf(Expression):
 
     __slots__ = ("given_name", "id", "attributes", "_ends", "_value", "_shown", "_own")
 
-    def __init__(self, kind: str, shape=(), name: str | None = None, value=None, **attributes):
+    def __init__(
+        self, kind: str, shape: ShapeLike = (), name: str | None = None, value: Operand = None, **attributes: Any
+    ):
         if name is not None and not isinstance(name, str):
             raise TypeError(f"Variable name {name!r} must be a string.")
         super().__init__(kind, (), (), shapes.declared(shape))
@@ -157,7 +162,7 @@ class Leaf(Expression):
         return array
 
     @property
-    def value(self):
+    def value(self) -> Any:
         """The value in floats: a NumPy array, lists where NumPy isn't there, a float where there is no side; None
         before. Entries that are set in this array are those of the value, as in CVXPY.
 
@@ -170,17 +175,17 @@ class Leaf(Expression):
         return None if array is None else self._shown[1]
 
     @value.setter
-    def value(self, value) -> None:
+    def value(self, value: Operand) -> None:
         self._value = None if value is None else self._tested(value)
 
     @property
-    def exact(self):
-        """The value in fractions."""
+    def exact(self) -> Any:
+        """The value in fractions; None before."""
         array = self._array()
         return None if array is None else arrays.to_fractions(array)
 
-    def save_value(self, value) -> None:
-        """Sets the value as an answer does: its shape is tested, and no attribute."""
+    def save_value(self, value: Operand) -> None:
+        """Sets the value as an answer does: its shape is tested, and no attribute. Raises as setting `value`."""
         self._value = None if value is None else self._shaped(value)
 
     _set_value = save_value
@@ -239,7 +244,7 @@ class Leaf(Expression):
         if high is not None:
             yield "in bounds", lambda place, number: high[place] is not None and number > high[place]
 
-    def project(self, value):
+    def project(self, value: Operand) -> Any:
         """Not offered: what is near to a value is a question of its own."""
         raise UnsupportedError("project isn't offered: minimize cp.norm1(x - value) under the constraints",
                                sites.here())
@@ -255,11 +260,15 @@ class Variable(Leaf):
 
     Attributes are nonneg, nonpos, pos and neg (which are nonneg and nonpos, as in CVXPY), symmetric, diag, boolean,
     integer, and bounds=[l, u] with numbers, arrays, None and infinities as open ends.
+
+    Raises `ValueError` of a shape that is none, of attributes that exclude each other or want another shape, and of
+    bounds that are none; `TypeError` of an argument that CVXPY doesn't have, or a name that is no text;
+    `UnsupportedError` of what isn't made of linear pieces, as PSD, and of places in boolean or integer.
     """
 
     __slots__ = ()
 
-    def __init__(self, shape=(), name: str | None = None, var_id=None, **attributes):
+    def __init__(self, shape: ShapeLike = (), name: str | None = None, var_id: None = None, **attributes: Any):
         if var_id is not None:
             raise UnsupportedError("var_id isn't offered: a variable has a number of its own", sites.here())
         super().__init__("variable", shape, name, **attributes)
@@ -327,11 +336,14 @@ class Variable(Leaf):
 
 class Parameter(Leaf):
     """Numbers that may vary: `Parameter(shape=(), name=None, value=None, **attributes)`. The attributes nonneg and
-    nonpos are what the rules know of it; every attribute is tested where a value is set."""
+    nonpos are what the rules know of it; every attribute is tested where a value is set. Raises as `Variable`, and
+    `ValueError` or `TypeError` of a value that doesn't fit, as where one is set."""
 
     __slots__ = ()
 
-    def __init__(self, shape=(), name: str | None = None, value=None, id=None, **attributes):
+    def __init__(
+        self, shape: ShapeLike = (), name: str | None = None, value: Operand = None, id: None = None, **attributes: Any
+    ):
         if id is not None:
             raise UnsupportedError("id isn't offered: a parameter has a number of its own", sites.here())
         super().__init__("parameter", shape, name, value, **attributes)

@@ -12,6 +12,7 @@ from .constraints import Constraint
 from .errors import DCPError
 from .expressions import Constant
 from .objectives import Maximize, Objective
+from .questions import refuse_context
 from .results import Result
 from .scripts import Script, written
 from .trees import Made
@@ -103,9 +104,9 @@ class Problem(Answered, Made):
         return self._verdict.is_dpp if dpp else self._verdict.is_dcp
 
     def is_dpp(self, context: str = "dcp") -> bool:
-        """Whether the rules accept the problem also where its parameters may vary."""
-        if context != "dcp":
-            raise ValueError(f"Unsupported context {context}: the rules are those of 'dcp'")
+        """Whether the rules accept the problem also where its parameters may vary. UnsupportedError of another context.
+        """
+        refuse_context(context)
         return self.is_dcp(dpp=True)
 
     def is_qp(self) -> bool:

@@ -6,6 +6,12 @@ from . import sites
 from .errors import UnsupportedError
 
 
+def refuse_context(context: str) -> None:
+    """UnsupportedError where the rules that are asked for aren't those of convexity."""
+    if context != "dcp":
+        raise UnsupportedError(f"there are no rules of the name {context!r}: \"dcp\" is the one context", sites.here())
+
+
 class Questions:
     """The questions, which the program answers: see `verdicts`."""
 
@@ -46,10 +52,9 @@ class Questions:
         return self._verdict().is_dpp if dpp else self._verdict().is_dcp
 
     def is_dpp(self, context: str = "dcp") -> bool:
-        """Whether the rules find it convex or concave where parameters may vary too."""
-        if context != "dcp":
-            raise UnsupportedError(f"there are no rules of the name {context!r}: \"dcp\" is the one context",
-                                   sites.here())
+        """Whether the rules find it convex or concave where parameters may vary too. UnsupportedError of another
+        context."""
+        refuse_context(context)
         return self._verdict().is_dpp
 
     def is_nonneg(self) -> bool:
