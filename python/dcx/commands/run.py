@@ -2,6 +2,7 @@
 from __future__ import annotations
 
 import argparse
+import contextlib
 import os
 import runpy
 import sys
@@ -110,7 +111,9 @@ def print_users(error: BaseException) -> None:
             continue
         seen.add(id(part))
         is_meant = is_of_package(cause, part.stack)
-        frames = [frame for frame in part.stack if not is_left_out(frame.filename, is_meant)]
+        files = [frame.filename for frame in part.stack]
+        shown = zip(part.stack, ["", *files])
+        frames = [frame for frame, before in shown if not is_left_out(frame.filename, before, is_meant)]
         part.stack = traceback.StackSummary.from_list(frames)
         waiting += [(part.__cause__, cause.__cause__), (part.__context__, cause.__context__)]
     sys.stdout.flush()
@@ -133,8 +136,8 @@ def is_inner(filename: str) -> bool:
     return os.path.abspath(filename).startswith(PACKAGE + os.sep)
 
 
-def is_left_out(filename: str, is_meant: bool) -> bool:
-    """Whether a frame of this file isn't shown."""
+def is_left_out(filename: str, before: str, is_meant: bool) -> bool:
+    """Whether a frame of this file, called by one of the file before, isn't shown."""
     if filename in ABOVE or filename.startswith("<frozen "):
         return True
-    return is_meant and is_inner(filename)
+    return is_meant and (is_inner(filename) or filename == contextlib.__file__ and is_inner(before))
