@@ -10,7 +10,7 @@ from .answered import Answered, Solution, SolverStats
 from .arguments import Arguments
 from .constraints import Constraint
 from .errors import DCPError
-from .expressions import Constant
+from .expressions import Constant, Expression
 from .objectives import Maximize, Objective
 from .questions import refuse_context
 from .results import Result
@@ -43,7 +43,8 @@ class Problem(Answered, Made):
     it; where the objective goes on for ever `ray` has the point and the direction. `report` has the bytes that the
     program printed.
 
-    Raises `DCPError` where the objective is none, `ValueError` where a constraint is none.
+    Raises `DCPError` where the objective is none, `ValueError` where a constraint is none, `TypeError` where the
+    constraints are no list.
     """
 
     def __init__(self, objective: Objective, constraints: Optional[Iterable[Any]] = None):
@@ -54,7 +55,8 @@ class Problem(Answered, Made):
         if isinstance(constraints, Constraint):
             raise TypeError("the constraints are a list, and not a constraint: write [constraint]")
         self._objective = objective
-        self._constraints = [_constraint(item) for item in (() if constraints is None else constraints)]
+        listed = () if constraints is None else constraints
+        self._constraints = [_constraint(item, place) for place, item in enumerate(listed)]
         self._script: Optional[Script] = None
         self._verdict: Any = None
         self._arguments_told = False
@@ -278,8 +280,8 @@ class Problem(Answered, Made):
 missing.refuse(Problem, "problem")
 
 
-def _constraint(item: Any) -> Constraint:
-    """A constraint of the list; a truth value is one that always or never holds, as in CVXPY, with a warning where it
+def _constraint(item: Any, place: int) -> Constraint:
+    """A constraint of the list, at a place from 0; a truth value is one that always or never holds, as in CVXPY, with a warning where it
     never does: NumPy says False where it can't compare."""
     if isinstance(item, Constraint):
         return item
@@ -288,4 +290,9 @@ def _constraint(item: Any) -> Constraint:
             site = sites.here()
             warnings.warn_explicit(_NEVER, UserWarning, site.file, site.line)
         return Constraint("<=", Constant(0 if item else 1), Constant(1 if item else 0))
-    raise ValueError(f"Problem has an invalid constraint of type {type(item)}")
+    hint = ""
+    if isinstance(item, (list, tuple)):
+        hint = "; lists are joined by +, and not put into each other"
+    elif isinstance(item, Expression):
+        hint = f"; `{item}` is an expression: compare it by <=, >= or =="
+    raise ValueError(f"Problem has an invalid constraint of type {type(item)} at place {place} of the list{hint}")

@@ -411,10 +411,12 @@ class Surface(unittest.TestCase):
         x = cp.Variable(2)
         with self.assertRaisesRegex(DCPError, "must be Minimize or Maximize"):
             cp.Problem(cp.sum(x), [])
-        with self.assertRaisesRegex(ValueError, "invalid constraint of type <class 'int'>"):
+        with self.assertRaisesRegex(ValueError, "invalid constraint of type <class 'int'> at place 1 of the list"):
             cp.Problem(cp.Minimize(0), [x >= 1, 1])
-        with self.assertRaisesRegex(ValueError, "invalid constraint of type <class 'list'>"):
+        with self.assertRaisesRegex(ValueError, r"invalid constraint of type <class 'list'> at place 0 .* by \+"):
             cp.Problem(cp.Minimize(0), [[x >= 1]])
+        with self.assertRaisesRegex(ValueError, "invalid constraint .* at place 2 .* `sum(.*)` is an expression"):
+            cp.Problem(cp.Minimize(0), [x >= 1, x <= 2, cp.sum(x)])
         with self.assertRaisesRegex(TypeError, r"write \[constraint\]"):
             cp.Problem(cp.Minimize(0), x >= 1)
         with self.assertRaisesRegex(ValueError, "must resolve to a scalar"):
