@@ -367,7 +367,7 @@ def as_expression(value: Operand) -> Expression:
         return value
     if type(value) in (int, float):
         return Constant(value)
-    if isinstance(value, str) or value is None:
+    if isinstance(value, (str, Made)) or value is None:
         raise TypeError(f"{value!r} stands where an expression or numbers are wanted")
     item = boxed_expression(value)
     return item if item is not None else Constant(value)

@@ -84,7 +84,7 @@ class Objective(Made):
     __radd__ = __add__
 
     def __sub__(self, other: Any) -> Objective:
-        return self + -other if isinstance(other, Objective) else self + other if other == 0 else NotImplemented
+        return self + -other if isinstance(other, Objective) else self.__add__(other)
 
     def __mul__(self, factor: Any) -> Objective:
         if isinstance(factor, (Objective, Expression)):

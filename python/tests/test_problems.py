@@ -421,6 +421,11 @@ class Surface(unittest.TestCase):
             cp.Problem(cp.Minimize(0), x >= 1)
         with self.assertRaisesRegex(ValueError, "must resolve to a scalar"):
             cp.Minimize(x)
+        least, rule = cp.Minimize(x[0]), x >= 1
+        self.assertIs(least - 0, least)
+        for ask in (lambda: least - x[0], lambda: x[0] + least, lambda: x + rule, lambda: cp.maximum(x, rule)):
+            with self.assertRaisesRegex(TypeError, r"^(Minimize|Constraint)\(.* stands where an expression or numbers"):
+                ask()
 
 
 class Stops(unittest.TestCase):
