@@ -145,7 +145,7 @@ def span(problem: Any, parameter: Any, max_iters: Optional[int] = None) -> Span:
     number, or it multiplies variables; `KeyError` where it is no parameter of the problem.
     """
     script = problem.written
-    name = script.names.get(script.parameter(parameter))
+    name = script.names.get(script.leaf("parameter", parameter))
     if name is None:
         raise KeyError(f"{parameter!r} is no parameter that the problem reaches")
     answer = _answer(_run(problem, "range", max_iters, name)[2], script)

@@ -281,8 +281,8 @@ missing.refuse(Problem, "problem")
 
 
 def _constraint(item: Any, place: int) -> Constraint:
-    """A constraint of the list, at a place from 0; a truth value is one that always or never holds, as in CVXPY, with a warning where it
-    never does: NumPy says False where it can't compare."""
+    """A constraint of the list, at a place from 0; a truth value is one that always or never holds, as in CVXPY, with
+    a warning where it never does: NumPy says False where it can't compare."""
     if isinstance(item, Constraint):
         return item
     if isinstance(item, bool) or type(item).__name__ in ("bool_", "bool"):

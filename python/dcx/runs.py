@@ -289,7 +289,7 @@ def _line(script: Script, setting: Mapping[Any, Any], number: int) -> str:
         raise TypeError(f"settings[{number}] is a {kind}, and not a dictionary of parameters with their values")
     values = {}
     for key, value in setting.items():
-        parameter = script.parameter(key)
+        parameter = script.leaf("parameter", key)
         if parameter is None:
             raise KeyError(f"settings[{number}] names {key!r}, which is no parameter that the problem reaches")
         try:

@@ -122,7 +122,8 @@ class Run(Folder):
 
     def test_a_context_of_the_users_own_is_shown(self):
         lines = ["import contextlib", "", "", "@contextlib.contextmanager", "def told():", "    try:", "        yield",
-                 "    except KeyError:", "        raise ValueError(3) from None", "", "", "with told():", "    {}[1]", ""]
+                 "    except KeyError:", "        raise ValueError(3) from None", "", "",
+                 "with told():", "    {}[1]", ""]
         script = self.script("\n".join(lines))
         wanted = subprocess.run([sys.executable, script], capture_output=True, text=True)
         self.assertEqual(run("run", script)[1], wanted.stderr)

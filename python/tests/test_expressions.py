@@ -608,7 +608,8 @@ class Leaves(unittest.TestCase):
         self.assertRaises(ValueError, lambda: cp.Parameter(nonneg=True, value=-1))
         named = {"shape": (2, 2), "name": "q"}
         for made, value, told in [
-            (cp.Parameter(**named, nonneg=True), np.array([[1, 2], [-1e-9, -3]]), "nonnegative: q[1, 0] is -0.000000001"),
+            (cp.Parameter(**named, nonneg=True), np.array([[1, 2], [-1e-9, -3]]),
+             "nonnegative: q[1, 0] is -0.000000001"),
             (cp.Parameter(**named, symmetric=True), np.array([[1, 2], [2.5, 3]]), "symmetric: q[0, 1] is 2"),
             (cp.Parameter(**named, diag=True), np.array([[1, 0], [7, 3]]), "diagonal: q[1, 0] is 7"),
             (cp.Variable(**named, bounds=[0, 5]), np.array([[1, 0], [7, 3]]), "in bounds: q[1, 0] is 7"),

@@ -175,6 +175,12 @@ class Here(Case):
                 problem.solve_at([], chunk=chunk)
         with self.assertRaisesRegex(TypeError, "an executor has a method submit, .* and 3 has none"):
             problem.solve_at([{p: [1, 2, 3]}], executor=3)
+        y, other = cp.Variable(), cp.Parameter(name="p", value=1)
+        twice = cp.Problem(cp.Minimize(y), [y >= p[0], y >= other])
+        with self.assertRaisesRegex(KeyError, "'p' is the name of 2 parameters"):
+            twice.solve_at([{"p": [4, 5, 6]}])
+        results = twice.solve_at([{p: [4, 5, 6]}, {p: [0, 5, 6], other: 3}])
+        self.assertEqual([result.exact for result in results], [4, 3])
         (result,) = problem.solve_at([{"p": [1, 2, 3]}])
         self.assertEqual(result.exact, self.model.by_hand({p: [1, 2, 3]}))
         for ask in (lambda: result[p], lambda: result["x"], lambda: result.exact_value(cp.Variable())):

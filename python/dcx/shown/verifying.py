@@ -104,11 +104,11 @@ def _values(script: Any, values: Mapping[Any, Any]) -> dict[str, list[Fraction]]
     """The entries of each variable, by the script's name."""
     found: dict[str, list[Fraction]] = {}
     for key, value in values.items():
-        variable = key if not isinstance(key, str) else _named(script, key)
+        variable = script.leaf("variable", key)
+        if variable is None:
+            raise KeyError(f"{key!r} is no variable of the problem")
         if variable in script.idle:
             continue
-        if variable not in script.names or variable.kind != "variable":
-            raise KeyError(f"{key!r} is no variable of the problem")
         if value is None:
             raise KeyError(f"the variable {variable.name()} has no value")
         found[script.names[variable]] = list(variable._shaped(value).dense().entries)
@@ -116,14 +116,6 @@ def _values(script: Any, values: Mapping[Any, Any]) -> dict[str, list[Fraction]]
         if name not in found:
             raise KeyError(f"the variable {variable.name()} has no value")
     return {name: found[name] for name in script.variables}
-
-
-def _named(script: Any, name: str) -> Any:
-    """The variable of a name: the user's, else the script's."""
-    for variable in (*script.variables.values(), *script.idle):
-        if variable.kind == "variable" and name in (variable.given_name, variable.name()):
-            return variable
-    return script.variables.get(name)
 
 
 def _duals(script: Any, duals: Mapping[Any, Any]) -> dict[int, list[Fraction]]:
