@@ -115,9 +115,12 @@ class Answered:
 
     @property
     def solution(self) -> Optional[Solution]:
-        """The last answer, by the numbers of variables and constraints."""
-        if self._result is None:
+        """The last answer of this problem, by the numbers of variables and constraints, also where their values have
+        been set anew since; None before one."""
+        result = self._result
+        if result is None:
             return None
-        primal = {item.id: item.value for item in self.written.variables.values() if item.value is not None}
-        dual = {item.id: item.dual_value for item in self._constraints if item.dual_value is not None}
-        return Solution(self.status, self.value, primal, dual, {})
+        primal = {item.id: result[item] for item in self.variables()}
+        dual = {item.id: result.dual_value(item) for item in self._constraints if item.size}
+        told = ({key: value for key, value in found.items() if value is not None} for found in (primal, dual))
+        return Solution(result.status, result.value, *told, {})

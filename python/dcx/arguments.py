@@ -10,23 +10,36 @@ from .errors import SolverError, UnsupportedError
 from .numbers import exact
 from .sites import Site
 
-__all__ = ["Arguments", "SOLVERS", "box", "pivots", "seconds_of", "trust_of"]
+__all__ = ["Arguments", "SOLVERS", "box", "pivots", "seconds_of", "trust_of", "whole_number"]
 
 # the names of solvers are the words of CVXPY that say their own name
 SOLVERS = frozenset(word for word in statuses.__all__ if getattr(statuses, word) == word)
 
 # what other solvers are told of tolerances, of their way and of what they print
 _MEANINGLESS = frozenset(
-    "warm_start ignore_dpp canon_backend solver_path abstol reltol feastol abstol_inacc reltol_inacc "
-    "feastol_inacc eps eps_abs eps_rel eps_infeas eps_prim_inf eps_dual_inf eps_inaccurate tol tol_gap_abs "
-    "tol_gap_rel tol_feas rho sigma alpha scale scale_x normalize adaptive_rho polish polishing "
-    "acceleration_lookback acceleration_interval use_indirect gpu refinement kktsolver equilibrate_enable threads "
-    "num_threads presolve parallel mi_max_iters mi_abs_eps mi_rel_eps allowableGap ratioGap reoptimize save_file "
-    "mosek_params scip_params scipy_options cplex_params cplex_filename highs_options glpk accept_unknown bfs "
-    "logLevel scaling verbosity check_termination delta linsys_solver max_step_fraction mip_rel_gap mip_abs_gap "
-    "random_seed simplex_strategy primal_feasibility_tolerance dual_feasibility_tolerance MIPGap "
-    "MIPGapAbs MIPFocus Threads OutputFlag Method NumericFocus FeasibilityTol OptimalityTol IntFeasTol BarConvTol "
-    "Presolve Seed LogToConsole".split()
+    "warm_start ignore_dpp canon_backend solver_path eps abstol reltol feastol abstol_inacc reltol_inacc "
+    "feastol_inacc eps_abs eps_rel eps_infeas eps_prim_inf eps_dual_inf eps_inaccurate tol tol_gap_abs tol_gap_rel "
+    "tol_feas tol_infeas_abs tol_infeas_rel tol_ktratio reduced_tol_gap_abs reduced_tol_gap_rel reduced_tol_feas "
+    "reduced_tol_infeas_abs reduced_tol_infeas_rel reduced_tol_ktratio accept_unknown use_quad_obj verbosity "
+    # OSQP, PROXQP, SCS
+    "rho sigma alpha delta scale scale_x rho_x normalize scaling adaptive_rho adaptive_rho_interval "
+    "adaptive_rho_tolerance adaptive_rho_fraction adaptive_scale polish polishing polish_refine_iter "
+    "check_termination scaled_termination check_dualgap linsys_solver backend mu_eq mu_in use_indirect gpu "
+    "acceleration_lookback acceleration_interval write_data_filename log_csv_filename "
+    # Clarabel, CVXOPT, ECOS_BB
+    "equilibrate_enable equilibrate_max_iter max_step_fraction max_threads direct_kkt_solver direct_solve_method "
+    "static_regularization_enable dynamic_regularization_enable iterative_refinement_enable presolve_enable "
+    "chordal_decomposition_enable refinement kktsolver mi_max_iters mi_abs_eps mi_rel_eps "
+    # HiGHS, SciPy, GLPK, CBC, SCIP, CPLEX, MOSEK, NAG, PDLP
+    "presolve parallel threads num_threads highs_options mip_rel_gap mip_abs_gap mip_feasibility_tolerance "
+    "primal_feasibility_tolerance dual_feasibility_tolerance simplex_strategy run_crossover random_seed log_file "
+    "scipy_options glpk logLevel allowableGap ratioGap numberThreads integerTolerance primalTolerance dualTolerance "
+    "scip_params cplex_params cplex_filename reoptimize mosek_params bfs save_file nag_params parameters_proto "
+    # Gurobi
+    "env MIPGap MIPGapAbs MIPFocus Threads OutputFlag LogToConsole LogFile Method NodeMethod ConcurrentMIP Presolve "
+    "Aggregate DualReductions Crossover Cuts Heuristics Symmetry NumericFocus ScaleFlag FeasibilityTol OptimalityTol "
+    "IntFeasTol BarConvTol BarIterLimit IterationLimit BestObjStop BestBdStop SolutionLimit NonConvex MemLimit "
+    "SoftMemLimit NodefileStart Seed".split()
 )
 # what asks for another kind of problem or answer
 _UNSUPPORTED = {
@@ -37,8 +50,9 @@ _UNSUPPORTED = {
 }
 # the most pivots, and seconds, as solvers call them
 _PIVOTS = ("max_iters", "max_iter")
-_NODES = ("max_nodes", "mip_max_nodes", "node_limit")
-_SECONDS = ("time_limit", "time_limit_secs", "TimeLimit", "maximumSeconds")
+_NODES = ("max_nodes", "mip_max_nodes", "node_limit", "maximumNodes", "NodeLimit")
+_SECONDS = ("time_limit", "time_limit_secs", "time_limit_sec", "TimeLimit", "maximumSeconds", "maxtime")
+_MOST_PIVOTS = 1_000_000_000
 
 
 class Arguments:
@@ -92,9 +106,7 @@ class Arguments:
         elif name == "program_seconds":
             self.program_seconds = seconds_of(value, name)
         elif name in _NODES:
-            if value is not None and (isinstance(value, bool) or int(value) != value or value < 1):
-                raise ValueError(f"{name} is a whole number from 1, and not {value!r}")
-            self.max_nodes = value
+            self.max_nodes = None if value is None else whole_number(value, name)
         elif name == "progress":
             if value is not None and not callable(value):
                 raise TypeError(f"progress is called with a dcx.whole.search.Progress, and {value!r} can't be called")
@@ -102,7 +114,8 @@ class Arguments:
         elif name in _MEANINGLESS:
             self.meaningless.append(name)
         else:
-            raise TypeError(f"solve() got an unexpected argument {name!r}, which neither CVXPY nor its solvers have")
+            reason = "which isn't known as one of CVXPY or of its solvers"
+            raise TypeError(f"solve() got an unexpected argument {name!r}, {reason}")
 
     def too_late(self, cause: Exception, site: Site) -> SolverError:
         """What is told where `time_limit` passed."""
@@ -124,18 +137,34 @@ def trust_of(value: Optional[str]) -> Optional[str]:
     return value
 
 
-def seconds_of(value: Optional[float], name: str = "time_limit") -> Optional[float]:
-    """A limit of time. Raises `ValueError` where it is no number of seconds above 0."""
-    if value is not None and not value > 0:
+def seconds_of(value: Any, name: str = "time_limit") -> Optional[float]:
+    """A limit of time, which may be infinite. Raises `ValueError` where it is no number of seconds above 0."""
+    if value is None:
+        return None
+    try:
+        seconds = 0.0 if isinstance(value, (bool, str)) else float(value)
+    except (TypeError, ValueError, OverflowError):
+        seconds = 0.0
+    if not seconds > 0:
         raise ValueError(f"{name} is a number of seconds above 0, and not {value!r}")
-    return value
+    return seconds
+
+
+def whole_number(value: Any, name: str, most: Optional[int] = None) -> int:
+    """A limit that is counted. Raises `ValueError`, with the argument's name, where it is no whole number from 1 to
+    `most`."""
+    try:
+        number = 0 if isinstance(value, (bool, str)) else int(value)
+        is_good = number == value and number >= 1 and (most is None or number <= most)
+    except (TypeError, ValueError, OverflowError):
+        is_good = False
+    if not is_good:
+        limits = "from 1" if most is None else f"from 1 to {most:,}"
+        raise ValueError(f"{name} is a whole number {limits}, and not {value!r}")
+    return number
 
 
 def pivots(value: Optional[int]) -> list[str]:
     """The program's words for a limit on pivots. Raises `ValueError` where it is no whole number from 1 to
     1,000,000,000."""
-    if value is None:
-        return []
-    if isinstance(value, bool) or int(value) != value or not 1 <= value <= 1_000_000_000:
-        raise ValueError(f"max_iters is a whole number from 1 to 1,000,000,000, and not {value!r}")
-    return [f"--max-pivots={int(value)}"]
+    return [] if value is None else [f"--max-pivots={whole_number(value, 'max_iters', _MOST_PIVOTS)}"]

@@ -224,15 +224,13 @@ def _has_sides(item) -> bool:
 # ---- out
 
 
-def nested(array: Array, each) -> object:
-    """The entries as a number or nested lists of rows, each passed through a function."""
-    entries = [each(number) for number in array.entries]
-    if not array.shape:
-        return entries[0]
-    if len(array.shape) == 1:
-        return entries
-    width = array.shape[1]
-    return [entries[row * width:(row + 1) * width] for row in range(array.shape[0])]
+def nested(shape: Sequence[int], items: list) -> object:
+    """Items that stand row by row as one item, a list, or a list of rows."""
+    if not shape:
+        return items[0]
+    if len(shape) == 1:
+        return items
+    return [items[row * shape[1]:(row + 1) * shape[1]] for row in range(shape[0])]
 
 
 def to_floats(array: Array | Sparse):
@@ -252,7 +250,7 @@ def to_fractions(array: Array | Sparse):
 def _out(array: Array, each, dtype):
     module = numpy() if array.shape else None
     if module is None:
-        return nested(array, each)
+        return nested(array.shape, [each(number) for number in array.entries])
     result = module.empty(array.size, dtype=dtype)
     result[:] = [each(number) for number in array.entries] if dtype is float else array.entries
     return result.reshape(array.shape)

@@ -138,15 +138,17 @@ def irreducible(problem: Any, max_iters: Optional[int] = None) -> Irreducible:
 
 
 def span(problem: Any, parameter: Any, max_iters: Optional[int] = None) -> Span:
-    """How far a parameter of the problem may move, from its present value, and the problem's value along its way.
+    """How far a parameter of the problem, or the one of a name, may move from its present value, and the problem's
+    value along its way.
 
     Raises as `Problem.solve`; `UnsupportedError` where variables are to be whole, the parameter isn't a single
     number, or it multiplies variables; `KeyError` where it is no parameter of the problem.
     """
     script = problem.written
-    if script.parameters.get(script.names.get(parameter)) is not parameter:
+    name = script.names.get(script.leaf("parameter", parameter))
+    if name is None:
         raise KeyError(f"{parameter!r} is no parameter that the problem reaches")
-    answer = _answer(_run(problem, "range", max_iters, script.names[parameter])[2], script)
+    answer = _answer(_run(problem, "range", max_iters, name)[2], script)
     found = answer.range
     return Span(answer.status) if found is None else Span("optimal", found.low, found.high, found.value, found.slope)
 

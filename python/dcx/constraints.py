@@ -2,11 +2,12 @@
 from __future__ import annotations
 
 from fractions import Fraction
+from typing import Any, Union
 
-from . import arrays, evaluation, shapes, sites
+from . import arrays, evaluation, missing, questions, shapes, sites
 from .arrays import Array
 from .errors import UnsupportedError
-from .expressions import Expression, as_expression, next_number
+from .expressions import Expression, Operand, as_expression, next_number
 from .trees import Made, Sided
 
 _TRUTH = ("Cannot evaluate the truth value of a constraint or chain constraints, e.g., 1 >= x >= 0: write two "
@@ -22,7 +23,7 @@ class Constraint(Sided, Made):
 
     __slots__ = ("op", "args", "shape", "site", "id", "is_turned", "_dual", "_known", "__weakref__")
 
-    def __init__(self, op: str, left, right, is_turned: bool = False):
+    def __init__(self, op: str, left: Operand, right: Operand, is_turned: bool = False):
         if op not in ("<=", "=="):
             raise ValueError(f"a constraint has the sign <= or ==, and not {op!r}")
         left, right = as_expression(left), as_expression(right)
@@ -82,7 +83,8 @@ class Constraint(Sided, Made):
         return verdict.is_dpp if dpp else verdict.is_dcp
 
     def is_dpp(self, context: str = "dcp") -> bool:
-        """Whether the rules accept it where parameters may vary too."""
+        """Whether the rules accept it where parameters may vary too. UnsupportedError of another context."""
+        questions.refuse_context(context)
         return self.is_dcp(dpp=True)
 
     # ---- values
@@ -96,26 +98,26 @@ class Constraint(Sided, Made):
         return Array(gap.shape, map(each, gap.entries))
 
     @property
-    def residual(self):
+    def residual(self) -> Any:
         """By how much each entry breaks the constraint, in floats, 0 where it is kept; None where a value is missing.
         """
         found = self._residual()
         return None if found is None else arrays.to_floats(found)
 
     @property
-    def exact_residual(self):
-        """The residual in fractions."""
+    def exact_residual(self) -> Any:
+        """The residual in fractions; None where a value is missing."""
         found = self._residual()
         return None if found is None else arrays.to_fractions(found)
 
-    def violation(self):
-        """The residual. ValueError where a variable or a parameter has no value."""
+    def violation(self) -> Any:
+        """The residual, in the constraint's shape. ValueError where a variable or a parameter has no value."""
         found = self.residual
         if found is None:
             raise ValueError("Cannot compute the violation of an constraint whose expression is None-valued.")
         return found
 
-    def value(self, tolerance=1e-8) -> bool:
+    def value(self, tolerance: Union[int, float, Fraction] = 1e-8) -> bool:
         """Whether the constraint is kept at the present values, each entry within the tolerance.
 
         ValueError where a variable or a parameter has no value.
@@ -128,13 +130,13 @@ class Constraint(Sided, Made):
     # ---- multipliers
 
     @property
-    def dual_value(self):
+    def dual_value(self) -> Any:
         """The multipliers of the last answer in floats, in the constraint's shape; None where there are none."""
         return None if self._dual is None else arrays.to_floats(self._dual)
 
     @property
-    def exact_dual(self):
-        """The multipliers of the last answer in fractions."""
+    def exact_dual(self) -> Any:
+        """The multipliers of the last answer in fractions, in the constraint's shape; None where there are none."""
         return None if self._dual is None else arrays.to_fractions(self._dual)
 
     def _set_dual(self, array: Array | None) -> None:
@@ -142,16 +144,19 @@ class Constraint(Sided, Made):
         self._dual = None if array is None else Array(self.shape, array.entries)
 
 
-def zero(expr) -> Constraint:
+missing.refuse(Constraint, "constraint")
+
+
+def zero(expr: Operand) -> Constraint:
     """The expression is 0, as `Zero(expr)`."""
     return Constraint("==", expr, 0)
 
 
-def nonnegative(expr) -> Constraint:
+def nonnegative(expr: Operand) -> Constraint:
     """The expression is at least 0, as `NonNeg(expr)`."""
     return Constraint("<=", 0, expr, is_turned=True)
 
 
-def nonpositive(expr) -> Constraint:
+def nonpositive(expr: Operand) -> Constraint:
     """The expression is at most 0, as `NonPos(expr)`."""
     return Constraint("<=", expr, 0)

@@ -43,6 +43,14 @@ class UnsupportedError(DCXError, NotImplementedError):
     """What was called isn't offered: the message says why, and what to write in its place."""
 
 
+class MissingError(UnsupportedError, AttributeError):
+    """An attribute of CVXPY's objects isn't offered: the message says why, and what to write in its place."""
+
+    def __init__(self, reason: str, site: Site | None = None):
+        super().__init__(reason, site)
+        self.obj = None  # else Python ends the message with a name that is like this one
+
+
 class LimitError(DCXError):
     """A limit of the program is passed: the message says which, and by how much."""
 

@@ -11,6 +11,7 @@ from dataclasses import Field, fields, is_dataclass
 from fractions import Fraction
 from typing import Iterator, Optional
 
+from .arrays import nested
 from .lines import Fault, Refusal, Stop
 from .reports import Answer, Report, Section
 from .shown.intervals import Interval
@@ -65,16 +66,6 @@ def is_left_out(value: object, one: Field) -> bool:
     """Whether a field says nothing, since it has its default: None, empty, or a mark that isn't set."""
     default = {} if one.default_factory is dict else one.default
     return getattr(value, one.name) == default
-
-
-def nested(shape: tuple[int, ...], items: list) -> object:
-    """Items in row-major order as a number, a list or a list of rows."""
-    if not shape:
-        return items[0]
-    if len(shape) == 1:
-        return items
-    columns = shape[1]
-    return [items[at : at + columns] for at in range(0, len(items), columns)]
 
 
 def report_csv(report: Report) -> str:

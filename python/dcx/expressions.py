@@ -2,13 +2,18 @@
 from __future__ import annotations
 
 import itertools
-from typing import Iterator, Sequence
+from typing import Any, Iterator, Optional, Sequence, Union
 
-from . import arrays, shapes, sites
+from . import arrays, missing, shapes, sites
 from .arrays import Array, Sparse
 from .errors import UnsupportedError
 from .questions import Questions
 from .trees import Made, Sided
+
+# what stands where an expression is wanted: one, or a number, an array, a sparse matrix, a list of numbers or of lists
+Operand = Any
+# the side that a call goes along, from 0 or from -1 downwards; None, or each side, where it goes over all entries
+Axis = Optional[Union[int, tuple[int, ...]]]
 
 _numbers = itertools.count(1)
 _COMPARED = ("Python's own max, min and sorted compare so: in their place stand cp.maximum(a, b), cp.minimum(a, b), "
@@ -86,15 +91,22 @@ class Expression(Questions, Sided, Made):
     # ---- values
 
     @property
-    def exact(self):
-        """The value in fractions, or None where a variable or a parameter in it has none."""
+    def exact(self) -> Any:
+        """The value in fractions: a `Fraction` where there is no side, else an array of them in the expression's shape,
+        or lists of rows where NumPy isn't there; None where a variable or a parameter in it has none.
+
+        Raises `ZeroDivisionError` where a divisor is 0.
+        """
         array = self._array()
         return None if array is None else arrays.to_fractions(array)
 
     @property
-    def value(self):
-        """The value in floats, evaluated in fractions first: a NumPy array, lists where NumPy isn't there, a float
-        where there is no side; None where a variable or a parameter in it has none."""
+    def value(self) -> Any:
+        """The value in floats, evaluated in fractions first: a NumPy array in the expression's shape, lists of rows
+        where NumPy isn't there, a float where there is no side; None where a variable or a parameter in it has none.
+
+        Raises `ZeroDivisionError` where a divisor is 0.
+        """
         array = self._array()
         return None if array is None else arrays.to_floats(array)
 
@@ -232,41 +244,48 @@ class Expression(Questions, Sided, Made):
         """The entries, column by column."""
         return iter(self.flatten(order="F"))
 
-    def sum(self, axis=None, dtype=None, out=None, *, keepdims: bool = False):
+    def sum(self, axis: Axis = None, dtype: None = None, out: None = None, *, keepdims: bool = False) -> Expression:
         """`sum(self, axis, keepdims)`."""
         return _method("sum", self, axis, keepdims, dtype, out)
 
-    def mean(self, axis=None, dtype=None, out=None, *, keepdims: bool = False):
+    def mean(self, axis: Axis = None, dtype: None = None, out: None = None, *, keepdims: bool = False) -> Expression:
         """`mean(self, axis, keepdims)`."""
         return _method("mean", self, axis, keepdims, dtype, out)
 
-    def max(self, axis=None, out=None, *, keepdims: bool = False):
+    def max(self, axis: Axis = None, out: None = None, *, keepdims: bool = False) -> Expression:
         """`max(self, axis, keepdims)`."""
         return _method("max", self, axis, keepdims, None, out)
 
-    def min(self, axis=None, out=None, *, keepdims: bool = False):
+    def min(self, axis: Axis = None, out: None = None, *, keepdims: bool = False) -> Expression:
         """`min(self, axis, keepdims)`."""
         return _method("min", self, axis, keepdims, None, out)
 
-    def cumsum(self, axis: int = 0):
+    def ptp(self, axis: Axis = None, out: None = None, *, keepdims: bool = False) -> Expression:
+        """`ptp(self, axis, keepdims)`."""
+        return _method("ptp", self, axis, keepdims, None, out)
+
+    def cumsum(self, axis: int = 0) -> Expression:
         """`cumsum(self, axis)`."""
         from . import atoms
         return atoms.cumsum(self, axis)
 
-    def trace(self):
+    def trace(self) -> Expression:
         """`trace(self)`."""
         from . import atoms
         return atoms.trace(self)
 
-    def flatten(self, order: str = "F"):
+    def flatten(self, order: str = "F") -> Expression:
         """`vec(self, order)`."""
         from . import atoms
         return atoms.vec(self, order)
 
-    def reshape(self, shape, order: str = "F"):
+    def reshape(self, shape: Union[int, Sequence[int]], order: str = "F") -> Expression:
         """`reshape(self, shape, order)`."""
         from . import atoms
         return atoms.reshape(self, shape, order)
+
+
+missing.refuse(Expression, "expression")
 
 
 def _operator(name: str, left, right):
@@ -289,11 +308,16 @@ class Compound(Expression):
 
 
 class Constant(Expression):
-    """Numbers that stand in a model: `array` holds them, exactly."""
+    """Numbers that stand in a model, `Constant(value, name=None)`: `array` holds them, exactly.
+
+    The value is a number, an array, a sparse matrix, or a list of numbers; in a list of lists each is a column, as in
+    CVXPY. Raises `ValueError` of NaN and infinities, of lists of different lengths, of more than two sides and of lists
+    of expressions, and `TypeError` of what is no number.
+    """
 
     __slots__ = ("array", "given_name")
 
-    def __init__(self, value, name: str | None = None):
+    def __init__(self, value: Operand, name: str | None = None):
         if isinstance(value, Expression):
             array = value._array() if not value.variables() and not value.parameters() else None
             if array is None:
@@ -317,7 +341,7 @@ class Constant(Expression):
         return self.array
 
 
-def refuse_lists_of_expressions(value) -> None:
+def refuse_lists_of_expressions(value: Operand) -> None:
     """ValueError where a list or an array of objects holds an expression, where one expression is wanted."""
     if isinstance(value, (list, tuple)):
         items, hint = value, ""
@@ -334,7 +358,7 @@ def refuse_lists_of_expressions(value) -> None:
             refuse_lists_of_expressions(item)
 
 
-def as_expression(value) -> Expression:
+def as_expression(value: Operand) -> Expression:
     """The value itself where it is an expression, else the constant of its numbers.
 
     ValueError of a list that holds expressions, of NaN and infinities; TypeError of what is no number.
@@ -343,13 +367,13 @@ def as_expression(value) -> Expression:
         return value
     if type(value) in (int, float):
         return Constant(value)
-    if isinstance(value, str) or value is None:
+    if isinstance(value, (str, Made)) or value is None:
         raise TypeError(f"{value!r} stands where an expression or numbers are wanted")
     item = boxed_expression(value)
     return item if item is not None else Constant(value)
 
 
-def boxed_expression(value) -> Expression | None:
+def boxed_expression(value: Operand) -> Expression | None:
     """The expression that an array of NumPy without a side holds, if it does."""
     if getattr(value, "shape", None) == () and getattr(getattr(value, "dtype", None), "kind", "") == "O":
         item = value.item()

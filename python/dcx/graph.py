@@ -11,6 +11,7 @@ from fractions import Fraction
 from typing import Any, Iterable, Optional, Union
 
 from .arrays import ZERO, Array, Sparse, size_of, transposed
+from .trees import postorder
 
 __all__ = ["Graph", "Part", "MOST", "PLAIN"]
 
@@ -55,7 +56,7 @@ class Graph:
         self.parts: list[Part] = []
         self._known: dict[tuple, Part] = {}
         roots = list(roots)
-        order = _in_order(roots)
+        order = list(postorder(roots))
         self._sparse = _written_by_rows(order, roots)
         self._parts_of: dict[int, Part] = {}
         for expression in order:
@@ -187,22 +188,6 @@ class Graph:
         return self._part("index", (other,), index, side, source)
 
 
-def _in_order(roots: Iterable[Any]) -> list[Any]:
-    """The expressions below the roots, each once, arguments first."""
-    order, seen = [], set()
-    for root in roots:
-        todo = [(root, False)]
-        while todo:
-            expression, finished = todo.pop()
-            if finished:
-                order.append(expression)
-            elif id(expression) not in seen:
-                seen.add(id(expression))
-                todo.append((expression, True))
-                todo.extend((arg, False) for arg in reversed(expression.args))
-    return order
-
-
 def _written_by_rows(order: list[Any], roots: list[Any]) -> dict[int, Sparse]:
     """The matrices, by the id of their constants, whose products have fewer entries when they are written out by
     rows."""
@@ -224,7 +209,7 @@ def _written_by_rows(order: list[Any], roots: list[Any]) -> dict[int, Sparse]:
         if any(product.kind != "@" or all(arg.kind == "constant" for arg in product.args) for product in products):
             continue
         matrix = _sparse(constant.array)
-        as_one = constant.array.size + sum(_size(product) for product in products)
+        as_one = constant.array.size + sum(product.size for product in products)
         if sum(_entries_by_rows(matrix, constant, product) for product in products) < as_one:
             found[key] = matrix
     return found
@@ -251,12 +236,7 @@ def _entries_by_rows(matrix: Sparse, constant: Any, product: Any) -> int:
     factors = {size for _, size in terms if size != 1}
     count = len({place for place, _ in terms}) + sum(size != 1 for _, size in terms) + len(negative)
     count += sum(max(0, len(row) - 1) for row in rows) + (len(factors) if side else 0)
-    return count * size_of(side) + len(factors) + _size(product) * (2 if columns and side else 1)
-
-
-def _size(expression: Any) -> int:
-    """How many entries an expression has."""
-    return size_of(expression.shape)
+    return count * size_of(side) + len(factors) + product.size * (2 if columns and side else 1)
 
 
 class _Count:

@@ -1,13 +1,14 @@
 """Variables and parameters: their shapes, names, attributes and values."""
 from __future__ import annotations
 
-from fractions import Fraction
+from contextlib import contextmanager
+from typing import Any, Iterator, Sequence, Union
 
-from . import arrays, foreign, shapes, sites
+from . import arrays, foreign, missing, shapes, sites, spelling
 from .arrays import Array, Sparse
 from .constraints import Constraint
 from .errors import UnsupportedError
-from .expressions import Expression, next_number
+from .expressions import Expression, Operand, next_number
 
 # attributes of CVXPY that no constraint of linear pieces means
 _REFUSED = {
@@ -23,18 +24,24 @@ _REFUSED = {
 _OFFERED = ("nonneg", "nonpos", "pos", "neg", "symmetric", "diag", "boolean", "integer", "bounds")
 # what the program's language knows of a variable
 _OF_LANGUAGE = ("nonneg", "nonpos", "symmetric", "diag", "boolean", "integer")
+_INFINITY = float("inf")
+
+# how a shape is given: a whole number, or a tuple of at most two
+ShapeLike = Union[int, Sequence[int]]
 
 
 class Leaf(Expression):
     """A variable or a parameter.
 
-    `given_name` is the user's name or None, `id` a number of its own, and `attributes` tells of each attribute of the
-    program's language (nonneg, nonpos, symmetric, diag, boolean, integer) whether it holds.
+    `given_name` is the user's name or None, `id` a number of its own, and `attributes` tells of each attribute that
+    CVXPY has whether it holds: nonneg and nonpos also where pos, neg or bounds say so.
     """
 
-    __slots__ = ("given_name", "id", "attributes", "bounds", "_value", "_own")
+    __slots__ = ("given_name", "id", "attributes", "_ends", "_value", "_shown", "_own")
 
-    def __init__(self, kind: str, shape=(), name: str | None = None, value=None, **attributes):
+    def __init__(
+        self, kind: str, shape: ShapeLike = (), name: str | None = None, value: Operand = None, **attributes: Any
+    ):
         if name is not None and not isinstance(name, str):
             raise TypeError(f"Variable name {name!r} must be a string.")
         super().__init__(kind, (), (), shapes.declared(shape))
@@ -42,6 +49,8 @@ class Leaf(Expression):
         self.given_name = name
         self.id = next_number()
         self._value: Array | None = None
+        # a value, and the floats that the user was given for it
+        self._shown = (None, None)
         self._own: list | None = None
         self._declare(attributes)
         if value is not None:
@@ -52,7 +61,7 @@ class Leaf(Expression):
     def _declare(self, given: dict) -> None:
         word = type(self).__name__
         for key, setting in given.items():
-            if key in _REFUSED and setting not in (None, False):
+            if key in _REFUSED and setting is not None and setting is not False:
                 raise UnsupportedError(f"{word}(.., {key}=..) isn't offered: {_REFUSED[key]}", sites.here())
             if key not in _OFFERED and key not in _REFUSED:
                 raise TypeError(f"{word} has no argument {key!r}")
@@ -60,10 +69,10 @@ class Leaf(Expression):
                 raise UnsupportedError(f"{word}(.., {key}=..) takes True or False, and no places: declare two "
                                        f"variables, one of them with {key}=True, and join them by hstack", sites.here())
         is_set = {key: bool(given.get(key)) for key in _OFFERED if key != "bounds"}
-        self.attributes = {key: is_set[key] for key in _OF_LANGUAGE}
+        self.attributes = {**is_set, **dict.fromkeys(_REFUSED, False), "bounds": given.get("bounds")}
         self.attributes["nonneg"] |= is_set["pos"]
         self.attributes["nonpos"] |= is_set["neg"]
-        self.bounds = None if given.get("bounds") is None else self._bounds(given["bounds"])
+        self._ends = None if given.get("bounds") is None else self._bounds(given["bounds"])
         self._judge(word)
 
     def _judge(self, word: str) -> None:
@@ -101,6 +110,26 @@ class Leaf(Expression):
         ends = list(found.entries) if shape else [found.entries[0]] * self.size
         return None if all(end is None for end in ends) else ends
 
+    @property
+    def bounds(self) -> list | None:
+        """The lower and the upper bounds in floats, in the leaf's shape, infinite where that end is open; None where
+        there are none."""
+        if self._ends is None:
+            return None
+        return [self._bound(ends, infinity) for ends, infinity in zip(self._ends, (-_INFINITY, _INFINITY))]
+
+    def _bound(self, ends: list | None, infinity: float):
+        each = [None] * self.size if ends is None else ends
+        return arrays.to_floats(Array(self.shape, (infinity if end is None else end for end in each)))
+
+    def is_pos(self) -> bool:
+        """Whether it was declared with pos=True, which is taken as nonneg=True."""
+        return self.attributes["pos"]
+
+    def is_neg(self) -> bool:
+        """Whether it was declared with neg=True, which is taken as nonpos=True."""
+        return self.attributes["neg"]
+
     # ---- names
 
     def name(self) -> str:
@@ -114,27 +143,49 @@ class Leaf(Expression):
 
     # ---- values
 
-    def _array(self) -> Array | None:
+    def _array(self) -> Array | Sparse | None:
+        array, shown = self._shown
+        if array is None or array is not self._value or not self.shape:
+            return self._value
+        rows = shown if isinstance(shown, list) else shown.tolist()
+        numbers = rows if self.ndim == 1 else [number for row in rows for number in row]
+        pairs = list(zip(array.entries, numbers))
+        if any(float(old) != new for old, new in pairs):
+            with self._named():
+                kept = [old if float(old) == new else arrays.exact(new) for old, new in pairs]
+            self._value = self._changed(Array(self.shape, kept))
+            self._shown = self._value, shown
         return self._value
 
+    def _changed(self, array: Array) -> Array | Sparse:
+        """The value after the user has set entries of the floats. As in CVXPY no attribute is tested."""
+        return array
+
     @property
-    def value(self):
+    def value(self) -> Any:
         """The value in floats: a NumPy array, lists where NumPy isn't there, a float where there is no side; None
-        before."""
-        return None if self._value is None else arrays.to_floats(self._value)
+        before. Entries that are set in this array are those of the value, as in CVXPY.
+
+        Setting it raises `ValueError` where its shape is another one, an attribute is broken, or an entry is NaN or
+        infinite, and `TypeError` where it is no numbers; then the value before stays.
+        """
+        array = self._array()
+        if array is not None and self._shown[0] is not array:
+            self._shown = array, arrays.to_floats(array)
+        return None if array is None else self._shown[1]
 
     @value.setter
-    def value(self, value) -> None:
+    def value(self, value: Operand) -> None:
         self._value = None if value is None else self._tested(value)
 
     @property
-    def exact(self):
-        """The value in fractions."""
+    def exact(self) -> Any:
+        """The value in fractions; None before."""
         array = self._array()
         return None if array is None else arrays.to_fractions(array)
 
-    def save_value(self, value) -> None:
-        """Sets the value as an answer does: its shape is tested, and no attribute."""
+    def save_value(self, value: Operand) -> None:
+        """Sets the value as an answer does: its shape is tested, and no attribute. Raises as setting `value`."""
         self._value = None if value is None else self._shaped(value)
 
     _set_value = save_value
@@ -143,43 +194,57 @@ class Leaf(Expression):
         if isinstance(value, Expression):
             array = value._array()
             if array is None:
-                raise ValueError("an expression without a value can't give one")
+                raise ValueError(f"an expression without a value can't give one to {self.name()}")
         else:
-            array = arrays.array_of(value)
+            with self._named():
+                array = arrays.array_of(value)
         if array.shape == self.shape:
             return array
         raise ValueError(f"Invalid dimensions {array.shape} for {type(self).__name__} value: {self.name()} has the "
                          f"shape {self.shape}.")
 
+    @contextmanager
+    def _named(self):
+        """Tells what is wrong with numbers by the leaf's name."""
+        try:
+            yield
+        except (TypeError, ValueError) as error:
+            kind = ValueError if isinstance(error, ValueError) else TypeError
+            raise kind(f"{type(self).__name__} value of {self.name()}: {error}") from None
+
     def _tested(self, value) -> Array | Sparse:
         array = self._shaped(value)
-        fault = self._fault(array)
-        if fault is not None:
-            raise ValueError(f"{type(self).__name__} value must be {fault}: {self.name()}")
+        for wanted, breaks in self._tests(array):
+            place = next((place for place, number in enumerate(array.entries) if breaks(place, number)), None)
+            if place is not None:
+                index = "" if not self.shape else [place] if self.ndim == 1 else list(divmod(place, self.shape[1]))
+                found = spelling.number_text(array.entries[place])
+                raise ValueError(f"{type(self).__name__} value must be {wanted}: {self.name()}{index} is {found}")
         return array
 
-    def _fault(self, array: Array | Sparse) -> str | None:
-        """The attribute that the value breaks, in CVXPY's words."""
-        entries = array.entries
+    def _tests(self, array: Array | Sparse) -> Iterator[tuple]:
+        """For each attribute its name in CVXPY's words, and whether an entry, of a place and a number, breaks it."""
         held = self.attributes
-        if held["nonneg"] and any(number < 0 for number in entries):
-            return "nonnegative"
-        if held["nonpos"] and any(number > 0 for number in entries):
-            return "nonpositive"
-        if held["symmetric"] and arrays.transposed(array.dense()) != array.dense():
-            return "symmetric"
-        if held["diag"] and any(number for place, number in enumerate(entries) if place % (self.shape[1] + 1)):
-            return "diagonal"
-        if held["boolean"] and any(number not in (0, 1) for number in entries):
-            return "boolean"
-        if held["integer"] and any(number.denominator != 1 for number in entries):
-            return "integer"
-        for ends, breaks in zip(self.bounds or (), (Fraction.__lt__, Fraction.__gt__)):
-            if ends is not None and any(end is not None and breaks(number, end) for number, end in zip(entries, ends)):
-                return "in bounds."
-        return None
+        if held["nonneg"]:
+            yield "nonnegative", lambda place, number: number < 0
+        if held["nonpos"]:
+            yield "nonpositive", lambda place, number: number > 0
+        if held["symmetric"]:
+            turned = arrays.transposed(array.dense()).entries
+            yield "symmetric", lambda place, number: number != turned[place]
+        if held["diag"]:
+            yield "diagonal", lambda place, number: number and place % (self.shape[1] + 1)
+        if held["boolean"]:
+            yield "boolean", lambda place, number: number not in (0, 1)
+        if held["integer"]:
+            yield "integer", lambda place, number: number.denominator != 1
+        low, high = self._ends or (None, None)
+        if low is not None:
+            yield "in bounds", lambda place, number: low[place] is not None and number < low[place]
+        if high is not None:
+            yield "in bounds", lambda place, number: high[place] is not None and number > high[place]
 
-    def project(self, value):
+    def project(self, value: Operand) -> Any:
         """Not offered: what is near to a value is a question of its own."""
         raise UnsupportedError("project isn't offered: minimize cp.norm1(x - value) under the constraints",
                                sites.here())
@@ -187,22 +252,29 @@ class Leaf(Expression):
     project_and_assign = project
 
 
+missing.refuse(Leaf, "leaf")
+
+
 class Variable(Leaf):
     """What is solved for: `Variable(shape=(), name=None, **attributes)`.
 
     Attributes are nonneg, nonpos, pos and neg (which are nonneg and nonpos, as in CVXPY), symmetric, diag, boolean,
     integer, and bounds=[l, u] with numbers, arrays, None and infinities as open ends.
+
+    Raises `ValueError` of a shape that is none, of attributes that exclude each other or want another shape, and of
+    bounds that are none; `TypeError` of an argument that CVXPY doesn't have, or a name that is no text;
+    `UnsupportedError` of what isn't made of linear pieces, as PSD, and of places in boolean or integer.
     """
 
     __slots__ = ()
 
-    def __init__(self, shape=(), name: str | None = None, var_id=None, **attributes):
+    def __init__(self, shape: ShapeLike = (), name: str | None = None, var_id: None = None, **attributes: Any):
         if var_id is not None:
             raise UnsupportedError("var_id isn't offered: a variable has a number of its own", sites.here())
         super().__init__("variable", shape, name, **attributes)
 
     def _judge(self, word: str) -> None:
-        low, high = self.bounds or (None, None)
+        low, high = self._ends or (None, None)
         held = self.attributes
         if not any(held[word] for word in _OF_LANGUAGE if word != "integer"):
             # bounds on one side of 0 give a sign, as they do in CVXPY
@@ -234,7 +306,7 @@ class Variable(Leaf):
             made.append(self >= 0)
         if held["nonpos"] and "nonpos" not in said:
             made.append(self <= 0)
-        for ends, sense in zip(self.bounds or (), ("low", "high")):
+        for ends, sense in zip(self._ends or (), ("low", "high")):
             if ends is not None:
                 made += self._bounded(ends, sense, said)
         for constraint in made:
@@ -264,37 +336,20 @@ class Variable(Leaf):
 
 class Parameter(Leaf):
     """Numbers that may vary: `Parameter(shape=(), name=None, value=None, **attributes)`. The attributes nonneg and
-    nonpos are what the rules know of it; every attribute is tested where a value is set."""
+    nonpos are what the rules know of it; every attribute is tested where a value is set. Raises as `Variable`, and
+    `ValueError` or `TypeError` of a value that doesn't fit, as where one is set."""
 
-    __slots__ = ("_shown",)
+    __slots__ = ()
 
-    def __init__(self, shape=(), name: str | None = None, value=None, id=None, **attributes):
+    def __init__(
+        self, shape: ShapeLike = (), name: str | None = None, value: Operand = None, id: None = None, **attributes: Any
+    ):
         if id is not None:
             raise UnsupportedError("id isn't offered: a parameter has a number of its own", sites.here())
-        # a value, and the array of floats that the user was given for it
-        self._shown = (None, None)
         super().__init__("parameter", shape, name, value, **attributes)
 
-    @Leaf.value.getter
-    def value(self):
-        """The value in floats. Entries that are set in this array are the parameter's, as in CVXPY."""
-        array = self._array()
-        if array is not None and self._shown[0] is not array:
-            self._shown = array, arrays.to_floats(array)
-        return None if array is None else self._shown[1]
-
-    def _array(self) -> Array | Sparse | None:
-        array, shown = self._shown
-        if array is None or array is not self._value or not self.shape:
-            return self._value
-        rows = shown if isinstance(shown, list) else shown.tolist()
-        numbers = rows if self.ndim == 1 else [number for row in rows for number in row]
-        pairs = list(zip(array.entries, numbers))
-        if any(float(old) != new for old, new in pairs):
-            kept = (old if float(old) == new else arrays.exact(new) for old, new in pairs)
-            self._value = self._tested(Array(self.shape, kept))
-            self._shown = self._value, shown
-        return self._value
+    def _changed(self, array: Array) -> Array | Sparse:
+        return self._tested(array)
 
     def _judge(self, word: str) -> None:
         super()._judge(word)
@@ -319,7 +374,7 @@ class _Ends:
 
 
 def _open_ended(item, sign: int) -> _Ends:
-    infinity = float("inf") * sign
+    infinity = _INFINITY * sign
 
     def end(value):
         if value is None:

@@ -6,6 +6,7 @@ import math
 import numbers
 from decimal import Decimal
 from fractions import Fraction
+from typing import Any
 
 from .errors import LimitError
 
@@ -26,9 +27,12 @@ def float_digits(significant: int | None = None, decimals: int | None = None) ->
     Sums and products of floats have errors in their last digits: `1 - 0.9` is 0.09999999999999998, which twelve digits
     of either kind make a tenth, and `0.1 + 0.2 - 0.3` is 5.551115123125783e-17, which twelve decimals make 0. A Python
     `int`, a `Fraction` and a `Decimal` stay what they are.
+
+    ValueError of digits that are no such count.
     """
     for count, least, most in ((significant, 1, 17), (decimals, 0, 30)):
-        if count is not None and not (isinstance(count, int) and least <= count <= most):
+        is_count = isinstance(count, int) and not isinstance(count, bool)
+        if count is not None and not (is_count and least <= count <= most):
             raise ValueError(f"digits are {least} to {most}, and not {count!r}")
     global _kept
     _kept = (significant, decimals)
@@ -42,7 +46,7 @@ def _digits_of(value: float) -> Fraction:
     return number if decimals is None else Fraction(round(number, decimals))
 
 
-def exact(value) -> Fraction:
+def exact(value: Any) -> Fraction:
     """The fraction that `value` means: a whole number, a `Fraction` and a `Decimal` mean themselves, a float the
     shortest decimal that is read as that float, which is the one that Python prints, so `0.1` is a tenth.
 
@@ -190,14 +194,14 @@ def _round_one(value, digits: int | None, significant: int | None) -> Fraction:
     return Fraction(round(number, digits))
 
 
-def rounded(data, digits: int | None = None, *, significant: int | None = None):
+def rounded(data: Any, digits: int | None = None, *, significant: int | None = None) -> Any:
     """The data with each number rounded to `digits` decimal digits, or to as many `significant` ones, halves to even.
 
     A number gives a `Fraction`, a list or a tuple one of the same nesting, a NumPy array an array of fractions, and a
     sparse matrix of SciPy a sparse matrix of floats, each of which is read as the rounded decimal.
 
-    TypeError where neither or both of the two are given; ValueError where digits don't fit into a float of a sparse
-    matrix.
+    TypeError where neither or both of the two are given, or of what is no number; ValueError of NaN and infinities, of
+    no significant digit, and where digits don't fit into a float of a sparse matrix.
     """
     if (digits is None) == (significant is None):
         raise TypeError("rounded(data, digits) or rounded(data, significant=count): one of the two, and not both")

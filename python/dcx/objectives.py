@@ -8,6 +8,7 @@ from typing import Any, Optional
 from . import sites
 from .errors import DCPError
 from .expressions import Expression, as_expression
+from .questions import refuse_context
 from .trees import Made
 
 __all__ = ["Maximize", "Minimize", "Objective"]
@@ -62,8 +63,10 @@ class Objective(Made):
 
         return problems.Problem(self).is_dcp(dpp)
 
-    def is_dpp(self) -> bool:
-        """Whether the rules accept the objective also where its parameters may vary."""
+    def is_dpp(self, context: str = "dcp") -> bool:
+        """Whether the rules accept the objective also where its parameters may vary. UnsupportedError of another
+        context."""
+        refuse_context(context)
         return self.is_dcp(dpp=True)
 
     def __neg__(self) -> Objective:
@@ -81,7 +84,7 @@ class Objective(Made):
     __radd__ = __add__
 
     def __sub__(self, other: Any) -> Objective:
-        return self + -other if isinstance(other, Objective) else self + other if other == 0 else NotImplemented
+        return self + -other if isinstance(other, Objective) else self.__add__(other)
 
     def __mul__(self, factor: Any) -> Objective:
         if isinstance(factor, (Objective, Expression)):

@@ -5,13 +5,14 @@ from __future__ import annotations
 import warnings
 from typing import Any, Callable, Iterable, Mapping, NamedTuple, Optional
 
-from . import sites
+from . import missing, sites
 from .answered import Answered, Solution, SolverStats
 from .arguments import Arguments
 from .constraints import Constraint
-from .errors import DCPError, UnsupportedError
-from .expressions import Constant
+from .errors import DCPError
+from .expressions import Constant, Expression
 from .objectives import Maximize, Objective
+from .questions import refuse_context
 from .results import Result
 from .scripts import Script, written
 from .trees import Made
@@ -42,7 +43,8 @@ class Problem(Answered, Made):
     it; where the objective goes on for ever `ray` has the point and the direction. `report` has the bytes that the
     program printed.
 
-    Raises `DCPError` where the objective is none, `ValueError` where a constraint is none.
+    Raises `DCPError` where the objective is none, `ValueError` where a constraint is none, `TypeError` where the
+    constraints are no list.
     """
 
     def __init__(self, objective: Objective, constraints: Optional[Iterable[Any]] = None):
@@ -53,7 +55,8 @@ class Problem(Answered, Made):
         if isinstance(constraints, Constraint):
             raise TypeError("the constraints are a list, and not a constraint: write [constraint]")
         self._objective = objective
-        self._constraints = [_constraint(item) for item in (() if constraints is None else constraints)]
+        listed = () if constraints is None else constraints
+        self._constraints = [_constraint(item, place) for place, item in enumerate(listed)]
         self._script: Optional[Script] = None
         self._verdict: Any = None
         self._arguments_told = False
@@ -103,9 +106,9 @@ class Problem(Answered, Made):
         return self._verdict.is_dpp if dpp else self._verdict.is_dcp
 
     def is_dpp(self, context: str = "dcp") -> bool:
-        """Whether the rules accept the problem also where its parameters may vary."""
-        if context != "dcp":
-            raise ValueError(f"Unsupported context {context}: the rules are those of 'dcp'")
+        """Whether the rules accept the problem also where its parameters may vary. UnsupportedError of another context.
+        """
+        refuse_context(context)
         return self.is_dcp(dpp=True)
 
     def is_qp(self) -> bool:
@@ -136,7 +139,13 @@ class Problem(Answered, Made):
 
     # -- answers
 
-    def solve(self, solver: Optional[str] = None, verbose: bool = False, **arguments: Any) -> float:
+    def solve(
+        self,
+        solver: Optional[str] = None,
+        warm_start: Optional[bool] = None,
+        verbose: bool = False,
+        **arguments: Any,
+    ) -> float:
         """Solves the problem at the parameters' values, and returns its value: infinite where it is infeasible or
         unbounded.
 
@@ -153,18 +162,19 @@ class Problem(Answered, Made):
         `max_nodes` boxes are solved at the most, and `progress` is called with a `dcx.whole.search.Progress` as it
         goes. Where a limit is passed, or Python is interrupted, the best point is kept, with the status `user_limit`.
 
-        The other arguments of CVXPY's solve and of its solvers are taken and have no meaning here, since there is one
-        solver and its answers are exact; `verbose` says so, and what is done.
+        The other arguments of CVXPY's solve, `warm_start` among them, and of its solvers are taken and have no meaning
+        here, since there is one solver and its answers are exact; `verbose` says so, and what is done.
 
         Raises `DCPError` where the rules refuse the problem, `ParameterError` where a parameter has no value,
         `LimitError` where the model passes a limit of the language, `SolverError` where there is no answer (then there
         are no values), `CertificateError` where the program refuses what the exact solver says, `ProgramError` where
         it can't be run, `UnsupportedError` where an argument asks for what isn't offered, `TypeError` where one isn't
-        known.
+        known, `ValueError` where a limit is none.
         """
         from . import solving
 
-        return solving.solve(self, Arguments(solver, arguments), verbose)
+        given = arguments if warm_start is None else {"warm_start": warm_start, **arguments}
+        return solving.solve(self, Arguments(solver, given), verbose)
 
     def verify(
         self,
@@ -267,35 +277,12 @@ class Problem(Answered, Made):
         return [self._objective.expr, *(side for item in self._constraints for side in item.args)]
 
 
-# what a problem of CVXPY has and this one doesn't, with the reason
-_REFUSED = {
-    "get_problem_data": "there is no other solver's data: problem.script() and problem.settings() are handed over",
-    "unpack_results": "there are no other solver's results to take",
-    "unpack": "there are no other solver's results to take",
-    "register_solve": "call the function itself with the problem",
-    "backward": "derivatives aren't taken; problem.range(p) tells the value along a parameter",
-    "derivative": "derivatives aren't taken; problem.range(p) tells the value along a parameter",
-}
+missing.refuse(Problem, "problem")
 
 
-def _refusing(name: str, reason: str) -> Callable[..., Any]:
-    """A method that says why it isn't offered."""
-
-    def method(self: Problem, *args: Any, **arguments: Any) -> Any:
-        raise UnsupportedError(f"problem.{name}(..) isn't offered: {reason}", sites.here())
-
-    method.__name__ = name
-    method.__doc__ = f"Not offered: {reason}."
-    return method
-
-
-for _name, _reason in _REFUSED.items():
-    setattr(Problem, _name, _refusing(_name, _reason))
-
-
-def _constraint(item: Any) -> Constraint:
-    """A constraint of the list; a truth value is one that always or never holds, as in CVXPY, with a warning where it
-    never does: NumPy says False where it can't compare."""
+def _constraint(item: Any, place: int) -> Constraint:
+    """A constraint of the list, at a place from 0; a truth value is one that always or never holds, as in CVXPY, with
+    a warning where it never does: NumPy says False where it can't compare."""
     if isinstance(item, Constraint):
         return item
     if isinstance(item, bool) or type(item).__name__ in ("bool_", "bool"):
@@ -303,4 +290,9 @@ def _constraint(item: Any) -> Constraint:
             site = sites.here()
             warnings.warn_explicit(_NEVER, UserWarning, site.file, site.line)
         return Constraint("<=", Constant(0 if item else 1), Constant(1 if item else 0))
-    raise ValueError(f"Problem has an invalid constraint of type {type(item)}")
+    hint = ""
+    if isinstance(item, (list, tuple)):
+        hint = "; lists are joined by +, and not put into each other"
+    elif isinstance(item, Expression):
+        hint = f"; `{item}` is an expression: compare it by <=, >= or =="
+    raise ValueError(f"Problem has an invalid constraint of type {type(item)} at place {place} of the list{hint}")

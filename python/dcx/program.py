@@ -24,9 +24,10 @@ try:
 except ImportError:  # a system without limits of this kind
     resource = None
 
-__all__ = ["ProgramError", "Run", "TimedOut", "find", "run"]
+__all__ = ["ProgramError", "Run", "TimedOut", "find", "limit_memory", "patience", "run"]
 
 _MEMORY = 4096  # MiB, where DCX_MEMORY says nothing
+_LONGEST = 1_000_000  # seconds: more than this some systems don't count in a wait
 _seen: dict[str, tuple[int, int]] = {}  # programs whose checksum was right: size and time of change
 
 
@@ -95,8 +96,8 @@ def run(
     """Runs the program with this word over these files.
 
     `contents` are the files' contents, in the order of the word's operands (text is written as UTF-8). `options`
-    stand behind them: the name of a parameter, `--warm`, `--max-pivots=N`. `timeout` is in seconds; without it the
-    program takes its time.
+    stand behind them: the name of a parameter, `--warm`, `--max-pivots=N`. `timeout` is in seconds; without it, or
+    above a million, the program takes its time.
 
     The program may use as many MiB of memory as the variable `DCX_MEMORY` says, 4096 where it says nothing, and never
     more than the hard limit of the process; where that is too little it says `want of memory` or stops a setting.
@@ -132,7 +133,7 @@ def run(
             raise ProgramError(f"{program} can't be run: {error.strerror or error}") from error
         _limit(process.pid, limit)
         try:
-            report, said = process.communicate(timeout=timeout)
+            report, said = process.communicate(timeout=patience(timeout))
         except subprocess.TimeoutExpired:
             raise TimedOut(f"the program had no answer after {timeout:g} s, and was ended (word {word!r})") from None
         finally:
@@ -148,6 +149,12 @@ def run(
         text = said.decode(errors="replace").strip() or "nothing was said"
         raise ProgramError(f"{program} ended with status {status} and without a report of dcx: {text}")
     return Run(word, status, report)
+
+
+def patience(seconds: Optional[float]) -> Optional[float]:
+    """How long a process is waited for: as long as it takes where there is no limit, or one of more than a million
+    seconds."""
+    return seconds if seconds is None or seconds <= _LONGEST else None
 
 
 def _write(file, content: bytes) -> None:
@@ -167,7 +174,8 @@ def _memory() -> int:
 
 
 def limit_memory(pid: int) -> None:
-    """Sets the limit on the memory of another process that works for the package: the one that the program has."""
+    """Sets the limit on the memory of a process that works for the package, or is to be the program: the one that the
+    program has. Raises `ProgramError` where the variable `DCX_MEMORY` is no number."""
     _limit(pid, _memory())
 
 

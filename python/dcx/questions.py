@@ -6,6 +6,12 @@ from . import sites
 from .errors import UnsupportedError
 
 
+def refuse_context(context: str) -> None:
+    """UnsupportedError where the rules that are asked for aren't those of convexity."""
+    if context != "dcp":
+        raise UnsupportedError(f"there are no rules of the name {context!r}: \"dcp\" is the one context", sites.here())
+
+
 class Questions:
     """The questions, which the program answers: see `verdicts`."""
 
@@ -46,10 +52,9 @@ class Questions:
         return self._verdict().is_dpp if dpp else self._verdict().is_dcp
 
     def is_dpp(self, context: str = "dcp") -> bool:
-        """Whether the rules find it convex or concave where parameters may vary too."""
-        if context != "dcp":
-            raise UnsupportedError(f"there are no rules of the name {context!r}: \"dcp\" is the one context",
-                                   sites.here())
+        """Whether the rules find it convex or concave where parameters may vary too. UnsupportedError of another
+        context."""
+        refuse_context(context)
         return self._verdict().is_dpp
 
     def is_nonneg(self) -> bool:
@@ -66,6 +71,14 @@ class Questions:
 
     def is_pwl(self) -> bool:
         """Whether it is piecewise linear: everything that is offered is."""
+        return True
+
+    def is_quadratic(self) -> bool:
+        """Whether it is at most quadratic by its form: here, where it is affine."""
+        return self.is_affine()
+
+    def is_qpwa(self) -> bool:
+        """Whether it is quadratic of what is piecewise affine: everything that is offered is piecewise affine."""
         return True
 
     def is_real(self) -> bool:

@@ -123,7 +123,9 @@ class Result:
         no variable of it."""
         if variable in self.script.idle:
             return filled(variable.shape, 0) if self.status in _WITH_POINT else None
-        name = self.script.names[variable]
+        name = self.script.names.get(variable)
+        if name not in self.script.variables:
+            raise KeyError(f"{variable!r} is no variable that the problem reaches")
         return _array(self.answer.variables[name]) if self.status in _WITH_POINT else None
 
     def dual_value(self, constraint: Any) -> Any:
@@ -138,8 +140,10 @@ class Result:
 
     def dual_array(self, constraint: Any) -> Optional[Array]:
         """The multipliers of a constraint as an exact array, None where the problem isn't optimal or is one in whole
-        numbers."""
-        number = self.script.numbers[constraint]
+        numbers. Raises `KeyError` of what is no constraint of it."""
+        number = self.script.numbers.get(constraint)
+        if number is None:
+            raise KeyError(f"{constraint!r} is no constraint of the problem")
         found = self.answer.duals.get(number) if self.status in _WITH_POINT else None
         return None if found is None else Array(constraint.shape, found.entries)
 

@@ -9,10 +9,9 @@ from typing import Any, Callable, Iterable, Iterator, Mapping, NamedTuple, Optio
 
 from . import program, solving
 from .arguments import box as box_of
-from .arguments import pivots, seconds_of, trust_of
+from .arguments import pivots, seconds_of, trust_of, whole_number
 from .certificates import CertificateError
 from .errors import ParameterError, SolverError
-from .expressions import Expression
 from .refusals import taken
 from .reports import Report, read_report
 from .results import Result
@@ -34,9 +33,9 @@ class Part(NamedTuple):
 
     @property
     def name(self) -> str:
-        """What the part is called where it is told of; people count from 1."""
+        """What the part is called where it is told of: its place in the user's list, as Python writes it."""
         last = self.first + self.count
-        return f"setting {last}" if self.count == 1 else f"settings {self.first + 1} to {last}"
+        return f"settings[{self.first}]" if self.count == 1 else f"settings[{self.first}:{last}]"
 
 
 def run_part(script: str, lines: str, options: tuple[str, ...]) -> program.Run:
@@ -84,8 +83,11 @@ def solve_at(
     `error` that names the part; the others stay. A setting that has no answer has such a result as well.
 
     Raises `DCPError`, `LimitError` as `Problem.solve`; `ParameterError` where a setting leaves a parameter without a
-    value; `KeyError` where it names what is no parameter of the problem, `ValueError` where a value doesn't fit.
+    value; `KeyError` where it names what is no parameter of the problem, `ValueError` where a value doesn't fit or a
+    limit is none; `TypeError` where a setting is no dictionary, or what is to carry the parts no executor.
     """
+    if executor is not None and not callable(getattr(executor, "submit", None)):
+        raise TypeError(f"an executor has a method submit, as those of concurrent.futures, and {executor!r} has none")
     script = problem.written
     settings = list(settings)
     lines = [_line(script, setting, number) for number, setting in enumerate(settings)]
@@ -260,9 +262,7 @@ def _outcome(part: Part, ask: Callable[[], program.Run]) -> Union[Report, Except
 def _chunk(chunk: Optional[int], count: int, executor: Any) -> int:
     """How many settings a part has: as many as are asked for, else enough for four parts for each worker."""
     if chunk is not None:
-        if isinstance(chunk, bool) or int(chunk) != chunk or chunk < 1:
-            raise ValueError(f"chunk is a whole number from 1 to {MOST_SETTINGS:,}, and not {chunk!r}")
-        return min(int(chunk), MOST_SETTINGS)
+        return min(whole_number(chunk, "chunk"), MOST_SETTINGS)
     if executor is None:
         return MOST_SETTINGS
     workers = getattr(executor, "_max_workers", None) or os.cpu_count() or 1
@@ -283,28 +283,20 @@ def _cut(lines: list[str], chunk: int) -> Iterator[Part]:
 
 
 def _line(script: Script, setting: Mapping[Any, Any], number: int) -> str:
-    """The line of a setting. What is wrong with it is told with its number."""
+    """The line of a setting. What is wrong with it is told with its place in the list, from 0."""
     if not isinstance(setting, Mapping):
         kind = type(setting).__name__
-        raise TypeError(f"setting {number} is a {kind}, and not a dictionary of parameters with their values")
+        raise TypeError(f"settings[{number}] is a {kind}, and not a dictionary of parameters with their values")
     values = {}
     for key, value in setting.items():
-        parameter = key if isinstance(key, Expression) else _by_name(script, key)
-        if parameter not in script.names and parameter not in script.idle or parameter.kind != "parameter":
-            raise KeyError(f"setting {number} names {key!r}, which is no parameter that the problem reaches")
+        parameter = script.leaf("parameter", key)
+        if parameter is None:
+            raise KeyError(f"settings[{number}] names {key!r}, which is no parameter that the problem reaches")
         try:
             values[parameter] = parameter._tested(value)
         except (ValueError, TypeError) as error:
-            raise type(error)(f"setting {number}: {error}") from None
+            raise type(error)(f"settings[{number}]: {error}") from None
     try:
         return script.settings_line(values)
     except ParameterError as error:
-        raise ParameterError(f"setting {number}: {error.reason}", error.site) from None
-
-
-def _by_name(script: Script, name: Any) -> Any:
-    """The parameter of this name: the user's, or the script's."""
-    for parameter in script.parameters.values():
-        if parameter.given_name == name:
-            return parameter
-    return script.parameters.get(name) if isinstance(name, str) else None
+        raise ParameterError(f"settings[{number}]: {error.reason}", error.site) from None

@@ -54,6 +54,18 @@ class Script:
         and in bytes; None where there is none."""
         return self._places.at(line, column)
 
+    def leaf(self, kind: str, key: Any) -> Any:
+        """The variable or the parameter of the problem, as `kind` says, that a key is or names, by the user's name or
+        the script's; None where it is none. Raises `KeyError` where several have the name."""
+        if not isinstance(key, str):
+            is_reached = key in self.names or key in self.idle
+            return key if is_reached and key.kind == kind else None
+        own = self.variables if kind == "variable" else self.parameters
+        named = [leaf for leaf in (*own.values(), *self.idle) if leaf.kind == kind and leaf.name() == key]
+        if len(named) > 1:
+            raise KeyError(f"{key!r} is the name of {len(named)} {kind}s: give the {kind} itself in its place")
+        return named[0] if named else own.get(key)
+
     def settings_line(self, values: Optional[Mapping[Any, Array]] = None) -> str:
         """The line of settings, with its end, that gives each parameter its value in `values`, else the one that it
         has.

@@ -9,7 +9,7 @@ from typing import Any, Callable, NamedTuple, Optional
 from . import program
 from .arguments import Arguments
 from .certificates import CertificateError
-from .errors import DPPError, SolverError
+from .errors import DCXError, DPPError, SolverError
 from .lines import Stop
 from .refusals import read, stopped
 from .results import Result
@@ -100,8 +100,13 @@ class _Solve:
             error = self.given.too_late(cause, problem.site) if isinstance(cause, program.TimedOut) else cause
             self.keep(None, error=error)
             raise error from None
-        except KeyboardInterrupt:
-            self.keep(None, error=SolverError("the solve was interrupted", problem.site))
+        except DCXError:  # the model is refused, and nothing was solved
+            raise
+        except BaseException as cause:  # an interruption, or what the user's own `progress` raises
+            reason = "the solve was interrupted"
+            if not isinstance(cause, KeyboardInterrupt):
+                reason = f"the solve was ended by {type(cause).__name__}: {cause}"
+            self.keep(None, error=SolverError(reason, problem.site))
             raise
         answer = answer if shown is None else shown.answer
         result = self.keep(answer, seconds=time.perf_counter() - start, shown=shown)

@@ -10,13 +10,14 @@ from dataclasses import dataclass, replace
 from fractions import Fraction
 from typing import NamedTuple, Optional
 
+from .arrays import size_of
 from .exact.elaborate import Script
 from .exact.faults import Refused
 from .exact.grammar import parse
 from .exact.settings import parse_settings
 from .exact.tokens import text_of, tokens_of
 from .exact.values import List, Text
-from .values import Entries, Place, number_text, size
+from .values import Entries, Place, number_text
 
 EDGES = {",", "=", "+=", ":", ";"}
 OPENING, CLOSING = {"(", "[", "{"}, {")", "]", "}"}
@@ -60,9 +61,9 @@ class Sources:
     def of_row(self, row: int) -> Optional[tuple[int, int]]:
         """The constraint, from 1, and the entry, from 0, that a row of the reduced program is; None of another row."""
         for number, shape in self.shapes.items():
-            if row < size(shape):
+            if row < size_of(shape):
                 return number, row
-            row -= size(shape)
+            row -= size_of(shape)
         return None
 
 

@@ -1,6 +1,8 @@
 """Expressions as text for people: short, and cut where they are long."""
 from __future__ import annotations
 
+from fractions import Fraction
+
 from .errors import LimitError
 from .expressions import Expression
 from .numbers import text
@@ -62,7 +64,7 @@ def _of_constant(item) -> str:
         return item.given_name
     if item.size > 8:
         return f"array of shape {item.shape}"
-    entries = [_number(number) for number in item.array.dense().entries]
+    entries = [number_text(number) for number in item.array.dense().entries]
     if not item.shape:
         return entries[0] if not entries[0].startswith("-") and "/" not in entries[0] else f"({entries[0]})"
     if item.ndim == 1:
@@ -72,7 +74,8 @@ def _of_constant(item) -> str:
     return "[" + ", ".join(f"[{row}]" for row in rows) + "]"
 
 
-def _number(number) -> str:
+def number_text(number: Fraction) -> str:
+    """A number as the program's language writes it, or near to it where that has no such number."""
     try:
         return text(number)
     except LimitError:

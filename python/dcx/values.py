@@ -9,7 +9,9 @@ from fractions import Fraction
 from functools import lru_cache
 from typing import Callable, NamedTuple, Optional
 
-LARGEST = 2**127 - 1
+from .arrays import size_of
+from .numbers import GREATEST
+
 # No number has more than 39 digits, and no count, side, line or column more than ten.
 COUNT = re.compile(r"0|[1-9][0-9]{0,9}")
 NUMBER = re.compile(r"0|(-?[1-9][0-9]{0,38})(?:/([1-9][0-9]{0,38}))?")
@@ -60,7 +62,7 @@ def read_number(text: str) -> Fraction:
         value = Fraction(numerator, denominator)
         if value.denominator != denominator or denominator == 1:
             raise Misread(f"a number in lowest terms, and not {text!r}")
-    if abs(value.numerator) > LARGEST or value.denominator > LARGEST:
+    if abs(value.numerator) > GREATEST or value.denominator > GREATEST:
         raise Misread(f"a number of 128 bits, and not {text!r}")
     return value
 
@@ -91,14 +93,6 @@ def read_shape(text: str) -> tuple[int, ...]:
 def shape_text(shape: tuple[int, ...]) -> str:
     """`()`, `(n)` or `(m,n)`."""
     return f"({','.join(str(side) for side in shape)})"
-
-
-def size(shape: tuple[int, ...]) -> int:
-    """How many entries an array of the shape has."""
-    count = 1
-    for side in shape:
-        count *= side
-    return count
 
 
 def read_place(text: str) -> Place:
@@ -176,8 +170,8 @@ def read_array(line: str) -> Named:
         raise Misread(f"a line of numbers, and not {line!r}")
     shape = read_shape(words[2])
     entries = tuple([read_number(word) for word in words[4:]])
-    if len(entries) != size(shape):
-        raise Misread(f"{size(shape)} numbers behind {words[2]}, and not {len(entries)}")
+    if len(entries) != size_of(shape):
+        raise Misread(f"{size_of(shape)} numbers behind {words[2]}, and not {len(entries)}")
     return Named(words[0], read_name(words[1]), Entries(shape, entries))
 
 

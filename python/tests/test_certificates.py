@@ -170,6 +170,7 @@ class Ranges(unittest.TestCase):
         x, y, p = cp.Variable(nonneg=True), cp.Variable(nonneg=True), cp.Parameter(name="p", value=3)
         problem = cp.Problem(cp.Minimize(2 * x + y), [x + y >= p, y <= 4])
         self.assertEqual(problem.range(p), ("optimal", 0, 4, 0, 1))
+        self.assertEqual(problem.range("p"), problem.range(p))
         p.value = 6
         span = problem.range(p)
         self.assertEqual(span, ("optimal", 4, None, -4, 2))
@@ -181,6 +182,7 @@ class Ranges(unittest.TestCase):
 
     def test_the_value_along_the_way(self):
         draw = np.random.default_rng(9)
+        met = 0
         for _ in range(8):
             x, p, q = cp.Variable(4, nonneg=True), cp.Parameter(value=5), cp.Parameter(4, value=draw.integers(1, 9, 4))
             A, c = draw.integers(0, 5, (3, 4)), draw.integers(1, 9, 4)
@@ -188,11 +190,13 @@ class Ranges(unittest.TestCase):
             span = problem.range(p)
             if span.status != "optimal":
                 continue
+            met += 1
             ends = [end for end in (span.low, span.high) if end is not None]
             for value in [p.exact, *ends, *[(end + p.exact) / 2 for end in ends]]:
                 p.value = value
                 problem.solve()
                 self.assertEqual(span.at(value), problem.exact)
+        self.assertGreater(met, 5)
 
     def test_where_there_is_none(self):
         x, p, v = cp.Variable(), cp.Parameter(value=0), cp.Parameter(2, value=[1, 2])

@@ -110,6 +110,24 @@ class Run(Folder):
             self.assertIn('model.py", line 3', told)
             self.assertIn(f"\n{name}: ", told)
 
+    def test_values_and_numbers_show_the_users_line_alone(self):
+        wide, no_number = 10**50 + 1, 'float("nan")'
+        for line, told_of in ((f"p.value = [1, {no_number}]", "ValueError: Parameter value of p: NaN"),
+                              ("p.value = [1, '3']", "TypeError: Parameter value of p: '3'"),
+                              (f"cp.Problem(cp.Minimize(p[0]), [p >= {wide}]).script()", "LimitError: ")):
+            told = run("run", self.script(f"import cvxpy as cp\np = cp.Parameter(2, name='p')\n{line}\n"))[1]
+            self.assertEqual(told.count('  File "'), 1, told)
+            self.assertIn('model.py", line 3', told)
+            self.assertIn(told_of, told)
+
+    def test_a_context_of_the_users_own_is_shown(self):
+        lines = ["import contextlib", "", "", "@contextlib.contextmanager", "def told():", "    try:", "        yield",
+                 "    except KeyError:", "        raise ValueError(3) from None", "", "",
+                 "with told():", "    {}[1]", ""]
+        script = self.script("\n".join(lines))
+        wanted = subprocess.run([sys.executable, script], capture_output=True, text=True)
+        self.assertEqual(run("run", script)[1], wanted.stderr)
+
     def test_causes_are_shown_too(self):
         told = run("run", self.script(CAUSED))[1]
         self.assertIn("direct cause", told)

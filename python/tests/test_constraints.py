@@ -139,6 +139,14 @@ class Rules(unittest.TestCase):
             with self.subTest(str(made)):
                 self.assertEqual((made.is_dcp(), made.is_dpp(), made.is_dcp(dpp=True)), (is_dcp, is_dpp, is_dpp))
 
+    def test_there_is_one_set_of_rules(self):
+        x = cp.Variable()
+        least = cp.Minimize(x)
+        for one in (x + 1, x >= 1, least, cp.Problem(least)):
+            self.assertTrue(one.is_dpp("dcp"))
+            with self.assertRaisesRegex(UnsupportedError, "no rules of the name 'dgp'"):
+                one.is_dpp("dgp")
+
 
 if __name__ == "__main__":
     unittest.main()

@@ -62,10 +62,10 @@ class FloatDigits(unittest.TestCase):
         self.assertEqual(cp.Constant(1 / 3).exact, Fraction(repr(1 / 3)))
 
     def test_refused(self):
-        for count in (0, 18, -1, 1.5, "3"):
+        for count in (0, 18, -1, 1.5, "3", True):
             with self.assertRaises(ValueError):
                 dcx.float_digits(count)
-        for count in (-1, 31, 1.5, "3"):
+        for count in (-1, 31, 1.5, "3", False):
             with self.assertRaises(ValueError):
                 dcx.float_digits(decimals=count)
 

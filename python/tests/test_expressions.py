@@ -271,8 +271,8 @@ class Operators(unittest.TestCase):
             self.assertRaises(TypeError, ask)
         with self.assertRaises(UnsupportedError):
             x[0] = 3
-        with self.assertRaises(UnsupportedError):
-            x in [cp.Variable()] or 3 in x
+        for ask in (lambda: x in [cp.Variable()], lambda: 3 in x):
+            self.assertRaises(UnsupportedError, ask)
 
 
 def variable_at(value):
@@ -469,6 +469,27 @@ class Leaves(unittest.TestCase):
             x = cp.Variable((2, 2), **given)
             self.assertEqual(x.language_attributes(), said, given)
 
+    def test_attributes_have_the_keys_of_cvxpy(self):
+        keys = {"nonneg", "nonpos", "pos", "neg", "complex", "imag", "symmetric", "diag", "PSD", "NSD", "hermitian",
+                "boolean", "integer", "sparsity", "bounds"}
+        for given, held in [({}, set()), ({"pos": True}, {"pos", "nonneg"}), ({"neg": True}, {"neg", "nonpos"}),
+                            ({"integer": True, "nonneg": True}, {"integer", "nonneg"}),
+                            ({"diag": True, "PSD": False}, {"diag"}),
+                            ({"bounds": [0, 4]}, {"nonneg", "bounds"}), ({"bounds": [-4, 4]}, {"bounds"})]:
+            x = cp.Variable((2, 2), **given)
+            self.assertEqual((set(x.attributes), {key for key in keys if x.attributes[key]}), (keys, held), given)
+            self.assertEqual((x.is_pos(), x.is_neg()), ("pos" in held, "neg" in held))
+
+    def test_bounds_are_arrays(self):
+        infinite = np.full((2, 2), np.inf)
+        for given, low, high in [([0, 4], np.zeros((2, 2)), np.full((2, 2), 4)),
+                                 ([None, np.array([[1, 2], [np.inf, 0.5]])], -infinite, [[1, 2], [np.inf, 0.5]]),
+                                 ([-np.inf, np.inf], -infinite, infinite)]:
+            found = cp.Variable((2, 2), bounds=given).bounds
+            np.testing.assert_array_equal(found, [low, high])
+        self.assertEqual(cp.Variable(bounds=[-1, None]).bounds, [-1, np.inf])
+        self.assertIsNone(cp.Variable(nonneg=True).bounds)
+
     def test_own_constraints(self):
         def own(shape=(), **given):
             return [str(c).replace(x.name(), "x") for x in [cp.Variable(shape, **given)] for c in x.own_constraints()]
@@ -549,6 +570,26 @@ class Leaves(unittest.TestCase):
         q.value[1, 1] = -1
         self.assertRaisesRegex(ValueError, "nonnegative", prob.solve)
 
+    def test_entries_that_are_set_in_a_variables_value(self):
+        """What is evaluated has them, as NumPy has them in an array; the others stay the fractions that they were."""
+        third = Fraction(1, 3)
+        x = cp.Variable(3, nonneg=True)
+        rule = x >= [third, 2, 3]
+        problem = cp.Problem(cp.Minimize(cp.sum(x)), [rule])
+        problem.solve()
+        array, held = np.array([1 / 3, 2, 3]), x.value
+        for each in (array, held):
+            each[1] = 7.5
+            each[2] -= 4
+        np.testing.assert_array_equal(x.value, array)
+        self.assertEqual(list(x.exact), [third, Fraction(15, 2), -1])
+        self.assertEqual((cp.sum(x) * 6).exact, 41)
+        self.assertAlmostEqual(problem.objective.value, array.sum())
+        np.testing.assert_array_equal(rule.residual, [0, 0, 4])
+        self.assertEqual(problem.solve(), 16 / 3)  # an answer has an array of its own
+        held[0] = 9
+        self.assertEqual(list(x.exact), [third, 2, 3])
+
     def test_values_that_do_not_fit(self):
         for made, value, words in [
             (cp.Parameter(2), [1, 2, 3], "Invalid dimensions"), (cp.Parameter(2), 3, "Invalid dimensions"),
@@ -565,6 +606,22 @@ class Leaves(unittest.TestCase):
                 made.value = value
             self.assertIsNone(made.value)
         self.assertRaises(ValueError, lambda: cp.Parameter(nonneg=True, value=-1))
+        named = {"shape": (2, 2), "name": "q"}
+        for made, value, told in [
+            (cp.Parameter(**named, nonneg=True), np.array([[1, 2], [-1e-9, -3]]),
+             "nonnegative: q[1, 0] is -0.000000001"),
+            (cp.Parameter(**named, symmetric=True), np.array([[1, 2], [2.5, 3]]), "symmetric: q[0, 1] is 2"),
+            (cp.Parameter(**named, diag=True), np.array([[1, 0], [7, 3]]), "diagonal: q[1, 0] is 7"),
+            (cp.Variable(**named, bounds=[0, 5]), np.array([[1, 0], [7, 3]]), "in bounds: q[1, 0] is 7"),
+            (cp.Variable(3, "q", bounds=[[0, None, 1], None]), [0, -9, 0.5], "in bounds: q[2] is 0.5"),
+            (cp.Parameter(name="q", boolean=True), Fraction(1, 3), "boolean: q is 1/3"),
+        ]:
+            with self.assertRaises(ValueError) as caught:
+                made.value = value
+            self.assertTrue(str(caught.exception).endswith(f"value must be {told}"), str(caught.exception))
+        for value, kind in (([1, np.nan], ValueError), ([1, "2"], TypeError)):
+            with self.assertRaisesRegex(kind, "Parameter value of speed: "):
+                cp.Parameter(2, name="speed", value=value)
         kept = cp.Parameter(nonneg=True, value=1)
         with self.assertRaises(ValueError):
             kept.value = -2
@@ -679,6 +736,8 @@ class WithoutNumPy(unittest.TestCase):
             print(cp.sum(X, axis=0).value, cp.maximum(x, 1.5).value, cp.diag(x).value[1])
             problem = cp.Problem(cp.Minimize(cp.norm1(x - [1, 2, 3])), [x >= [2, 0, 0], x[2] <= 1])
             print(problem.solve(), x.value, problem.constraints[0].dual_value)
+            X.value[1][0] = 9
+            print(X[1].value, cp.sum(X).value)
             try:
                 import numpy
             except ImportError:
@@ -689,6 +748,7 @@ class WithoutNumPy(unittest.TestCase):
             "[[1.0, 2.0, 3.0], [4.0, 5.0, 6.0]] [6.0, 16.0] [[3.0, 1.0], [6.0, 4.0]] [[1.0, 2.0, 3.0]] 1.0",
             "[5.0, 7.0, 9.0] [1.5, 2.0, 1.5] [0.0, 2.0, 0.0]",
             "3.0 [2.0, 2.0, 1.0] [1.0, 0.0, 0.0]",
+            "[9.0, 5.0, 6.0] 26.0",
             "out of reach",
         ])
 

@@ -319,9 +319,31 @@ class Surface(unittest.TestCase):
         for name in ("gp", "qcp", "requires_grad", "method"):
             with self.assertRaises(UnsupportedError):
                 problem.solve(**{name: True})
-        for bad in (0, -1, 1.5, True, 10**10):
-            with self.assertRaises(ValueError):
+        for bad in (0, -1, 1.5, True, 10**10, INFINITY, float("nan"), "9", [9]):
+            with self.assertRaisesRegex(ValueError, "max_iters is a whole number from 1 to 1,000,000,000, and not"):
                 problem.solve(max_iters=bad)
+
+    def test_options_of_other_solvers(self):
+        """Scripts of CVXPY name these, each for its solver."""
+        x = cp.Variable()
+        problem = cp.Problem(cp.Minimize(x), [x >= 1])
+        for solver, options in {
+            cp.CBC: {"numberThreads": 4, "maximumNodes": 1000, "allowableGap": 1e-3, "maximumSeconds": 60},
+            cp.CLARABEL: {"max_iter": 100, "tol_infeas_rel": 1e-8, "max_threads": 2},
+            cp.GUROBI: {"env": object(), "Heuristics": 0.1, "MIPGap": 0, "NodeLimit": 1000, "TimeLimit": INFINITY},
+            cp.HIGHS: {"presolve": "off", "mip_feasibility_tolerance": 1e-9, "time_limit": 1e100},
+            cp.OSQP: {"polish_refine_iter": 3, "adaptive_rho_interval": 25},
+            cp.SCS: {"adaptive_scale": False, "time_limit_secs": 10},
+        }.items():
+            self.assertEqual(problem.solve(solver=solver, **options), 1, solver)
+
+    def test_the_order_of_arguments_is_that_of_cvxpy(self):
+        x = cp.Variable()
+        problem = cp.Problem(cp.Minimize(x), [x >= 1])
+        for given, is_told in (((cp.OSQP, True), False), ((cp.OSQP, False, True), True), ((None, None, True), True)):
+            with contextlib.redirect_stdout(io.StringIO()) as out:
+                problem.solve(*given)
+            self.assertEqual("optimal" in out.getvalue(), is_told, given)
 
     def test_what_is_said(self):
         problem, x, y, p = self.model()
@@ -350,6 +372,20 @@ class Surface(unittest.TestCase):
         self.assertGreater(problem.solver_stats.solve_time, 0)
         self.assertTrue(problem.report.startswith(b"setting 1 optimal\nvalue 2\n"))
 
+    def test_a_solution_is_that_of_its_problem(self):
+        """Also where another problem, or the user, has set the values of its variables since."""
+        x, y = cp.Variable(2), cp.Variable()
+        rule = x >= 1
+        problem = cp.Problem(cp.Minimize(cp.sum(x) + 0 * y), [rule, x[:0] >= 2, sparse.csr_matrix((3, 2)) @ x <= 5])
+        problem.solve()
+        cp.Problem(cp.Minimize(cp.sum(x)), [x >= 7, rule]).solve()
+        y.value = 3
+        np.testing.assert_array_equal(problem.solution.primal_vars[x.id], [1, 1])
+        np.testing.assert_array_equal(problem.solution.dual_vars[rule.id], [1, 1])
+        infeasible = cp.Problem(cp.Minimize(cp.sum(x)), [rule, x <= 0])
+        infeasible.solve()
+        self.assertEqual(infeasible.solution[1:4], (INFINITY, {}, {}))
+
     def test_terms(self):
         x = cp.Variable()
         low, high = cp.Problem(cp.Minimize(x), [x >= 1]), cp.Problem(cp.Minimize(2 * x), [x >= 3])
@@ -375,14 +411,21 @@ class Surface(unittest.TestCase):
         x = cp.Variable(2)
         with self.assertRaisesRegex(DCPError, "must be Minimize or Maximize"):
             cp.Problem(cp.sum(x), [])
-        with self.assertRaisesRegex(ValueError, "invalid constraint of type <class 'int'>"):
+        with self.assertRaisesRegex(ValueError, "invalid constraint of type <class 'int'> at place 1 of the list"):
             cp.Problem(cp.Minimize(0), [x >= 1, 1])
-        with self.assertRaisesRegex(ValueError, "invalid constraint of type <class 'list'>"):
+        with self.assertRaisesRegex(ValueError, r"invalid constraint of type <class 'list'> at place 0 .* by \+"):
             cp.Problem(cp.Minimize(0), [[x >= 1]])
+        with self.assertRaisesRegex(ValueError, "invalid constraint .* at place 2 .* `sum(.*)` is an expression"):
+            cp.Problem(cp.Minimize(0), [x >= 1, x <= 2, cp.sum(x)])
         with self.assertRaisesRegex(TypeError, r"write \[constraint\]"):
             cp.Problem(cp.Minimize(0), x >= 1)
         with self.assertRaisesRegex(ValueError, "must resolve to a scalar"):
             cp.Minimize(x)
+        least, rule = cp.Minimize(x[0]), x >= 1
+        self.assertIs(least - 0, least)
+        for ask in (lambda: least - x[0], lambda: x[0] + least, lambda: x + rule, lambda: cp.maximum(x, rule)):
+            with self.assertRaisesRegex(TypeError, r"^(Minimize|Constraint)\(.* stands where an expression or numbers"):
+                ask()
 
 
 class Stops(unittest.TestCase):
@@ -444,8 +487,11 @@ class Stops(unittest.TestCase):
                     with self.assertRaisesRegex(SolverError, "no answer after 0.2 s.*time_limit"):
                         problem.solve(**{name: 0.2})
                 self.assertEqual((problem.status, problem.value, x.value), ("solver_error", None, None))
-        with self.assertRaises(ValueError):
-            problem.solve(time_limit=0)
+        for bad in (0, -1, float("nan"), True, "9", [9]):
+            with self.assertRaisesRegex(ValueError, "time_limit is a number of seconds above 0, and not"):
+                problem.solve(time_limit=bad)
+        for long in (INFINITY, 1e100, 10**9):
+            self.assertEqual(problem.solve(time_limit=long), 1)
 
     def test_a_program_that_is_not_there_is_no_stop(self):
         with mock.patch.dict("os.environ", DCX="/nowhere"), self.assertRaises(program.ProgramError) as caught:

@@ -156,23 +156,38 @@ class Here(Case):
 
     def test_what_is_no_setting(self):
         problem, p = self.model.problem, self.model.p
-        with self.assertRaisesRegex(ParameterError, "setting 1: .*'p'.* does not have a value"):
+        with self.assertRaisesRegex(ParameterError, r"settings\[1\]: .*'p'.* does not have a value"):
             problem.solve_at([{p: [1, 2, 3]}, {}])
-        with self.assertRaisesRegex(KeyError, "setting 0 names 'q', which is no parameter"):
+        with self.assertRaisesRegex(KeyError, r"settings\[0\] names 'q', which is no parameter"):
             problem.solve_at([{"q": 1}])
-        with self.assertRaisesRegex(KeyError, "setting 0 names .*no parameter"):
+        with self.assertRaisesRegex(KeyError, r"settings\[0\] names .*no parameter"):
             problem.solve_at([{cp.Parameter(): 1}])
         with self.assertRaisesRegex(KeyError, "no parameter"):
             problem.solve_at([{self.model.x: [1, 2, 3]}])
-        with self.assertRaisesRegex(ValueError, "setting 0: Invalid dimensions"):
+        with self.assertRaisesRegex(ValueError, r"settings\[0\]: Invalid dimensions"):
             problem.solve_at([{p: [1, 2]}])
-        with self.assertRaisesRegex(ValueError, "setting 1: .*NaN"):
+        with self.assertRaisesRegex(ValueError, r"settings\[1\]: Parameter value of p: NaN"):
             problem.solve_at([{p: [1, 2, 3]}, {p: [1, float("nan"), 3]}])
-        with self.assertRaisesRegex(TypeError, "setting 0 is a list"):
+        with self.assertRaisesRegex(TypeError, r"settings\[0\] is a list"):
             problem.solve_at([[1]])
-        for chunk in (0, -3, 1.5, True):
+        for chunk in (0, -3, 1.5, True, float("inf"), "3"):
             with self.assertRaisesRegex(ValueError, "chunk is a whole number"):
                 problem.solve_at([], chunk=chunk)
+        with self.assertRaisesRegex(TypeError, "an executor has a method submit, .* and 3 has none"):
+            problem.solve_at([{p: [1, 2, 3]}], executor=3)
+        y, other = cp.Variable(), cp.Parameter(name="p", value=1)
+        twice = cp.Problem(cp.Minimize(y), [y >= p[0], y >= other])
+        with self.assertRaisesRegex(KeyError, "'p' is the name of 2 parameters"):
+            twice.solve_at([{"p": [4, 5, 6]}])
+        results = twice.solve_at([{p: [4, 5, 6]}, {p: [0, 5, 6], other: 3}])
+        self.assertEqual([result.exact for result in results], [4, 3])
+        (result,) = problem.solve_at([{"p": [1, 2, 3]}])
+        self.assertEqual(result.exact, self.model.by_hand({p: [1, 2, 3]}))
+        for ask in (lambda: result[p], lambda: result["x"], lambda: result.exact_value(cp.Variable())):
+            with self.assertRaisesRegex(KeyError, "is no variable that the problem reaches"):
+                ask()
+        with self.assertRaisesRegex(KeyError, "is no constraint of the problem"):
+            result.dual_value(self.model.x >= 1)
         x = cp.Variable()
         with self.assertRaises(DCPError):
             cp.Problem(cp.Maximize(cp.abs(x) * p[0]), []).solve_at([{p: [1, 2, 3]}])
@@ -196,7 +211,7 @@ class Here(Case):
                 for result in bad:
                     self.assertEqual((result.status, result.value, result[self.model.x]), ("solver_error", None, None))
                     self.assertIsInstance(result.error, SolverError)
-                    told = "settings 21 to 30: no answer, since the worker died or failed twice .*SIGKILL"
+                    told = r"settings\[20:30\]: no answer, since the worker died or failed twice .*SIGKILL"
                     self.assertRegex(str(result.error), told)
                 good = results[:20] + results[30:]
                 wanted = [self.model.by_hand(result.setting) for result in good]
@@ -351,7 +366,7 @@ class Executors(Case):
 
             settings, executor = self.model.settings(20), Odd(gives)
             results = self.model.problem.solve_at(settings, executor=executor, chunk=10)
-            self.assertRegex(str(results[3].error), f"settings 1 to 10: no answer, .* twice .*{told}")
+            self.assertRegex(str(results[3].error), rf"settings\[0:10\]: no answer, .* twice .*{told}")
             self.assertEqual(results[13].exact, self.model.by_hand(settings[13]))
             self.assertEqual(len(executor.asked), 3)
 
@@ -362,7 +377,7 @@ class Executors(Case):
 
         settings = self.model.settings(30)
         results = self.model.problem.solve_at(settings, executor=Odd(gives), chunk=10)
-        self.assertIn("settings 11 to 20: the program has no answer for want of memory", str(results[15].error))
+        self.assertIn("settings[10:20]: the program has no answer for want of memory", str(results[15].error))
         self.assertEqual([result.error is None for result in results[::10]], [True, False, True])
 
     def test_an_executor_that_takes_nothing_any_more(self):

@@ -1,4 +1,4 @@
-"""Names of CVXPY: those that are offered, and those that are refused where they are called, with what to write."""
+"""Names and attributes of CVXPY: those that are offered, and those that are refused, with what to write."""
 from __future__ import annotations
 
 import os
@@ -12,6 +12,7 @@ from pathlib import Path
 import dcx.cvxpy as cp
 from dcx import unsupported
 from dcx.errors import UnsupportedError
+from dcx.missing import Missing
 
 FOLDER = Path(__file__).resolve().parent.parent
 DOCS = FOLDER.parent / "docs"
@@ -67,6 +68,41 @@ class Names(unittest.TestCase):
         self.assertFalse(isinstance(cp.Variable() <= 1, SOC))
         self.assertIn("square", repr(square))
         self.assertRaises(UnsupportedError, lambda: cp.transforms.indicator)
+
+    def test_attributes_of_objects(self):
+        x = cp.Variable(3)
+        rule = x >= 1
+        objects = {"expression": x + 1, "leaf": x, "constraint": rule, "problem": cp.Problem(cp.Minimize(0), [rule])}
+        count = 0
+        for word, one in objects.items():
+            for name in dir(type(one)):
+                if not isinstance(getattr(type(one), name), Missing):
+                    continue
+                with self.subTest(word, name=name):
+                    count += 1
+                    self.assertFalse(hasattr(one, name))
+                    with self.assertRaises(UnsupportedError) as caught:
+                        getattr(one, name)
+                    told = rf"^(expression|{word})\.{name}\S* isn't offered: .+\. Write .+\."
+                    self.assertRegex(str(caught.exception), told + r"\n  .*test_unsupported\.py:\d+\n    getattr")
+                    for call in re.findall(r"cp\.(\w+)", caught.exception.reason):
+                        self.assertIn(call, cp.__all__)
+        self.assertGreater(count, 60)
+        with self.assertRaisesRegex(AttributeError, "has no attribute 'shap'"):
+            x.shap
+        self.assertEqual(x.ptp(axis=0).name(), cp.ptp(x, axis=0).name())
+
+    def test_what_is_told_of_an_attribute_holds(self):
+        """What is written instead is there, of the same objects."""
+        x = cp.Variable((2, 2), symmetric=True, name="x")
+        p = cp.Parameter(value=3)
+        rule = x >= p
+        problem = cp.Problem(cp.Minimize(cp.sum(x)), [rule])
+        problem.solve()
+        self.assertEqual((problem.value, rule.dual_value.sum(), problem.range(p).slope), (12, 4, 4))
+        self.assertTrue(x.attributes["symmetric"] and problem.is_dcp() and rule.is_dcp())
+        self.assertGreater(problem.solver_stats.solve_time, 0)
+        self.assertNotEqual(rule.id, (x >= p).id)
 
     def test_a_star_brings_the_names(self):
         text = textwrap.dedent("""

@@ -111,6 +111,20 @@ class Outside(unittest.TestCase):
             self.problem.verify({"x": [1] * 4}, {self.x >= 1: 1})
         with self.assertRaises(ValueError):
             self.problem.verify({"x": [1] * 4}, {self.rules[0]: [1, 2]})
+        y, z = cp.Variable(name="y"), cp.Variable(name="y")
+        with self.assertRaisesRegex(KeyError, "'y' is the name of 2 variables"):
+            cp.Problem(cp.Minimize(y + z), [y >= 1, z >= 2]).verify({"y": 1})
+        for given in ((self.found.x,), (None,), ({"x": [1] * 4}, [1, 2])):
+            with self.assertRaisesRegex(TypeError, "in a dictionary"):
+                self.problem.verify(*given)
+        X = cp.Variable((2, 3), name="X")
+        rule = X >= 1
+        told = r"the shape \(3, 2\) are given for X >= 1, which has the shape \(2, 3\)"
+        with self.assertRaisesRegex(ValueError, told):
+            cp.Problem(cp.Minimize(cp.sum(X)), [rule]).verify({X: np.ones((2, 3))}, {rule: np.ones((3, 2))})
+        for limit in ({"time_limit": 0}, {"time_limit": "9"}, {"box": 0}):
+            with self.assertRaises(ValueError):
+                self.problem.verify({"x": [0.75] * 4}, **limit)
         whole = cp.Variable(integer=True, name="w")
         with self.assertRaises(UnsupportedError):
             cp.Problem(cp.Minimize(whole), [whole >= 1.5]).verify({"w": 2})

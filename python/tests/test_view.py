@@ -479,6 +479,8 @@ class Pages(unittest.TestCase):
             file = os.path.join(folder, "page.html")
             self.assertEqual(prob.view(file, p), file)
             text = Path(file).read_text()
+            self.assertEqual(prob.view(file, "p"), file)
+            self.assertEqual(Path(file).read_text(), text)
             self.assertIn("The value over <code>p</code>", text)
             self.assertIn("# " + os.path.basename(__file__), text)
             with self.assertRaises(KeyError):

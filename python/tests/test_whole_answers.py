@@ -119,9 +119,22 @@ class Answers(unittest.TestCase):
         self.assertEqual((problem.status, problem.shown_by), ("user_limit", POINT))
         self.assertGreater(problem.value, 0)
 
+    def test_what_progress_raises_leaves_no_values(self):
+        problem = knapsack(12, 2)
+        problem.solve()
+
+        def fail(progress):
+            raise ZeroDivisionError("of the user")
+
+        with self.assertRaisesRegex(ZeroDivisionError, "of the user"):
+            problem.solve(program_seconds=1e-6, progress=fail)
+        self.assertEqual((problem.status, problem.value, problem.solution[2:4]), ("solver_error", None, ({}, {})))
+        self.assertTrue(all(variable.value is None for variable in problem.variables()))
+
     def test_arguments(self):
         problem = knapsack(4, 2)
-        for wrong in ({"program_seconds": 0}, {"max_nodes": 0}, {"max_nodes": 1.5}):
+        infinite = float("inf")
+        for wrong in ({"program_seconds": 0}, {"max_nodes": 0}, {"max_nodes": 1.5}, {"max_nodes": infinite}):
             with self.assertRaises(ValueError):
                 problem.solve(**wrong)
         with self.assertRaises(TypeError):

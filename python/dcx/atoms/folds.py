@@ -5,18 +5,21 @@ from __future__ import annotations
 import builtins
 import math
 from fractions import Fraction
+from typing import Any
 
 from .. import operators, shapes, sites
 from ..arrays import filled
 from ..errors import UnsupportedError
-from ..expressions import Constant, Expression, as_expression, node
+from ..expressions import Axis, Constant, Expression, Operand, as_expression, node
 from ..numbers import exact
 
 
-def folded(kind: str, expr, axis, keepdims, nothing=None) -> Expression:
-    """A call of one kind along an axis; of no entries it gives `nothing`, where there is such a number.
+def folded(kind: str, expr: Operand, axis: Axis, keepdims: bool, nothing: int | None = None) -> Expression:
+    """A call of one kind of all entries, as one number without a side, or along an axis, which its shape loses, or
+    keeps with the length 1 where `keepdims` is true; of no entries it gives `nothing`, where there is such a number.
 
-    ValueError where there is no such axis, or where there are no entries and nothing can be told of them.
+    ValueError where there is no such axis, or where there are no entries and nothing can be told of them; TypeError
+    where the axis is no whole number or `keepdims` no truth value.
     """
     expr = as_expression(expr)
     if not isinstance(keepdims, bool) and type(keepdims).__name__ != "bool_":
@@ -34,46 +37,49 @@ def folded(kind: str, expr, axis, keepdims, nothing=None) -> Expression:
     return operators.by_rows(result, kept)
 
 
-def sum(expr, axis=None, keepdims: bool = False) -> Expression:
-    """The sum of all entries, or along an axis; of a list of expressions their sum by `+`."""
+def sum(expr: Operand, axis: Axis = None, keepdims: bool = False) -> Expression:
+    """The sum of all entries, or along an axis, 0 of none; of a list of expressions their sum by `+`. Shapes and
+    errors are those of `folded`."""
     if isinstance(expr, list):
         return builtins.sum(expr)
     return folded("sum", expr, axis, keepdims, 0)
 
 
-def mean(X, axis=None, keepdims: bool = False) -> Expression:
-    """The mean of all entries, or along an axis."""
+def mean(X: Operand, axis: Axis = None, keepdims: bool = False) -> Expression:
+    """The mean of all entries, or along an axis. Shapes and errors are those of `folded`."""
     return folded("mean", X, axis, keepdims)
 
 
-def max(expr, axis=None, keepdims: bool = False) -> Expression:
-    """The greatest of all entries, or along an axis."""
+def max(expr: Operand, axis: Axis = None, keepdims: bool = False) -> Expression:
+    """The greatest of all entries, or along an axis. Shapes and errors are those of `folded`."""
     return folded("max", expr, axis, keepdims)
 
 
-def min(expr, axis=None, keepdims: bool = False) -> Expression:
-    """The least of all entries, or along an axis."""
+def min(expr: Operand, axis: Axis = None, keepdims: bool = False) -> Expression:
+    """The least of all entries, or along an axis. Shapes and errors are those of `folded`."""
     return folded("min", expr, axis, keepdims)
 
 
-def ptp(x, axis=None, keepdims: bool = False) -> Expression:
-    """The greatest entry less the least one."""
+def ptp(x: Operand, axis: Axis = None, keepdims: bool = False) -> Expression:
+    """The greatest entry less the least one, of all, or along an axis. Shapes and errors are those of `folded`."""
     x = as_expression(x)
     return max(x, axis, keepdims) - min(x, axis, keepdims)
 
 
-def sum_largest(x, k) -> Expression:
-    """The sum of the k greatest entries; where k is a fraction, of its whole part and that share of the next one.
+def sum_largest(x: Operand, k: Operand) -> Expression:
+    """The sum of the k greatest of all entries, one number; where k is a fraction, of its whole part and that share of
+    the next one, and where it is greater than their count, of all.
 
-    ValueError where k isn't above 0.
+    ValueError where k isn't above 0; UnsupportedError where it isn't a constant.
     """
     return _share("sum_largest", x, k)
 
 
-def sum_smallest(x, k) -> Expression:
-    """The sum of the k least entries; where k is a fraction, of its whole part and that share of the next one.
+def sum_smallest(x: Operand, k: Operand) -> Expression:
+    """The sum of the k least of all entries, one number; where k is a fraction, of its whole part and that share of
+    the next one, and where it is greater than their count, of all.
 
-    ValueError where k isn't above 0.
+    ValueError where k isn't above 0; UnsupportedError where it isn't a constant.
     """
     return _share("sum_smallest", x, k)
 
@@ -104,9 +110,9 @@ def _whole_share(kind: str, x: Expression, k: int) -> Expression:
     return node(kind, (x,), (k,), ())
 
 
-def cvar(x, beta) -> Expression:
-    """The mean of the share 1 - beta of the greatest entries, the conditional value at risk. ValueError unless 0 <=
-    beta < 1."""
+def cvar(x: Operand, beta: Any) -> Expression:
+    """The mean of the share 1 - beta of the greatest entries, the conditional value at risk: one number. ValueError
+    unless 0 <= beta < 1, TypeError where it is no number."""
     x = as_expression(x)
     beta = exact(beta)
     if not 0 <= beta < 1:
@@ -115,8 +121,9 @@ def cvar(x, beta) -> Expression:
     return operators.scaled(1 / share, sum_largest(x, share))
 
 
-def dotsort(X, W) -> Expression:
-    """The scalar product of the entries of X and the numbers of W, both sorted. ValueError where W has more entries."""
+def dotsort(X: Operand, W: Operand) -> Expression:
+    """The scalar product of the entries of X and the numbers of W, both sorted, one number. ValueError where W has more
+    entries, UnsupportedError where it isn't numbers."""
     X, W = as_expression(X), as_expression(W)
     if W.kind != "constant":
         raise UnsupportedError("the weights of dotsort have to be numbers", sites.here())
@@ -130,8 +137,8 @@ def dotsort(X, W) -> Expression:
     return builtins.sum(parts[1:], parts[0]) if parts else Constant(0)
 
 
-def tv(value, *args) -> Expression:
-    """The sum of the magnitudes of a vector's differences.
+def tv(value: Operand, *args: Operand) -> Expression:
+    """The sum of the magnitudes of the differences of a vector's neighbours, one number.
 
     ValueError of what has no side; UnsupportedError of a matrix, whose total variation has Euclidean norms in it.
     """
@@ -146,15 +153,16 @@ def tv(value, *args) -> Expression:
     return node("tv", (value,), (), ())
 
 
-def cumsum(expr, axis: int = 0) -> Expression:
-    """The running sums along an axis."""
+def cumsum(expr: Operand, axis: int = 0) -> Expression:
+    """The running sums along an axis, in the shape of the expression. ValueError where it has no such axis."""
     expr = as_expression(expr)
     axis = _running_axis(axis, expr)
     return node("cumsum", (expr,), (axis,), expr.shape)
 
 
-def cummax(expr, axis: int = 0) -> Expression:
-    """The running greatest entries along an axis."""
+def cummax(expr: Operand, axis: int = 0) -> Expression:
+    """The greatest entries so far along an axis, in the shape of the expression. ValueError where it has no such axis.
+    """
     expr = as_expression(expr)
     axis = _running_axis(axis, expr)
     if expr.ndim == 1:

@@ -1,25 +1,29 @@
 """Norms, of the orders that are piecewise linear: 1 and infinity."""
 from __future__ import annotations
 
+from typing import Any
+
 from .. import sites
 from ..errors import UnsupportedError
-from ..expressions import Expression, as_expression
+from ..expressions import Axis, Expression, Operand, as_expression
 from .folds import folded, max
 
 _INFINITY = ("inf", "Inf")
 
 
-def norm1(x, axis=None, keepdims: bool = False) -> Expression:
-    """The sum of the magnitudes of all entries, or along an axis."""
+def norm1(x: Operand, axis: Axis = None, keepdims: bool = False) -> Expression:
+    """The sum of the magnitudes of all entries, of a matrix too, or along an axis. Shapes and errors are those of
+    `folds.folded`."""
     return folded("norm1", x, axis, keepdims, 0)
 
 
-def norm_inf(x, axis=None, keepdims: bool = False) -> Expression:
-    """The greatest magnitude of all entries, or along an axis."""
+def norm_inf(x: Operand, axis: Axis = None, keepdims: bool = False) -> Expression:
+    """The greatest magnitude of all entries, of a matrix too, or along an axis. Shapes and errors are those of
+    `folds.folded`."""
     return folded("norm_inf", x, axis, keepdims)
 
 
-def is_infinite(p) -> bool:
+def is_infinite(p: Any) -> bool:
     """Whether an order of a norm is the infinite one, in one of its spellings."""
     return p in _INFINITY if isinstance(p, str) else _is_number(p) and p == float("inf")
 
@@ -28,7 +32,7 @@ def _is_number(p) -> bool:
     return hasattr(p, "__float__") and not getattr(p, "shape", ())
 
 
-def norm(x, p=2, axis=None, keepdims: bool = False) -> Expression:
+def norm(x: Operand, p: Any = 2, axis: Axis = None, keepdims: bool = False) -> Expression:
     """The norm of order p of a vector, or of each line along an axis; of a matrix the norm of it as a map: the greatest
     sum of magnitudes of a column where p is 1, and of a row where it is infinity.
 
@@ -66,12 +70,12 @@ def _refusal(p, of: str) -> UnsupportedError:
                             "x for each of several directions c", sites.here())
 
 
-def norm2(x, axis=None, keepdims: bool = False) -> Expression:
+def norm2(x: Operand, axis: Axis = None, keepdims: bool = False) -> Expression:
     """The Euclidean norm. UnsupportedError, unless there is one entry."""
     return norm(x, 2, axis, keepdims)
 
 
-def pnorm(x, p=2, axis=None, keepdims: bool = False, max_denom: int = 1024) -> Expression:
+def pnorm(x: Operand, p: Any = 2, axis: Axis = None, keepdims: bool = False, max_denom: int = 1024) -> Expression:
     """The norm of order p of all entries, or along an axis. UnsupportedError unless p is 1 or infinity."""
     x = as_expression(x)
     if (_is_number(p) and p == 1) or (x.is_scalar() and axis is None and _is_order(p)):
@@ -81,6 +85,6 @@ def pnorm(x, p=2, axis=None, keepdims: bool = False, max_denom: int = 1024) -> E
     raise _refusal(p, "vector")
 
 
-def mixed_norm(X, p=2, q=1) -> Expression:
+def mixed_norm(X: Operand, p: Any = 2, q: Any = 1) -> Expression:
     """The norm of order q of the norms of order p of the rows. UnsupportedError unless both are 1 or infinity."""
     return norm(norm(X, p, axis=1), q)

@@ -1,9 +1,11 @@
 """Calls that move entries: other shapes, stacks, diagonals and triangles, differences of neighbours."""
 from __future__ import annotations
 
+from typing import Iterable, Sequence, Union
+
 from .. import operators, shapes
 from ..arrays import Array, Sparse, filled, transposed
-from ..expressions import Constant, Expression, as_expression, node
+from ..expressions import Constant, Expression, Operand, as_expression, node
 
 
 # ---- other shapes
@@ -14,10 +16,11 @@ def _by_rows(order) -> bool:
     return order == "C"
 
 
-def reshape(expr, shape, order: str = "F") -> Expression:
-    """The entries in another shape, of which one side may be -1: by columns, or by rows where the order is "C".
+def reshape(expr: Operand, shape: Union[int, Sequence[int]], order: str = "F") -> Expression:
+    """The entries in another shape, of which one side may be -1: taken and put by columns, or by rows where the order
+    is "C".
 
-    ValueError where the entries don't fill the shape.
+    ValueError where the entries don't fill the shape, it has more than two sides, or the order is another one.
     """
     expr = as_expression(expr)
     order = "F" if order is None else order
@@ -35,8 +38,8 @@ def reshape(expr, shape, order: str = "F") -> Expression:
     return node("reshape", (expr,), (shape, "F"), shape)
 
 
-def vec(X, order: str = "F") -> Expression:
-    """The entries as a vector: by columns, or by rows where the order is "C"."""
+def vec(X: Operand, order: str = "F") -> Expression:
+    """The entries as a vector: by columns, or by rows where the order is "C". ValueError of another order."""
     X = as_expression(X)
     is_by_rows = _by_rows("F" if order is None else order)
     if is_by_rows or X.ndim < 2 or 1 in X.shape:
@@ -46,16 +49,16 @@ def vec(X, order: str = "F") -> Expression:
     return node("vec", (X,), (), (X.size,))
 
 
-def transpose(expr, axes=None) -> Expression:
-    """The transpose. With `axes` each of the sides is named once: `(1, 0)` is the transpose, `(0, 1)` the expression
-    itself."""
+def transpose(expr: Operand, axes: Union[Sequence[int], None] = None) -> Expression:
+    """The transpose; a number or a vector is itself. With `axes` each of the sides is named once: `(1, 0)` is the
+    transpose, `(0, 1)` the expression itself. ValueError where `axes` doesn't name each side once."""
     expr = as_expression(expr)
     if axes is None:
         return expr.T
     return permute_dims(expr, axes)
 
 
-def permute_dims(expr, axes) -> Expression:
+def permute_dims(expr: Operand, axes: Sequence[int]) -> Expression:
     """The sides in another order. ValueError where `axes` doesn't name each side once."""
     expr = as_expression(expr)
     named = [shapes.axis_of(axis, expr.shape) for axis in axes]
@@ -64,14 +67,14 @@ def permute_dims(expr, axes) -> Expression:
     return expr if named == list(range(expr.ndim)) else expr.T
 
 
-def swapaxes(expr, axis1: int, axis2: int) -> Expression:
-    """Two sides exchanged."""
+def swapaxes(expr: Operand, axis1: int, axis2: int) -> Expression:
+    """Two sides exchanged. ValueError where there is no such side."""
     expr = as_expression(expr)
     one, other = shapes.axis_of(axis1, expr.shape), shapes.axis_of(axis2, expr.shape)
     return expr if one == other else expr.T
 
 
-def squeeze(expr, axis=None) -> Expression:
+def squeeze(expr: Operand, axis: Union[int, None] = None) -> Expression:
     """Without sides of length 1, or without that one. ValueError where a named one is longer."""
     expr = as_expression(expr)
     if axis is None:
@@ -82,7 +85,7 @@ def squeeze(expr, axis=None) -> Expression:
     return operators.by_rows(expr, expr.shape[:axis] + expr.shape[axis + 1:])
 
 
-def expand_dims(expr, axis: int) -> Expression:
+def expand_dims(expr: Operand, axis: int) -> Expression:
     """With one more side of length 1, at a place. ValueError where there would be three."""
     expr = as_expression(expr)
     if expr.ndim == 2:
@@ -94,7 +97,7 @@ def expand_dims(expr, axis: int) -> Expression:
 # ---- stacks
 
 
-def _items(arg_list) -> list:
+def _items(arg_list: Iterable[Operand]) -> list:
     if isinstance(arg_list, Expression) or not hasattr(arg_list, "__iter__"):
         raise TypeError("a stack is made of a list: of expressions, arrays and numbers")
     items = [as_expression(item) for item in arg_list]
@@ -103,8 +106,9 @@ def _items(arg_list) -> list:
     return items
 
 
-def hstack(arg_list) -> Expression:
-    """Numbers and vectors one behind the other, or matrices side by side. ValueError where they don't fit."""
+def hstack(arg_list: Iterable[Operand]) -> Expression:
+    """Numbers and vectors one behind the other as a vector, or matrices side by side as one. ValueError where they
+    don't fit or there are none, TypeError of what is no list."""
     items = [operators.by_rows(item, (1,)) if item.ndim == 0 else item for item in _items(arg_list)]
     first = items[0].shape
     if any(item.ndim != len(first) or item.ndim == 2 and item.shape[0] != first[0] for item in items):
@@ -115,8 +119,9 @@ def hstack(arg_list) -> Expression:
     return _stacked("hstack", items, (first[0], sum(item.shape[1] for item in items)))
 
 
-def vstack(arg_list) -> Expression:
-    """Rows one below the other: a vector is a row, and so is a number. ValueError where they don't fit."""
+def vstack(arg_list: Iterable[Operand]) -> Expression:
+    """Rows one below the other, as a matrix: a vector is a row, and so is a number. ValueError where they don't fit or
+    there are none, TypeError of what is no list."""
     items = _items(arg_list)
     widths = {_width(item) for item in items}
     if len(widths) > 1:
@@ -139,13 +144,15 @@ def _stacked(kind: str, items: list, shape: tuple) -> Expression:
     return node(kind, items, (), shape)
 
 
-def bmat(block_lists) -> Expression:
-    """Rows of blocks as one matrix: each inner list side by side, and these one below the other."""
+def bmat(block_lists: Iterable[Iterable[Operand]]) -> Expression:
+    """Rows of blocks as one matrix: each inner list side by side, and these one below the other. ValueError where the
+    blocks don't fit, TypeError of what is no list of lists."""
     return vstack([hstack(blocks) for blocks in block_lists])
 
 
-def concatenate(arg_list, axis: int | None = 0) -> Expression:
-    """Joined along an axis; where it is None, all entries by rows as one vector."""
+def concatenate(arg_list: Iterable[Operand], axis: int | None = 0) -> Expression:
+    """Joined along an axis; where it is None, all entries by rows as one vector. ValueError where they don't fit, have
+    no such axis, or there are none; TypeError of what is no list."""
     items = _items(arg_list)
     if axis is None:
         return hstack([vec(item, "C") for item in items])
@@ -157,8 +164,9 @@ def concatenate(arg_list, axis: int | None = 0) -> Expression:
     return hstack(items) if items[0].ndim == 1 or axis == 1 else vstack(items)
 
 
-def stack(arrays, axis: int = 0) -> Expression:
-    """Numbers as a vector, or vectors as the rows of a matrix, or as its columns where the axis is 1."""
+def stack(arrays: Iterable[Operand], axis: int = 0) -> Expression:
+    """Numbers as a vector, or vectors as the rows of a matrix, or as its columns where the axis is 1. ValueError where
+    their shapes differ, are those of matrices, or there are none; TypeError of what is no list."""
     items = _items(arrays)
     if any(item.shape != items[0].shape for item in items):
         raise ValueError("all input arrays must have the same shape: " + shapes.show(*(item.shape for item in items)))
@@ -178,18 +186,19 @@ def _square(expr: Expression, word: str) -> None:
         raise ValueError(f"Argument to {word} must be a square matrix, and has the shape {expr.shape}.")
 
 
-def trace(expr) -> Expression:
-    """The sum of the diagonal. ValueError of what isn't square."""
+def trace(expr: Operand) -> Expression:
+    """The sum of the diagonal, one number. ValueError of what isn't square."""
     expr = as_expression(expr)
     _square(expr, "trace")
     return node("trace", (expr,), (), ())
 
 
-def diag(vector, k: int = 0) -> Expression:
+def diag(vector: Operand, k: int = 0) -> Expression:
     """The matrix with a vector on its diagonal, or the diagonal of a square matrix; k is how many places to the right
     it is moved.
 
-    A matrix with one row, one column or one entry counts as a vector. ValueError of other matrices that aren't square.
+    A matrix with one row, one column or one entry counts as a vector. ValueError of other matrices that aren't square,
+    or have no such diagonal; TypeError where k is no whole number.
     """
     expr = as_expression(vector)
     if not shapes.is_whole(k):
@@ -222,7 +231,7 @@ def _with_diagonal(expr: Expression, k: int) -> Expression:
     return vstack([hstack([beside, matrix]), below]) if k > 0 else vstack([below, hstack([matrix, beside])])
 
 
-def upper_tri(expr) -> Expression:
+def upper_tri(expr: Operand) -> Expression:
     """The entries above the diagonal as a vector, row by row. ValueError of what isn't square."""
     expr = as_expression(expr)
     _square(expr, "upper_tri")
@@ -231,7 +240,7 @@ def upper_tri(expr) -> Expression:
     return operators.gathered(expr, places, (len(places),))
 
 
-def vec_to_upper_tri(expr, strict: bool = False) -> Expression:
+def vec_to_upper_tri(expr: Operand, strict: bool = False) -> Expression:
     """The matrix with a vector's entries on and above the diagonal, row by row; with `strict` above it alone.
 
     ValueError where no square has so many of these.
@@ -255,8 +264,8 @@ def vec_to_upper_tri(expr, strict: bool = False) -> Expression:
 # ---- neighbours
 
 
-def diff(x, k: int = 1, axis: int = 0) -> Expression:
-    """The differences of neighbours along an axis, k times.
+def diff(x: Operand, k: int = 1, axis: int = 0) -> Expression:
+    """The differences of neighbours along an axis, k times: that side is k shorter.
 
     ValueError where k isn't a whole number from 0 to one less than there are entries along the axis.
     """

@@ -6,17 +6,18 @@ from fractions import Fraction
 from .. import operators, shapes, sites
 from ..arrays import Array, Sparse
 from ..errors import UnsupportedError
-from ..expressions import Constant, Expression, as_expression
+from ..expressions import Constant, Expression, Operand, as_expression
 from .places import hstack, reshape, vec, vstack
 
 
-def matmul(lh_expr, rh_expr) -> Expression:
-    """The matrix product, as `@`."""
+def matmul(lh_expr: Operand, rh_expr: Operand) -> Expression:
+    """The matrix product, as `@`. ValueError where the inner sides differ, or one of the two has no side."""
     return operators.matrix_multiplied(lh_expr, rh_expr)
 
 
-def vdot(x, y) -> Expression:
-    """The sum of the products of two expressions' entries. ValueError where they have different shapes."""
+def vdot(x: Operand, y: Operand) -> Expression:
+    """The sum of the products of two expressions' entries, which are taken by columns: one number. What has one entry
+    is multiplied with each. ValueError where the numbers of entries differ otherwise."""
     x, y = _flat(x), _flat(y)
     if x.size != y.size and 1 not in (x.size, y.size):
         raise ValueError(f"Cannot broadcast dimensions {shapes.show(x.shape, y.shape)}")
@@ -28,22 +29,22 @@ def vdot(x, y) -> Expression:
 scalar_product = vdot
 
 
-def _flat(value) -> Expression:
+def _flat(value: Operand) -> Expression:
     """A list, also one of expressions, as one vector; a matrix by columns."""
     if isinstance(value, (list, tuple)):
         return hstack([_flat(item) for item in value])
     return vec(value)
 
 
-def outer(x, y) -> Expression:
-    """The matrix of the products of each entry of x with each of y. ValueError of matrices."""
+def outer(x: Operand, y: Operand) -> Expression:
+    """The matrix of the products of each entry of x, down, with each of y, across. ValueError of matrices."""
     x, y = as_expression(x), as_expression(y)
     if x.ndim > 1 or y.ndim > 1:
         raise ValueError("x and y must be vectors.")
     return operators.matrix_multiplied(reshape(x, (x.size, 1)), reshape(y, (1, y.size)))
 
 
-def kron(a, b) -> Expression:
+def kron(a: Operand, b: Operand) -> Expression:
     """Each entry of a times all of b, in blocks; one of the two has to be numbers. UnsupportedError where neither is.
     """
     a, b = as_expression(a), as_expression(b)
@@ -91,7 +92,7 @@ def _tiled(b: Expression, times: tuple) -> Expression:
     return vstack([line] * times[0]) if times[0] > 1 else line
 
 
-def convolve(a, b) -> Expression:
+def convolve(a: Operand, b: Operand) -> Expression:
     """The discrete convolution of two vectors, one of them numbers, with a.size + b.size - 1 entries.
 
     ValueError of what isn't a vector; UnsupportedError where neither is numbers.
@@ -111,8 +112,9 @@ def convolve(a, b) -> Expression:
     return operators.matrix_multiplied(Constant(Sparse((size, b.size), rows)), b)
 
 
-def conv(lh_expr, rh_expr) -> Expression:
-    """The convolution as a matrix of one column, where a side is one, else as a vector."""
+def conv(lh_expr: Operand, rh_expr: Operand) -> Expression:
+    """The convolution as a matrix of one column, where a side is a matrix, else as a vector. Errors are those of
+    `convolve`."""
     lh_expr, rh_expr = as_expression(lh_expr), as_expression(rh_expr)
     result = convolve(lh_expr, rh_expr)
     return reshape(result, (result.size, 1)) if 2 in (lh_expr.ndim, rh_expr.ndim) else result

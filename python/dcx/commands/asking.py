@@ -6,12 +6,13 @@ import argparse
 import sys
 import time
 from dataclasses import replace
-from typing import Callable, Sequence
+from typing import Sequence
 
 from ..exact.settings import MOST_SETTINGS
 from ..program import run as run_program
 from ..reports import Report, read_report
 from ..sources import read_settings
+from . import whole
 
 USAGE, READ_FAULT, MEMORY, STOPPED, NOT_FOUND = 2, 3, 5, 6, 70
 SECONDS = 0.3  # how long a part of the settings takes, where that can be chosen
@@ -30,18 +31,7 @@ def add_files(parser: argparse.ArgumentParser) -> None:
     parser.add_argument("script", metavar="SCRIPT", help="a script of the program's language")
     parser.add_argument("settings", nargs="?", metavar="SETTINGS", help="a file with a setting of parameters a line")
     parser.add_argument("--warm", action="store_true", help="begin each setting at the answer before it")
-    parser.add_argument("--max-pivots", metavar="N", type=up_to(10**9), help="how many pivots a solve may take")
-
-
-def up_to(most: int) -> Callable[[str], int]:
-    """Reads a whole number from 1 to `most`."""
-
-    def read(text: str) -> int:
-        if not (text.isascii() and text.isdigit() and len(text) <= 10 and 1 <= int(text) <= most):
-            raise argparse.ArgumentTypeError(f"a whole number from 1 to {most}, and not {text!r}")
-        return int(text)
-
-    return read
+    parser.add_argument("--max-pivots", metavar="N", type=whole(1, 10**9), help="how many pivots a solve may take")
 
 
 def handed_over(arguments: argparse.Namespace) -> tuple[list[bytes], list[str]]:

@@ -5,7 +5,7 @@ import os
 import sys
 from typing import Sequence
 
-from ..program import ProgramError, _limit, _memory, find
+from ..program import ProgramError, find, limit_memory
 
 NOT_FOUND = 70
 
@@ -14,7 +14,7 @@ def run(words: Sequence[str]) -> int:
     """Runs the program with these words. Where there is none to run, it gives a status that the program hasn't."""
     try:
         path = find()
-        _limit(os.getpid(), _memory())
+        limit_memory(os.getpid())
         sys.stdout.flush()
         os.execv(path, [path, *words])
     except (ProgramError, OSError) as error:

@@ -2,6 +2,7 @@
 from __future__ import annotations
 
 import argparse
+import contextlib
 import os
 import runpy
 import sys
@@ -11,6 +12,7 @@ from importlib.abc import MetaPathFinder
 from typing import Optional
 
 from ..numbers import float_digits
+from . import whole
 
 PACKAGE = os.path.dirname(os.path.dirname(os.path.abspath(__file__)))
 # Files whose frames stand above the user's script in each traceback.
@@ -23,27 +25,11 @@ TOLD = ("DCX_RUN_DIGITS", "DCX_RUN_DECIMALS")
 
 def add_arguments(parser: argparse.ArgumentParser) -> None:
     """The script, and whatever stands behind it."""
+    digits, decimals = whole(1, 17), whole(0, 30)
     parser.add_argument("--digits", metavar="N", type=digits, help="round each float to N significant digits")
     parser.add_argument("--decimals", metavar="N", type=decimals, help="round each float to N digits behind the point")
     parser.add_argument("script", metavar="MODEL.py", help="a script that imports cvxpy")
     parser.add_argument("arguments", nargs=argparse.REMAINDER, metavar="ARGS", help="the script's own arguments")
-
-
-def digits(text: str) -> int:
-    """How many significant digits a float keeps: 1 to 17."""
-    return whole(text, 1, 17)
-
-
-def decimals(text: str) -> int:
-    """How many digits a float keeps behind the point: 0 to 30."""
-    return whole(text, 0, 30)
-
-
-def whole(text: str, least: int, most: int) -> int:
-    """A whole number within these limits."""
-    if not (text.isascii() and text.isdigit()) or not least <= int(text) <= most:
-        raise argparse.ArgumentTypeError(f"a whole number from {least} to {most}, and not {text!r}")
-    return int(text)
 
 
 def run(arguments: argparse.Namespace) -> int:
@@ -125,7 +111,9 @@ def print_users(error: BaseException) -> None:
             continue
         seen.add(id(part))
         is_meant = is_of_package(cause, part.stack)
-        frames = [frame for frame in part.stack if not is_left_out(frame.filename, is_meant)]
+        files = [frame.filename for frame in part.stack]
+        shown = zip(part.stack, ["", *files])
+        frames = [frame for frame, before in shown if not is_left_out(frame.filename, before, is_meant)]
         part.stack = traceback.StackSummary.from_list(frames)
         waiting += [(part.__cause__, cause.__cause__), (part.__context__, cause.__context__)]
     sys.stdout.flush()
@@ -148,8 +136,8 @@ def is_inner(filename: str) -> bool:
     return os.path.abspath(filename).startswith(PACKAGE + os.sep)
 
 
-def is_left_out(filename: str, is_meant: bool) -> bool:
-    """Whether a frame of this file isn't shown."""
+def is_left_out(filename: str, before: str, is_meant: bool) -> bool:
+    """Whether a frame of this file, called by one of the file before, isn't shown."""
     if filename in ABOVE or filename.startswith("<frozen "):
         return True
-    return is_meant and is_inner(filename)
+    return is_meant and (is_inner(filename) or filename == contextlib.__file__ and is_inner(before))

@@ -17,7 +17,8 @@ from ..shown import PROGRAM
 from ..shown.fallback import Wishes
 from ..shown.stops import behind
 from ..tables import Tables
-from .asking import NOT_FOUND, STOPPED, Ended, add_files, asked, handed_over, up_to
+from . import whole
+from .asking import NOT_FOUND, STOPPED, Ended, add_files, asked, handed_over
 
 REFUSED = 7
 
@@ -25,13 +26,13 @@ REFUSED = 7
 def add_arguments(parser: argparse.ArgumentParser) -> None:
     """The files, and how they are answered and shown."""
     add_files(parser)
-    parser.add_argument("--digits", metavar="N", type=up_to(40), default=6, help="digits of decimals; 6 without it")
+    parser.add_argument("--digits", metavar="N", type=whole(1, 40), default=6, help="digits of decimals; 6 without it")
     parser.add_argument("--no-color", action="store_true", help="no colours, also on a terminal")
     parser.add_argument("--json", action="store_true", help="the answers as JSON, and no tables")
     parser.add_argument("--no-exact", action="store_true", help="leave a stop a stop: the exact solver isn't asked")
     parser.add_argument("--trust", choices=["python"], help="take what the exact solver finds, where nothing shows it")
-    parser.add_argument("--box", metavar="N", type=up_to(10**9), help="the box of an interval; 1000000 without it")
-    parser.add_argument("--time-limit", metavar="N", type=up_to(10**6), help="seconds of the exact solver; or 120")
+    parser.add_argument("--box", metavar="N", type=whole(1, 10**9), help="the box of an interval; 1000000 without it")
+    parser.add_argument("--time-limit", metavar="N", type=whole(1, 10**6), help="seconds of the exact solver; or 120")
     parser.add_argument("--sort", choices=["multiplier"], help="constraints with the greatest multipliers first")
 
 

@@ -11,7 +11,8 @@ from pathlib import Path
 from ..messages import status as status_message
 from ..program import ProgramError
 from ..view import found, page
-from .asking import NOT_FOUND, Ended, add_files, asked, handed_over, up_to
+from . import whole
+from .asking import NOT_FOUND, Ended, add_files, asked, handed_over
 
 WRITE_FAULT = 4
 
@@ -22,7 +23,7 @@ def add_arguments(parser: argparse.ArgumentParser) -> None:
     parser.add_argument("-o", "--output", metavar="FILE", help="the page; beside the script, with .html, without it")
     parser.add_argument("--range", metavar="P", dest="parameter", help="also the value over the parameter P")
     chosen = "whose answer stands in the script; 1 without it"
-    parser.add_argument("--setting", metavar="N", type=up_to(1000), default=1, help=chosen)
+    parser.add_argument("--setting", metavar="N", type=whole(1, 1000), default=1, help=chosen)
     parser.add_argument("--sort", choices=["multiplier"], help="the constraints' table: the greatest multipliers first")
     parser.add_argument("--open", action="store_true", help="open the page in a browser")
 

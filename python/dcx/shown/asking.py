@@ -34,7 +34,7 @@ def asked(task: str, *arguments: Any, seconds: Optional[float] = None) -> Any:
         raise SolverError(f"the exact solver can't be started: {error.strerror or error}") from None
     program.limit_memory(process.pid)
     try:
-        reply, said = process.communicate(pickle.dumps((task, arguments)), timeout=seconds)
+        reply, said = process.communicate(pickle.dumps((task, arguments)), timeout=program.patience(seconds))
     except subprocess.TimeoutExpired:
         raise SolverError(
             f"the exact solver had no answer after {seconds:g} s, and was ended; time_limit gives it more"

@@ -6,7 +6,8 @@ from typing import Any, Mapping, NamedTuple, Optional
 
 from .. import arrays, program
 from ..arguments import box as box_of
-from ..arrays import Array, size_of, to_fractions
+from ..arguments import seconds_of
+from ..arrays import Array, to_fractions
 from ..errors import UnsupportedError
 from ..refusals import read
 from . import asking, fallback
@@ -68,11 +69,14 @@ def verify(
     entries of at most `box` in magnitude, a million by itself; `interval.boxed` tells which. `time_limit` is how many
     seconds the exact solver may take, 120 by itself.
 
-    Raises `KeyError` where a key is no variable or constraint of the problem or a variable has no value, `ValueError`
-    where a value has another shape or isn't finite, `UnsupportedError` of a problem in whole numbers, `SolverError`
-    where the search fails or takes too long, `CertificateError` where the program says no, and else as
-    `Problem.solve`.
+    Raises `TypeError` where values or multipliers are no dictionary, `KeyError` where a key is no variable or
+    constraint of the problem or a variable has no value, `ValueError` where a value has another shape or isn't finite
+    or a limit is none, `UnsupportedError` of a problem in whole numbers, `SolverError` where the search fails or takes
+    too long, `CertificateError` where the program says no, and else as `Problem.solve`.
     """
+    for given, what in ((values, "values by variable or name"), (duals, "multipliers by constraint")):
+        if not isinstance(given, Mapping) and (given is values or given is not None):
+            raise TypeError(f"verify(..) takes {what}, in a dictionary, and not a {type(given).__name__}")
     if problem.is_mixed_integer():
         reason = "verify(..) isn't offered of a problem in whole numbers: no multipliers show its best value"
         raise UnsupportedError(reason, problem.site)
@@ -81,8 +85,8 @@ def verify(
     read(program.run("check", script.text), script)
     named = _values(script, values)
     stated = None if duals is None else _duals(script, duals)
-    box = box_of(box)
-    made, lacks, value, moved = asking.asked("verified", script.text, settings, box, named, stated, seconds=time_limit)
+    limits = {"seconds": seconds_of(time_limit)}
+    made, lacks, value, moved = asking.asked("verified", script.text, settings, box_of(box), named, stated, **limits)
     interval = fallback.checked(made, settings, problem._maximized)
     broken = {}
     for number, lack in lacks.items():
@@ -100,11 +104,11 @@ def _values(script: Any, values: Mapping[Any, Any]) -> dict[str, list[Fraction]]
     """The entries of each variable, by the script's name."""
     found: dict[str, list[Fraction]] = {}
     for key, value in values.items():
-        variable = key if not isinstance(key, str) else _named(script, key)
+        variable = script.leaf("variable", key)
+        if variable is None:
+            raise KeyError(f"{key!r} is no variable of the problem")
         if variable in script.idle:
             continue
-        if variable not in script.names or variable.kind != "variable":
-            raise KeyError(f"{key!r} is no variable of the problem")
         if value is None:
             raise KeyError(f"the variable {variable.name()} has no value")
         found[script.names[variable]] = list(variable._shaped(value).dense().entries)
@@ -112,14 +116,6 @@ def _values(script: Any, values: Mapping[Any, Any]) -> dict[str, list[Fraction]]
         if name not in found:
             raise KeyError(f"the variable {variable.name()} has no value")
     return {name: found[name] for name in script.variables}
-
-
-def _named(script: Any, name: str) -> Any:
-    """The variable of a name: the user's, else the script's."""
-    for variable in (*script.variables.values(), *script.idle):
-        if variable.kind == "variable" and name in (variable.given_name, variable.name()):
-            return variable
-    return script.variables.get(name)
 
 
 def _duals(script: Any, duals: Mapping[Any, Any]) -> dict[int, list[Fraction]]:
@@ -131,9 +127,10 @@ def _duals(script: Any, duals: Mapping[Any, Any]) -> dict[int, list[Fraction]]:
             raise KeyError(f"{constraint!r} is no constraint of the problem")
         if value is None:
             continue
-        entries = arrays.array_of(value).dense().entries
-        if len(entries) != size_of(constraint.shape):
-            count = f"{len(entries)} multipliers are given for {constraint}"
-            raise ValueError(f"{count}, which has {constraint.size} entries")
-        found[number] = list(entries)
+        array = arrays.array_of(value).dense()
+        is_turned = array.ndim == constraint.ndim == 2 and array.shape != constraint.shape
+        if array.size != constraint.size or is_turned:
+            given = f"multipliers of the shape {array.shape} are given for {constraint}"
+            raise ValueError(f"{given}, which has the shape {constraint.shape}")
+        found[number] = list(array.entries)
     return found

@@ -44,8 +44,8 @@ def view(
     script = problem.written
     name = None
     if parameter is not None:
-        name = script.names.get(parameter)
-        if name not in script.parameters:
+        name = script.names.get(script.leaf("parameter", parameter))
+        if name is None:
             raise KeyError(f"{parameter!r} is no parameter that the problem reaches")
     settings = script.settings_line()
     shown = found(script.text.encode(), settings.encode(), ("problem.py", "settings.txt"), pivots(max_iters), name)

@@ -1,0 +1,1 @@
+"""What another solver answers to the scripts of ../users."""
