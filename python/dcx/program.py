@@ -15,7 +15,7 @@ import subprocess
 import tempfile
 from contextlib import ExitStack
 from pathlib import Path
-from typing import NamedTuple, Optional, Sequence, Union
+from typing import Any, NamedTuple, Optional, Sequence, Union
 
 from .errors import DCXError
 
@@ -24,7 +24,7 @@ try:
 except ImportError:  # a system without limits of this kind
     resource = None
 
-__all__ = ["ProgramError", "Run", "TimedOut", "find", "limit_memory", "patience", "run"]
+__all__ = ["Process", "ProgramError", "Run", "TimedOut", "find", "limit_memory", "patience", "run"]
 
 _MEMORY = 4096  # MiB, where DCX_MEMORY says nothing
 _LONGEST = 1_000_000  # seconds: more than this some systems don't count in a wait
@@ -46,6 +46,28 @@ class Run(NamedTuple):
     word: str
     status: int
     report: bytes
+
+
+class Process(subprocess.Popen):
+    """A process that ends with the `with` around it, and where its start is interrupted. Its arguments and errors are
+    those of `subprocess.Popen`."""
+
+    def __init__(self, words: Sequence[str], **how: Any) -> None:
+        try:
+            super().__init__(words, **how)
+        except BaseException:
+            # An interrupt may come when it runs already; one that couldn't be started has ended.
+            if getattr(self, "pid", None) is not None and self.returncode is None:
+                self.kill()
+                self.wait()
+            raise
+
+    def __exit__(self, *_: Any) -> None:
+        if self.poll() is None:
+            self.kill()
+        self.wait()
+        for pipe in filter(None, (self.stdin, self.stdout, self.stderr)):
+            pipe.close()
 
 
 def find() -> str:
@@ -116,7 +138,7 @@ def run(
             numbers.append(file.fileno())
             paths.append(f"/dev/fd/{file.fileno()}")
         try:
-            process = subprocess.Popen(
+            process = Process(
                 [program, word, *paths, *options],
                 stdin=subprocess.DEVNULL,
                 stdout=subprocess.PIPE,
@@ -131,17 +153,13 @@ def run(
             raise ProgramError(f"{program} may not be run; `chmod +x {program}` lets it be") from None
         except OSError as error:
             raise ProgramError(f"{program} can't be run: {error.strerror or error}") from error
-        _limit(process.pid, limit)
-        try:
-            report, said = process.communicate(timeout=patience(timeout))
-        except subprocess.TimeoutExpired:
-            raise TimedOut(f"the program had no answer after {timeout:g} s, and was ended (word {word!r})") from None
-        finally:
-            if process.poll() is None:
-                process.kill()
-            process.wait()
-            for pipe in (process.stdout, process.stderr):
-                pipe.close()
+        with process:
+            _limit(process.pid, limit)
+            try:
+                report, said = process.communicate(timeout=patience(timeout))
+            except subprocess.TimeoutExpired:
+                reason = f"the program had no answer after {timeout:g} s, and was ended (word {word!r})"
+                raise TimedOut(reason) from None
     status = process.returncode
     if status < 0:
         raise ProgramError(_ended(word, -status, limit))

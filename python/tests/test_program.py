@@ -195,6 +195,17 @@ class Faults(Folder):
         self.assertIn(b"KeyboardInterrupt", said)
         self.assertFalse(is_running(int((self.folder / "pid").read_text())))
 
+    def test_an_interrupt_while_it_is_started_ends_it(self):
+        def interrupted(*_):
+            # (what the start of a process reads last, when the process runs already)
+            wait_for((self.folder / "pid").exists)
+            raise KeyboardInterrupt
+
+        with self.shell(f"{self.told}; exec sleep 60"), mock.patch("os.read", interrupted):
+            with self.assertRaises(KeyboardInterrupt):
+                program.run("check", SCRIPT)
+        self.assertFalse(is_running(int((self.folder / "pid").read_text())))
+
 
 class Leftovers(Folder):
     def test_nothing_is_left(self):

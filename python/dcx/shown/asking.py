@@ -23,7 +23,7 @@ def asked(task: str, *arguments: Any, seconds: Optional[float] = None) -> Any:
     seconds = SECONDS if seconds is None else seconds
     path = os.pathsep.join(filter(None, [_FOLDER, os.environ.get("PYTHONPATH")]))
     try:
-        process = subprocess.Popen(
+        process = program.Process(
             [sys.executable, "-m", f"{__package__}.worker"],
             stdin=subprocess.PIPE,
             stdout=subprocess.PIPE,
@@ -32,19 +32,13 @@ def asked(task: str, *arguments: Any, seconds: Optional[float] = None) -> Any:
         )
     except OSError as error:
         raise SolverError(f"the exact solver can't be started: {error.strerror or error}") from None
-    program.limit_memory(process.pid)
-    try:
-        reply, said = process.communicate(pickle.dumps((task, arguments)), timeout=program.patience(seconds))
-    except subprocess.TimeoutExpired:
-        raise SolverError(
-            f"the exact solver had no answer after {seconds:g} s, and was ended; time_limit gives it more"
-        ) from None
-    finally:
-        if process.poll() is None:
-            process.kill()
-        process.wait()
-        for pipe in (process.stdin, process.stdout, process.stderr):
-            pipe.close()
+    with process:
+        program.limit_memory(process.pid)
+        try:
+            reply, said = process.communicate(pickle.dumps((task, arguments)), timeout=program.patience(seconds))
+        except subprocess.TimeoutExpired:
+            reason = f"the exact solver had no answer after {seconds:g} s, and was ended; time_limit gives it more"
+            raise SolverError(reason) from None
     if process.returncode != 0 or not reply:
         text = said.decode(errors="replace").strip().splitlines()
         raise SolverError(f"the exact solver ended without an answer ({text[-1] if text else 'nothing was said'})")
