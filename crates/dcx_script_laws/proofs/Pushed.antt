@@ -1,7 +1,9 @@
 -- What a push leaves: the node that was there, or one more.
-use Rattle.std.proofs.Common.{◌≡◌, ℕ, zero, suc, ◌+◌, ◌<◌, Bool, true, false, cond, nat_le, nat_lt, List, [], ◌∷◌, ◌++◌, length}
+use Rattle.std.proofs.Common.{◌≡◌, ℕ, zero, suc, ◌+◌, ◌<◌, Bool, true, false, cond, nat_le, nat_lt, nat_eq, List, [], ◌∷◌, ◌++◌, length}
 use Rattle.std.proofs.Common.{map, Option, Some, None, Result, Ok, Err, refl, sym, ap, subst, ◌∙◌, arith, true≢false, All, append-nil, append_assoc}
+use Rattle.std.specs.Bool.{Decides}
 use Rattle.std.specs.List.{AllByRecursion, list_all, position_from, slice_get}
+use Rattle.std.specs.Cmp.Lexicographic.{pointwise, bytes_decides}
 use Rattle.std.proofs.lemmas.Bool.{and_parts, leb-true}
 use Rattle.std.proofs.lemmas.Bool.Decides.{Decides-ltb}
 use Rattle.std.proofs.lemmas.List.Elements.{All-from_recursion}
@@ -10,7 +12,7 @@ use Rattle.dcx_shape.specs.declared.shape.Sides.{Sides}
 use Rattle.dcx_shape.specs.declared.place.Place.{Place}
 use Rattle.dcx_shape.specs.Sides.{entries_of}
 use Rattle.dcx_arena.specs.declared.fault.Count.TheVariants.{Nodes, Entries}
-use Rattle.dcx_arena.specs.Nodes.{Node, AreNodes, IsWithin, Holds, IsNew, most, sides_at, entries_in}
+use Rattle.dcx_arena.specs.Nodes.{Node, IsOf, AreNodes, IsWithin, Holds, IsNew, most, sides_at, entries_in}
 use Rattle.dcx_arena.proofs.Nodes.{node_added}
 use Rattle.dcx_call.specs.declared.call.Call.{Call}
 use Rattle.dcx_call.specs.Calls.{shape_of}
@@ -18,7 +20,8 @@ use Rattle.dcx_script_values.specs.declared.fault.ElabFault.{ElabFault}
 use Rattle.dcx_script_values.specs.declared.fault.ElabFault.TheVariants.{BadArgument, ShapeClash}
 use Rattle.dcx_script_values.specs.Values.{State, and_then, unless, or_fault, too_many}
 use Rattle.dcx_script_values.specs.Nodes.{is_of, are_there, found_or_added, push}
-use Rattle.dcx_script_state.proofs.Pushes.{is_of-decides}
+use Rattle.dcx_script_values.specs.Same.{same_call}
+use Rattle.dcx_script_state.proofs.SameCalls.{two, calls_decide}
 
 -- ---- where a test first passes
 module _ {X : Type 0} (p : X → Bool) where
@@ -49,6 +52,11 @@ below_all n args e = All-from_recursion (λ a. a < n) args (by args e)
     by : (xs : List ℕ) → list_all (λ a. nat_lt a n) xs ≡ true → AllByRecursion (λ a. a < n) xs
     by [] t = tt
     by (x ∷ xs) t = let q = and_parts (nat_lt x n) (list_all (λ a. nat_lt a n) xs) t in ((Decides-ltb x n).0 q.0, by xs q.1)
+
+is_of-decides : (call : Call) (args : List ℕ) (n : Node Call) → Decides (is_of call args n) (IsOf n call args)
+is_of-decides call args n =
+    two (same_call n.call call) (pointwise nat_eq n.args args) (calls_decide n.call call) (bytes_decides n.args args)
+    (λ e f. record { same_call = e; same_args = f }) (λ r. r.same_call) (λ r. r.same_args)
 
 module _ (s : State) (place : Place) (call : Call) (args : List ℕ) where
   abbrev pub node : Sides → Node Call
