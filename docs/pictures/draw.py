@@ -407,6 +407,7 @@ def floors():
             rows.append((heading.group(1), heading.group(2).rstrip("."), []))
         elif line.startswith("dcx"):
             crate, _, named = line.partition(":")
+            crate = crate.removesuffix(" staticlib")
             rows[-1][2].append(crate)
             below[crate] = named.split()
     rows.reverse()

@@ -7,7 +7,7 @@ use Rattle.dcx_math.specs.LowestTerms.{IsInLowestTerms}
 use Rattle.dcx_math.proofs.Ring.{/ℚ-is}
 use Rattle.dcx_math.proofs.Orders.{*ℚ_idl}
 use Rattle.dcx_math.proofs.Ratios.{ratio-is-/ℚ}
-use Rattle.dcx_frac.specs.Fits.{IsRepresentable, representable}
+use Rattle.dcx_atom.specs.Fits.{IsRepresentable, representable}
 
 reciprocal_lowest : (n : ℕ) → IsInLowestTerms (whole (pos 1) /ℚ whole (pos (suc n))) (pos 1) (pos (suc n))
 reciprocal_lowest n = record { positive = omega (arith, ints); coprime = λ d z h. eq-one_of_dvd-one z; is = ratio-is-/ℚ (pos 1) (pos (suc n)) (omega (arith, ints)) }

@@ -1,6 +1,6 @@
 //! Sums and differences of entries: `a + b`, `-a`, and the differences of a vector.
 ghost use Rattle.std.specs.Prelude.{◌≡◌, [], ◌∷◌, IfOk, option_map};
-ghost use Rattle.dcx_frac.specs.Frac.{value};
+ghost use Rattle.dcx_atom.specs.Frac.{value};
 ghost use Rattle.dcx_shape.specs.Shape.{sides_of};
 ghost use Rattle.dcx_atom.specs.Signs.{common_sign};
 ghost use Rattle.dcx_atom.specs.Linear.{linear_term};
@@ -9,10 +9,9 @@ ghost use Rattle.dcx_affine.specs.AddedLaws.{plus_linear, plus_sign, plus_trend,
 
 use crate::strided::rising;
 use dcx_atom::{
-    EntryTerms, LinearOp, Sign, Terms, Trend, Triple, all_nonneg, all_nonpos, first_sign,
+    EntryTerms, Frac, LinearOp, Sign, Terms, Trend, Triple, all_nonneg, all_nonpos, first_sign,
     minus_one, same_shape,
 };
-use dcx_frac::Frac;
 use dcx_shape::{Shape, Sides};
 use std::alloc::{AllocError, Global};
 

@@ -14,8 +14,7 @@ ghost use Rattle.dcx_affine.specs.JoinedLaws.{hstack_linear, hstack_sign, hstack
 use crate::added::{common_sign, one_term, term};
 use crate::slots::{Line, Slot};
 use crate::strided::rising;
-use dcx_atom::{LinearOp, Sign, Terms, Trend, Triple};
-use dcx_frac::Frac;
+use dcx_atom::{Frac, LinearOp, Sign, Terms, Trend, Triple};
 use dcx_shape::Shape;
 use std::alloc::{AllocError, Global};
 

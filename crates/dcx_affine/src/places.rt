@@ -11,8 +11,7 @@ ghost use Rattle.dcx_affine.specs.Places.{index_call, reshape_call, transpose_ca
 ghost use Rattle.dcx_affine.specs.PlaceLaws.{index_is, reshape_is, transpose_is, diag_is, promote_is};
 
 use crate::strided::{Strided, rising, strided_map, strided_shape};
-use dcx_atom::{LinearOp, Sign, Stride, Terms, Trend, first_sign, same_shape};
-use dcx_frac::Frac;
+use dcx_atom::{Frac, LinearOp, Sign, Stride, Terms, Trend, first_sign, same_shape};
 use dcx_shape::{Places, Shape, Sides};
 use std::alloc::{AllocError, Global};
 

@@ -1,6 +1,6 @@
 //! Calls of one argument, each of whose entries is a number times the sum of a stride of the argument's entries.
 ghost use Rattle.std.specs.Prelude.{◌≡◌, ◌+◌, ◌*◌, ◌^◌, ◌<◌, ◌≤◌, IsSome, IfOk, IfSome, map, option_map};
-ghost use Rattle.dcx_frac.specs.Frac.{value};
+ghost use Rattle.dcx_atom.specs.Frac.{value};
 ghost use Rattle.dcx_shape.specs.Shape.{sides_of};
 ghost use Rattle.dcx_shape.specs.Sides.{entries_of};
 ghost use Rattle.dcx_atom.specs.Arrays.{sides_list, sides_at, list_below};
@@ -8,8 +8,7 @@ ghost use Rattle.dcx_atom.specs.Signs.{rises};
 ghost use Rattle.dcx_atom.specs.Linear.{linear_term, AreTermsOf};
 ghost use Rattle.dcx_affine.specs.Strided.{StridedCall, strided_meaning, stride_terms};
 
-use dcx_atom::{EntryTerms, Stride, Terms, Trend, Triple};
-use dcx_frac::Frac;
+use dcx_atom::{EntryTerms, Frac, Stride, Terms, Trend, Triple};
 use dcx_shape::Shape;
 use std::alloc::{AllocError, Global};
 

@@ -1,7 +1,7 @@
 //! Sums along a side, means, running sums and traces.
 ghost use Rattle.std.specs.Prelude.{◌≡◌, ◌<◌, pos};
 ghost use Rattle.dcx_math.specs.Rational.{whole, inverse};
-ghost use Rattle.dcx_frac.specs.Frac.{value};
+ghost use Rattle.dcx_atom.specs.Frac.{value};
 ghost use Rattle.dcx_shape.specs.Shape.{sides_of};
 ghost use Rattle.dcx_affine.specs.Strided.{strided_meaning};
 ghost use Rattle.dcx_affine.specs.StridedLaws.{strided_linear, strided_sign, strided_trend};
@@ -9,8 +9,7 @@ ghost use Rattle.dcx_affine.specs.Folds.{sum_call, mean_call, running_call, trac
 ghost use Rattle.dcx_affine.specs.FoldLaws.{sum_is, mean_is, running_is, trace_is};
 
 use crate::strided::{Strided, rising, strided_map, strided_shape};
-use dcx_atom::{Axis, LinearOp, Sign, Stride, Terms, Trend, first_sign};
-use dcx_frac::Frac;
+use dcx_atom::{Axis, Frac, LinearOp, Sign, Stride, Terms, Trend, first_sign};
 use dcx_shape::{Shape, Sides};
 use std::alloc::{AllocError, Global};
 

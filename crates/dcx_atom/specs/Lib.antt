@@ -1,4 +1,7 @@
 -- What contracts cite: arrays, what a call means and forms, its graph and steps, and the laws that it keeps.
+-- `pub use`: what callers need of the libraries below.
+pub use Rattle.dcx_frac.specs.Fits
+pub use Rattle.dcx_frac.specs.Frac
 pub mod Arrays
 pub mod Formed
 pub mod Entrywise

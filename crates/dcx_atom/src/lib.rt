@@ -41,6 +41,8 @@ pub use bounding::{
     bounding_row, check_sum, check_total, each_alone, farther_of, greater, lesser, magnitude,
     of_kind, only_shape, outward_of, row_weights,
 };
+pub use dcx_frac::Frac;
+pub use dcx_shape::{Name, copy_name};
 pub use flags::{Bend, Sign, Trend, all_nonneg, all_nonpos, first_sign};
 pub use forming::{
     add_product, check_at_most, check_equal, check_weights, is_at_most, is_equal, minus_one,

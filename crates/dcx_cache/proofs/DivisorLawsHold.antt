@@ -11,8 +11,8 @@ use Rattle.dcx_linear.specs.Parameters.{entry_of}
 use Rattle.dcx_linear.specs.ParamForms.{form_value, number_of_form, form_of_number, sum_gives_form, change_gives_form, IsEntryForm}
 use Rattle.dcx_linear.specs.FormsAt.{frac_value}
 use Rattle.dcx_unknowns.proofs.NodeForms.{nodes_of, not_reduced}
-use Rattle.dcx_formed.proofs.Coefs.{fracs_are, param_forms_are}
-use Rattle.dcx_formed.proofs.Settled.{value_settled}
+use Rattle.dcx_graph.proofs.Coefs.{fracs_are, param_forms_are}
+use Rattle.dcx_graph.proofs.Settled.{value_settled}
 use Rattle.dcx_fit.proofs.Fitting.{fitting_holds}
 use Rattle.dcx_cache.specs.DivisorLaws.{FracsDivideByNoZero, ParamFormsDivideByNoZero, FormedAreFitting}
 use Rattle.dcx_cache.proofs.Divisors.{divides}

@@ -50,11 +50,11 @@ use Rattle.dcx_entries.specs.Parts.{number_in, has_zero_divisor}
 use Rattle.dcx_entries.specs.Entries.{PairEntryBy, PairEntry}
 use Rattle.dcx_entries.specs.Standing.{args_among}
 use Rattle.dcx_entries.specs.Nodes.{Table, table_forms, numbers_in, ReducedEntry, NodeEntryBy, AreFormed}
-use Rattle.dcx_formed.proofs.Coefs.{AreCoefs}
-use Rattle.dcx_formed.proofs.Numbers.{source, made_number, number_value, number_read, args_constant}
-use Rattle.dcx_formed.proofs.Reached.{node_bent}
-use Rattle.dcx_formed.proofs.Steady.{bent_parts}
-use Rattle.dcx_formed.proofs.Tables.{form_in, entry_there}
+use Rattle.dcx_graph.proofs.Coefs.{AreCoefs}
+use Rattle.dcx_graph.proofs.Numbers.{source, made_number, number_value, number_read, args_constant}
+use Rattle.dcx_graph.proofs.Reached.{node_bent}
+use Rattle.dcx_graph.proofs.Steady.{bent_parts}
+use Rattle.dcx_graph.proofs.Tables.{form_in, entry_there}
 
 -- ---- tests
 divided_nonzero : (j : ℕ) (x y : ℚ) (z : Frac) → divided j x y ≡ Ok z → y ≢ whole (pos 0)

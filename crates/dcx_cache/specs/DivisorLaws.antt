@@ -7,7 +7,7 @@ use Rattle.dcx_tree.specs.declared.problem.Problem.{Problem}
 use Rattle.dcx_tree.specs.Meaning.{IsAccepted, IsDpp, IsFitting, setting_of}
 use Rattle.dcx_linear.specs.declared.param_form.ParamForm.{ParamForm}
 use Rattle.dcx_entries.specs.Nodes.{Table}
-use Rattle.dcx_formed.specs.Forms.{AreFormedOfFracs, AreFormedOfParamForms}
+use Rattle.dcx_graph.specs.Forms.{AreFormedOfFracs, AreFormedOfParamForms}
 use Rattle.dcx_fit.specs.Fit.{FitsParameters}
 use Rattle.dcx_fit.specs.Laws.{DividesByNoZero}
 

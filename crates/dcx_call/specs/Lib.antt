@@ -1,4 +1,8 @@
 -- What contracts cite: attributes, the calls and their buckets, their values as they are formed, and the laws.
+-- `pub use`: what callers need of the libraries below.
+pub use Rattle.dcx_affine.specs.Pairing as AffinePairing
+pub use Rattle.dcx_affine.specs.declared.pairing
+pub use Rattle.dcx_point.specs.Pairs
 pub mod Attributes
 pub mod Atoms
 pub mod Linears

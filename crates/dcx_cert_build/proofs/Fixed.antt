@@ -6,7 +6,7 @@ use Rattle.dcx_convex.specs.Certificates.{is_fixed}
 use Rattle.dcx_tree.specs.declared.problem.Problem.{Problem}
 use Rattle.dcx_tree.specs.Meaning.{convex_problem}
 use Rattle.dcx_unknowns.specs.Layout.{is_reduced}
-use Rattle.dcx_formed.proofs.Settled.{fixed_alike}
+use Rattle.dcx_graph.proofs.Settled.{fixed_alike}
 
 pub unfixed_is_reduced : (rules : Rules) (p : Problem) (i : ℕ) → is_fixed (convex_problem p).nodes i ≡ false → is_reduced rules p i ≡ true
 unfixed_is_reduced Plain p i t = ap not t

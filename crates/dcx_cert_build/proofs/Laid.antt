@@ -21,7 +21,7 @@ use Rattle.dcx_entries.specs.Entries.{alone}
 use Rattle.dcx_entries.specs.Nodes.{Table, table_forms, NodeEntryBy, AreFormed}
 use Rattle.dcx_entries.specs.Standing.{args_among}
 use Rattle.dcx_entries.specs.Kept as kept
-use Rattle.dcx_formed.proofs.Lists.{joined_same, joined_none, map-joined}
+use Rattle.dcx_graph.proofs.FormedLists.{joined_same, joined_none, map-joined}
 use Rattle.dcx_graph.specs.declared.origin.Origin.{Origin}
 use Rattle.dcx_graph.specs.declared.origin.Origin.TheVariants as origins
 use Rattle.dcx_graph.specs.Program.{Program, IsProgram, constraint_entries, entry_origin, graph_origin}

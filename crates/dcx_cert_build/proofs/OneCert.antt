@@ -19,7 +19,7 @@ use Rattle.dcx_cert_sections.specs.declared.cert.Cert.{Cert}
 use Rattle.dcx_cert_sections.specs.declared.cert.Cert.TheVariants.{Optimal, Infeasible}
 use Rattle.dcx_cert_sections.specs.declared.weights.NodeWeights.{NodeWeights}
 use Rattle.dcx_cert_outline.specs.Drawn.{problem_outline}
-use Rattle.dcx_postsolve.proofs.Lists.{same_formed}
+use Rattle.dcx_graph.proofs.Lists.{same_formed}
 use Rattle.dcx_lp_answer.specs.Multipliers.{passing_from}
 use Rattle.dcx_graph.specs.declared.origin.Origin.{Origin}
 use Rattle.dcx_graph.specs.Answers.{IsRead}

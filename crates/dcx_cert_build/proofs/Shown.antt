@@ -23,9 +23,9 @@ use Rattle.dcx_tree.proofs.Sublists.{distinct_front, distinct_back}
 use Rattle.dcx_lp_answer.specs.declared.answer.LpStatus.{LpStatus}
 use Rattle.dcx_lp_answer.specs.declared.answer.RowNote.{RowNote}
 use Rattle.dcx_lines.specs.Shown.{variables_of, constraints_of}
-use Rattle.dcx_formed.proofs.Lists.{all_at}
-use Rattle.dcx_postsolve.specs.Points.{IsPointOf}
-use Rattle.dcx_postsolve.specs.Duals.{AreDuals}
+use Rattle.dcx_graph.proofs.FormedLists.{all_at}
+use Rattle.dcx_graph.specs.Points.{IsPointOf}
+use Rattle.dcx_graph.specs.Duals.{AreDuals}
 use Rattle.dcx_graph.specs.Fixed.{HaveArrays}
 use Rattle.dcx_cert_build.specs.Built.{value_if, values_in}
 use Rattle.dcx_cert_build.proofs.Copied.{value_of}

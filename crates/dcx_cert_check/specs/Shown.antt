@@ -3,7 +3,7 @@ use Rattle.dcx_point.specs.Pairs.{Pairs}
 use Rattle.dcx_tree.specs.declared.problem.Problem.{Problem}
 use Rattle.dcx_tree.specs.Meaning.{IsFitting, IsDomainPoint, setting_of}
 use Rattle.dcx_answer.specs.declared.answer.Answer.TheVariants as answers
-use Rattle.dcx_right.specs.Answers.{IsRightFor}
+use Rattle.dcx_cert_values.specs.Answers.{IsRightFor}
 use Rattle.dcx_cert_sections.specs.declared.cert.Cert.{Cert}
 use Rattle.dcx_cert_sections.specs.declared.cert.Cert.TheVariants.{Optimal, Infeasible, Unbounded}
 

@@ -5,9 +5,9 @@ use Rattle.dcx_frac.specs.declared.fraction.Frac.{Frac}
 use Rattle.dcx_frac.specs.declared.fraction.Passes.{Passes}
 use Rattle.dcx_atom.specs.Arrays.{list_below, joined_below}
 use Rattle.dcx_point.specs.Pairs.{Pairs}
-use Rattle.dcx_convex.specs.Rules.{Rules}
-use Rattle.dcx_tree.specs.declared.problem.Problem.{Problem}
-use Rattle.dcx_tree.specs.Problems.{roots_of}
+use Rattle.dcx_unknowns.specs.Rules.{Rules}
+use Rattle.dcx_unknowns.specs.problem.Problem.{Problem}
+use Rattle.dcx_unknowns.specs.Problems.{roots_of}
 use Rattle.dcx_linear.specs.declared.change.Change.{Change}
 use Rattle.dcx_entries.specs.declared.entries.EntryForms.{EntryForms}
 use Rattle.dcx_entries.specs.declared.stop.FormStop.{FormStop}

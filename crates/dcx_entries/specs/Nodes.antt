@@ -14,15 +14,15 @@ use Rattle.dcx_affine.specs.declared.pairing.Pairing.TheVariants.{Times, MatTime
 use Rattle.dcx_affine.specs.Pairing.{pairs_at}
 use Rattle.dcx_point.specs.Pairs.{Pairs}
 use Rattle.dcx_arena.specs.Nodes.{IsNode}
-use Rattle.dcx_call.specs.declared.call.Call.{Call}
-use Rattle.dcx_call.specs.declared.call.Call.TheVariants as calls
-use Rattle.dcx_call.specs.Atoms.{atom_meaning}
-use Rattle.dcx_call.specs.Linears.{linear_meaning}
-use Rattle.dcx_call.specs.Values.{given_by, entry_formed}
-use Rattle.dcx_convex.specs.Rules.{Rules, Plain, judgement_at}
-use Rattle.dcx_tree.specs.declared.problem.Problem.{Problem}
-use Rattle.dcx_tree.specs.Nodes.{Node, number_in as number_of_name, arg_sides}
-use Rattle.dcx_tree.specs.Meaning.{names_in, convex_problem}
+use Rattle.dcx_unknowns.specs.call.Call.{Call}
+use Rattle.dcx_unknowns.specs.call.Call.TheVariants as calls
+use Rattle.dcx_unknowns.specs.Atoms.{atom_meaning}
+use Rattle.dcx_unknowns.specs.Linears.{linear_meaning}
+use Rattle.dcx_unknowns.specs.Values.{given_by, entry_formed}
+use Rattle.dcx_unknowns.specs.Rules.{Rules, Plain, judgement_at}
+use Rattle.dcx_unknowns.specs.problem.Problem.{Problem}
+use Rattle.dcx_unknowns.specs.Nodes.{Node, number_in as number_of_name, arg_sides}
+use Rattle.dcx_unknowns.specs.Meaning.{names_in, convex_problem}
 use Rattle.dcx_unknowns.specs.Unknowns.{first_unknown, unknown_from}
 use Rattle.dcx_unknowns.specs.Layout.{is_reduced, first_aux}
 use Rattle.dcx_linear.specs.declared.change.Change.{Change}

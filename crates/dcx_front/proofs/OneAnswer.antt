@@ -11,7 +11,7 @@ use Rattle.dcx_script_values.specs.declared.fault.ElabFault.{ElabFault}
 use Rattle.dcx_script_values.specs.declared.fault.ElabFault.TheVariants as elabs
 use Rattle.dcx_script_values.specs.Values.{Asked, State}
 use Rattle.dcx_script_values.specs.View.{Fails}
-use Rattle.dcx_script_state.specs.Ends.{roots_in}
+use Rattle.dcx_elab.specs.Ends.{roots_in}
 use Rattle.dcx_elab.specs.declared.work.Work.{Work}
 use Rattle.dcx_elab.specs.Meaning.{meaning, IsWork, Elaborates}
 use Rattle.dcx_refusal.specs.declared.refusal.Refusal.{Refusal}

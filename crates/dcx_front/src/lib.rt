@@ -26,5 +26,6 @@ mod sites;
 
 pub use accepted::Accepted;
 pub use accepting::accept;
+pub use dcx_elab::{Work, elaborate};
 pub use fault::FrontFault;
 pub use numbers::unread;

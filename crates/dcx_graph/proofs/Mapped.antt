@@ -32,7 +32,7 @@ use Rattle.dcx_unknowns.specs.Laws.{AreAlike}
 use Rattle.dcx_postsolve.specs.Programs.{multipliers_of, bound_row}
 use Rattle.dcx_postsolve.specs.Points.{numbered}
 use Rattle.dcx_postsolve.specs.Duals.{AreDuals}
-use Rattle.dcx_right.specs.Answers.{multipliers_in, IsRightFor}
+use Rattle.dcx_postsolve.specs.Answers.{multipliers_in, IsRightFor}
 use Rattle.dcx_postsolve.specs.Laws.{ColumnsTellUnknowns, AreSameMultipliers}
 use Rattle.dcx_postsolve.proofs.ColumnParts.{columns_tell}
 use Rattle.dcx_postsolve.proofs.DualLaws.{right_multiplier}

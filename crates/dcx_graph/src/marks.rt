@@ -3,7 +3,7 @@ ghost use Rattle.std.specs.Prelude.{◌≡◌, ◌<◌, length, IfOk};
 ghost use Rattle.dcx_convex.specs.Rules.{Rules};
 ghost use Rattle.dcx_unknowns.specs.Layout.{is_reduced, AreReduced};
 ghost use Rattle.dcx_rules.specs.Verdicts.{IsVerdictOf};
-ghost use Rattle.dcx_right.specs.Fixed.{is_fixed};
+ghost use Rattle.dcx_postsolve.specs.Fixed.{is_fixed};
 ghost use Rattle.dcx_nodes.specs.Marks.{AreFixed};
 ghost use Rattle.dcx_graph.specs.Marks.{are_affine};
 

@@ -6,7 +6,7 @@ ghost use Rattle.dcx_unknowns.specs.Layout.{constraint_rows};
 ghost use Rattle.dcx_tree.specs.Meaning.{setting_of};
 ghost use Rattle.dcx_postsolve.specs.Duals.{AreDuals};
 ghost use Rattle.dcx_graph.specs.Answers.{IsAnswered, TellUnknowns, CanBeRead, IsPointRead, IsRead, StopsReading, answer_stop};
-ghost use Rattle.dcx_right.specs.Answers.{IsRightFor};
+ghost use Rattle.dcx_postsolve.specs.Answers.{IsRightFor};
 
 use crate::reduced::Reduced;
 use dcx_answer::{Answer, Duals, Site};

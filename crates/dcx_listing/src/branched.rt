@@ -5,10 +5,8 @@ ghost use Rattle.dcx_tree.specs.Meaning.{IsAccepted};
 
 use crate::calls::push_number;
 use dcx_answer::{BranchStop, WholeAnswer};
-use dcx_branch::branch;
-use dcx_cache::{Session, begin};
-use dcx_elab::Work;
-use dcx_front::{Accepted, accept};
+use dcx_front::{Accepted, Work, accept};
+use dcx_outcomes::{Session, begin, branch};
 use dcx_point::Setting;
 use dcx_rules::Verdict;
 use dcx_steps::Steps;

@@ -1,7 +1,7 @@
 //! The problem that a script stands for, and the settings of its solves, as lines.
 
 use crate::calls::{push_call, push_name, push_numbers, push_shape};
-use dcx_elab::{Work, elaborate};
+use dcx_front::{Work, elaborate};
 use dcx_point::Setting;
 use dcx_read::parse;
 use dcx_shape::Place;

@@ -1,4 +1,6 @@
 -- The lemmas by which the outcomes of settings are right, and one list.
+-- `pub use`: what callers need of the libraries below.
+pub use Rattle.dcx_cache.proofs.Counting
 pub mod Named
 pub mod Placed
 pub mod Same

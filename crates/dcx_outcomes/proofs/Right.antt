@@ -17,7 +17,7 @@ use Rattle.dcx_answer.specs.declared.answer.Answer.TheVariants.{Optimal, Infeasi
 use Rattle.dcx_answer.specs.declared.stop.Stop.{Stop}
 use Rattle.dcx_answer.specs.declared.outcome.Outcome.{Outcome}
 use Rattle.dcx_unknowns.specs.Layout.{constraint_rows}
-use Rattle.dcx_postsolve.specs.Duals.{AreDuals}
+use Rattle.dcx_graph.specs.Duals.{AreDuals}
 use Rattle.dcx_right.specs.Answers.{IsPointFor, SpeaksOf}
 use Rattle.dcx_graph.specs.Answers.{IsPointRead, IsRead}
 use Rattle.dcx_cache.specs.Answers.{Answers}

@@ -33,6 +33,8 @@ mod ranges;
 mod telling;
 mod wholes;
 
+pub use dcx_branch::branch;
+pub use dcx_cache::{Session, begin};
 pub use filters::filter_outcomes;
 pub use finding::{Found, outcomes};
 pub use ranges::{has_range, range_outcomes};

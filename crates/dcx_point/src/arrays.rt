@@ -2,8 +2,7 @@
 ghost use Rattle.std.specs.Prelude.{◌≡◌, [], length, slice_get, IfOk, OnOk, OnErr};
 ghost use Rattle.std.specs.Option.{option_copied};
 
-use dcx_atom::{Array, copy_array};
-use dcx_shape::{Name, copy_name};
+use dcx_atom::{Array, Name, copy_array, copy_name};
 use indexmap::IndexMap;
 use std::alloc::{AllocError, Global};
 use std::marker::Model;

@@ -17,5 +17,6 @@ pub mod laws;
 mod point;
 mod setting;
 
+pub use dcx_atom::Array;
 pub use point::Point;
 pub use setting::Setting;

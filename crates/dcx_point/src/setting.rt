@@ -3,8 +3,7 @@ ghost use Rattle.std.specs.Prelude.{◌≡◌, [], length, slice_get, IfOk, OnOk
 ghost use Rattle.std.specs.Option.{option_copied};
 
 use crate::arrays::Arrays;
-use dcx_atom::Array;
-use dcx_shape::Name;
+use dcx_atom::{Array, Name};
 use std::alloc::{AllocError, Global};
 use std::marker::Model;
 

@@ -22,7 +22,7 @@ use Rattle.dcx_unknowns.specs.Layout.{constraint_rows, constraint_slacks, slacks
 use Rattle.dcx_entries.specs.declared.formed.FormedRow.{FormedRow}
 use Rattle.dcx_entries.specs.Nodes.{table_forms}
 use Rattle.dcx_entries.specs.Kept.{graph_rows}
-use Rattle.dcx_postsolve.specs.Duals.{row_kind}
+use Rattle.dcx_graph.specs.Duals.{row_kind}
 use Rattle.dcx_graph.specs.Program.{Program, entries_in, entries_from, constraint_entries, graph_row}
 use Rattle.dcx_graph.specs.Answers.{rows_of}
 use Rattle.dcx_graph.specs.Correct.{ReducesAffine}

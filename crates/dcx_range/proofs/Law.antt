@@ -32,11 +32,11 @@ use Rattle.dcx_linear.specs.FormsAt.{form_at}
 use Rattle.dcx_linear.specs.Rows as rows
 use Rattle.dcx_linear.specs.Rows.{RowAt}
 use Rattle.dcx_linear.proofs.SettingRows.{on_row}
-use Rattle.dcx_formed.specs.Within.{IsKnownNumber, IsKnownTerm}
+use Rattle.dcx_graph.specs.Within.{IsKnownNumber, IsKnownTerm}
 use Rattle.dcx_std.specs.Solutions as solutions
 use Rattle.dcx_std.specs.Solutions.{linear_program}
 use Rattle.dcx_unknowns.specs.Unknowns.{point_at}
-use Rattle.dcx_postsolve.specs.Programs.{multipliers_of}
+use Rattle.dcx_graph.specs.Programs.{multipliers_of}
 use Rattle.dcx_graph.specs.Program.{Program}
 use Rattle.dcx_graph.specs.Answers.{rows_of}
 use Rattle.dcx_graph.specs.AsLinear.{row_at, linear_at}

@@ -40,7 +40,7 @@ use Rattle.dcx_lp_solve.specs.declared.stop.SolveStop.TheVariants as solves
 use Rattle.dcx_lp_solve.specs.Solved.{IsSolved, Stops}
 use Rattle.dcx_lp_solve.proofs.Right.{answers_are_right}
 use Rattle.dcx_unknowns.specs.Unknowns.{point_at}
-use Rattle.dcx_postsolve.specs.Programs.{multipliers_of}
+use Rattle.dcx_graph.specs.Programs.{multipliers_of}
 use Rattle.dcx_graph.specs.Program.{Program}
 use Rattle.dcx_graph.specs.Answers.{rows_of}
 use Rattle.dcx_graph.specs.Fixing.{FixGives}

@@ -51,7 +51,7 @@ use Rattle.dcx_std.specs.ScaledProgram.{IsScaledProgram}
 use Rattle.dcx_std.specs.Solutions.{unknowns_at, HasKinds}
 use Rattle.dcx_std.proofs.Solutions.{mapped_at}
 use Rattle.dcx_unknowns.specs.Unknowns.{point_at}
-use Rattle.dcx_postsolve.specs.Programs.{multipliers_of}
+use Rattle.dcx_graph.specs.Programs.{multipliers_of}
 use Rattle.dcx_graph.specs.Program.{Program}
 use Rattle.dcx_graph.specs.Answers.{rows_of}
 use Rattle.dcx_graph.specs.AsLinear.{linear_at}

@@ -1,7 +1,6 @@
 //! What a check tells of an accepted problem.
 use dcx_atom::Sign;
-use dcx_rules::Curvature;
-use dcx_tree::Sense;
+use dcx_rules::{Curvature, Sense};
 
 /// What a check tells of an accepted problem. Entries are counted over all shapes of a kind together.
 #[derive(Clone, Copy)]

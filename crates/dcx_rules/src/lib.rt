@@ -26,5 +26,6 @@ mod verdict;
 
 pub use checking::check;
 pub use curvature::Curvature;
+pub use dcx_tree::Sense;
 pub use fault::{Rule, RuleFault, RuleSite};
 pub use verdict::Verdict;

@@ -34,6 +34,7 @@ mod progression;
 mod reading;
 mod value;
 
+pub use dcx_tree::Tree;
 pub use extent::{Extent, axis_of, sides_from, told_side};
 pub use fault::{ElabFault, array_fault, too_many, tree_fault};
 pub use items::{Items, MOST_ITEMS, joined};

@@ -31,7 +31,7 @@ use Rattle.dcx_shape.specs.declared.shape.Sides.{Sides}
 use Rattle.dcx_shape.specs.declared.place.Place.{Place}
 use Rattle.dcx_point.specs.Pairs.{same_name}
 use Rattle.dcx_arena.specs.Nodes.{Node}
-use Rattle.dcx_call.specs.declared.call.Call.{Call}
+use Rattle.dcx_script_values.specs.call.Call.{Call}
 use Rattle.dcx_signature.specs.declared.table.Takes.{Takes}
 use Rattle.dcx_script_values.specs.declared.fault.ElabFault.TheVariants.{BadArgument}
 use Rattle.dcx_script_values.specs.Values.{Value, nothing, Act, ◌>>◌, done, unless}

@@ -15,9 +15,8 @@ ghost use Rattle.dcx_signature.specs.View.{param_seen, row_seen, words, given_se
 use crate::fitting::fits;
 use crate::table::{Param, Row, Takes, Way, is_word};
 use dcx_arena::NodeId;
-use dcx_script_values::{ElabFault, Value, plain_shape_of};
+use dcx_script_values::{ElabFault, Tree, Value, plain_shape_of};
 use dcx_shape::{Name, Place, Shape};
-use dcx_tree::Tree;
 use std::alloc::{AllocError, Global};
 use std::marker::Model;
 

@@ -10,9 +10,9 @@ use Rattle.dcx_cert_sections.specs.declared.section.Sections.{Sections}
 use Rattle.dcx_answer.specs.declared.cert_fault.CertFault.TheVariants as faults
 use Rattle.dcx_cert_sections.specs.declared.section.Section.{Section}
 use Rattle.dcx_cert_lines.specs.CertText.{cert_text}
-use Rattle.dcx_cache.specs.Programs.{HasMap}
-use Rattle.dcx_cache.specs.Counts.{Counts}
-use Rattle.dcx_cache.proofs.Counting.{begun_no_more}
+use Rattle.dcx_outcomes.specs.Programs.{HasMap}
+use Rattle.dcx_outcomes.specs.Counts.{Counts}
+use Rattle.dcx_outcomes.proofs.Counting.{begun_no_more}
 use Rattle.dcx_outcomes.specs.Warm.{AreFound}
 use Rattle.dcx_cert_runs.specs.Sections.{StopsSomewhere, IsCertificateAt}
 use Rattle.dcx_cert_runs.specs.Checking.{is_cert, ArePassed, IsFirstRefused}

@@ -1,7 +1,7 @@
 -- How many steps are counted at most where memory is wanting.
 use Rattle.std.proofs.Common.{ℕ, ◌+◌, ◌*◌, ◌≤◌, length, sym, subst, arith}
 use Rattle.dcx_tree.specs.declared.problem.Problem.{Problem}
-use Rattle.dcx_cache.specs.Counts.{Counts, CountsNoMore}
+use Rattle.dcx_outcomes.specs.Counts.{Counts, CountsNoMore}
 
 -- those that are counted for settings are no more than that
 pub no_more_of : (p : Problem) (n old new : ℕ) → Counts p n old new → CountsNoMore p n old new

@@ -22,7 +22,7 @@ use Rattle.dcx_top.specs.Solving.{OrWhole, FromFile, RangesFrom, lacking, ending
 use Rattle.dcx_overlay.specs.Settings.{AreLaidOver}
 use Rattle.dcx_tree.specs.declared.problem.Problem.{Problem}
 use Rattle.dcx_answer.specs.declared.range_outcome.RangeOutcome.{RangeOutcome}
-use Rattle.dcx_cache.specs.Counts.{Counts}
+use Rattle.dcx_outcomes.specs.Counts.{Counts}
 use Rattle.dcx_outcomes.specs.Ranges.{HasRange, AreRangeOutcomes}
 use Rattle.dcx_declared.specs.Whole.{HasNoWhole}
 use Rattle.dcx_top.proofs.Counting.{no_more_of}

@@ -13,7 +13,7 @@ use Rattle.dcx_call.specs.declared.attribute.Variable.{Variable}
 use Rattle.dcx_tree.specs.declared.problem.Problem.{Problem}
 use Rattle.dcx_tree.specs.Meaning.{IsAccepted}
 use Rattle.dcx_lines.specs.Shown.{variables_of, constraints_of}
-use Rattle.dcx_graph.specs.Answers.{IsSamePoint}
+use Rattle.dcx_outcomes.specs.Answers.{IsSamePoint}
 use Rattle.dcx_cert_sections.specs.declared.cert.Cert.{Cert}
 use Rattle.dcx_cert_sections.specs.declared.cert.Cert.TheVariants as certs
 use Rattle.dcx_cert_sections.specs.declared.section.Section.{Section}

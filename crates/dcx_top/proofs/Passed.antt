@@ -12,7 +12,7 @@ use Rattle.dcx_cert_sections.specs.declared.section.Section.TheVariants as secti
 use Rattle.dcx_cert_sections.specs.declared.section.Sections.{Sections}
 use Rattle.dcx_cert_sections.specs.Shown.{IsSectionOf, AreSectionsOf}
 use Rattle.dcx_cert_outline.specs.Drawn.{problem_outline}
-use Rattle.dcx_cert_check.proofs.Shows.{passed_are_shown}
+use Rattle.dcx_cert_runs.proofs.Shows.{passed_are_shown}
 use Rattle.dcx_cert_runs.specs.Checking.{section_check, IsSectionShown, ArePassed, AreShown}
 use Rattle.dcx_cert_runs.specs.Migrating.{with_values, IsMigrated}
 

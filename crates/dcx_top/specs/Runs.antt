@@ -15,7 +15,7 @@ use Rattle.dcx_report.specs.declared.run.Run.{Run}
 use Rattle.dcx_report.specs.declared.run.Run.TheVariants as run
 use Rattle.dcx_words.specs.Commands.{Command, check, certificate, certify, migrate, iis, range, command_of}
 use Rattle.dcx_words.specs.Laws.{is_warm_command}
-use Rattle.dcx_cache.specs.Counts.{Counts, CountsNoMore}
+use Rattle.dcx_outcomes.specs.Counts.{Counts, CountsNoMore}
 use Rattle.dcx_outcomes.specs.Warm.{AreFound}
 use Rattle.dcx_outcomes.specs.Filters.{AreFilterOutcomes}
 use Rattle.dcx_outcomes.specs.Ranges.{HasRange, AreRangeOutcomes}

@@ -15,7 +15,7 @@ use Rattle.dcx_report.specs.declared.run.Word.{Word}
 use Rattle.dcx_report.specs.declared.run.Word.TheVariants as word
 use Rattle.dcx_words.specs.Commands.{Command, resolve, certificate, iis}
 use Rattle.dcx_overlay.specs.Settings.{AreTrialSettings}
-use Rattle.dcx_cache.specs.Counts.{Counts, CountsNoMore}
+use Rattle.dcx_outcomes.specs.Counts.{Counts, CountsNoMore}
 use Rattle.dcx_outcomes.specs.Warm.{AreFound}
 use Rattle.dcx_outcomes.specs.Filters.{AreFilterOutcomes}
 use Rattle.dcx_outcomes.specs.Ranges.{HasRange, AreRangeOutcomes}

@@ -4,9 +4,8 @@ ghost use Rattle.dcx_outcomes.specs.Ranges.{HasRange, LacksRange};
 ghost use Rattle.dcx_top.specs.NoRange.{IsPlaceOf, IsRefusedForRange};
 
 use dcx_answer::NotRanged;
-use dcx_cache::Session;
 use dcx_declared::place_of;
-use dcx_outcomes::has_range;
+use dcx_outcomes::{Session, has_range};
 use dcx_refusal::Refusal;
 use dcx_shape::{Name, Place};
 use dcx_tree::Problem;

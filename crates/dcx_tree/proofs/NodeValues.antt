@@ -20,9 +20,9 @@ use Rattle.dcx_atom.specs.declared.stops.ValueStop.{ValueStop}
 use Rattle.dcx_atom.specs.Arrays as atom_arrays
 use Rattle.dcx_atom.specs.Arrays.{Entries, number_at, numbers_of, array_sides}
 pub use Rattle.dcx_atom.proofs.Lists.{number_past}
-use Rattle.dcx_affine.specs.declared.pairing.Pairing.TheVariants.{Times, MatTimes, Over}
-use Rattle.dcx_affine.specs.declared.pairing.Pair.{Pair}
-use Rattle.dcx_affine.specs.Pairing.{pairs_at}
+use Rattle.dcx_call.specs.pairing.Pairing.TheVariants.{Times, MatTimes, Over}
+use Rattle.dcx_call.specs.pairing.Pair.{Pair}
+use Rattle.dcx_call.specs.AffinePairing.{pairs_at}
 use Rattle.dcx_point.specs.Pairs.{Pairs}
 use Rattle.dcx_arena.specs.Nodes.{IsNode, AreNodes, call_at, args_at, sides_at}
 use Rattle.dcx_arena.specs.Gather.{has}

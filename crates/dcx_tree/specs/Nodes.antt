@@ -6,9 +6,9 @@ use Rattle.dcx_shape.specs.declared.shape.Sides.{Sides}
 use Rattle.dcx_shape.specs.Shape.{sides_of}
 use Rattle.dcx_shape.specs.Sides.{entries_of}
 use Rattle.dcx_atom.specs.Arrays.{Entries, sides_at}
-use Rattle.dcx_affine.specs.declared.pairing.Pairing.{Pairing}
-use Rattle.dcx_affine.specs.declared.pairing.Pairing.TheVariants.{Times, MatTimes, Over}
-use Rattle.dcx_affine.specs.Pairing.{pairs_at}
+use Rattle.dcx_call.specs.pairing.Pairing.{Pairing}
+use Rattle.dcx_call.specs.pairing.Pairing.TheVariants.{Times, MatTimes, Over}
+use Rattle.dcx_call.specs.AffinePairing.{pairs_at}
 use Rattle.dcx_point.specs.Pairs.{Pairs, same_name}
 use Rattle.dcx_arena.specs.Nodes as arena
 use Rattle.dcx_convex.specs.Atoms.{atom_call, linear_call}

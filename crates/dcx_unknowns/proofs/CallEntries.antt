@@ -14,8 +14,8 @@ use Rattle.dcx_atom.specs.Arrays.{Entries}
 use Rattle.dcx_atom.specs.Signs.{IsBeyond}
 use Rattle.dcx_atom.specs.Rows.{Filling, form_at}
 use Rattle.dcx_atom.specs.Laws.{GraphHolds}
-use Rattle.dcx_affine.specs.declared.pairing.Pairing.TheVariants.{Times, MatTimes, Over}
-use Rattle.dcx_affine.specs.Pairing.{pairs_at}
+use Rattle.dcx_call.specs.pairing.Pairing.TheVariants.{Times, MatTimes, Over}
+use Rattle.dcx_call.specs.AffinePairing.{pairs_at}
 use Rattle.dcx_convex.specs.Atoms.{atom_call}
 use Rattle.dcx_convex.specs.Pairs.{Pair}
 use Rattle.dcx_convex.specs.Nodes.{Numbers, Point, Setting, first_of, arguments, value_by}

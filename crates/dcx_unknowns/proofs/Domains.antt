@@ -6,8 +6,8 @@ use Rattle.std.proofs.Math.Logic.{∥∥₁_elim}
 use Rattle.std.proofs.lemmas.Option.{none-some, same_Some, slice_get-map, slice_get_within, get_or_from_slice_get}
 use Rattle.dcx_math.proofs.Lists.{mapped}
 use Rattle.dcx_shape.specs.declared.shape.Sides.{Sides}
-use Rattle.dcx_point.specs.Pairs.{same_name}
-use Rattle.dcx_point.proofs.Puts.{same_name-refl}
+use Rattle.dcx_call.specs.Pairs.{same_name}
+use Rattle.dcx_call.proofs.Puts.{same_name-refl}
 use Rattle.dcx_call.specs.declared.attribute.Variable.{Variable}
 use Rattle.dcx_call.specs.declared.call.Call.{Call}
 use Rattle.dcx_call.specs.declared.call.Call.TheVariants as calls

@@ -1,4 +1,6 @@
 -- The lemmas on layouts and on unknowns of points, and those by which forms that meet the equations are one.
+-- `pub use`: what callers need of the libraries below.
+pub use Rattle.dcx_call.proofs.Products
 pub mod Places
 pub mod Sources
 pub mod Owners

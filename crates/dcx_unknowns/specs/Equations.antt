@@ -8,7 +8,7 @@ use Rattle.dcx_atom.specs.Arrays.{Entries, sides_at, number_at}
 use Rattle.dcx_atom.specs.Rows.{Filling, form_at, row_at}
 use Rattle.dcx_atom.specs.Graph.{PlacedRow}
 use Rattle.dcx_atom.specs.Linear.{terms_at}
-use Rattle.dcx_affine.specs.Pairing.{pairs_at}
+use Rattle.dcx_call.specs.AffinePairing.{pairs_at}
 use Rattle.dcx_arena.specs.Nodes.{IsNode}
 use Rattle.dcx_call.specs.declared.call.Call.{Call}
 use Rattle.dcx_call.specs.declared.call.Call.TheVariants as calls

@@ -1,6 +1,6 @@
 -- One more term is listed, of an entry within the stride.
 use Rattle.std.proofs.Common.{ℕ, ◌+◌, ◌*◌, ◌<◌, ◌≤◌, ◌∙◌, ap, map, refl, arith}
-use Rattle.dcx_frac.specs.Frac.{value}
+use Rattle.dcx_atom.specs.Frac.{value}
 use Rattle.dcx_atom.specs.declared.terms.Triple.{Triple}
 use Rattle.dcx_atom.specs.Axis.{stride_entry}
 use Rattle.dcx_atom.specs.Linear.{linear_term}

@@ -1,6 +1,6 @@
 -- The terms so far are those of the entries passed.
 use Rattle.std.proofs.Common.{◌≡◌, map}
-use Rattle.dcx_frac.specs.Frac.{value}
+use Rattle.dcx_atom.specs.Frac.{value}
 use Rattle.dcx_atom.specs.Arrays.{list_below}
 use Rattle.dcx_atom.specs.Axis.{stride_entry}
 use Rattle.dcx_atom.specs.Linear.{linear_term}

@@ -3,8 +3,8 @@ use Rattle.std.proofs.Common.{◌≡◌, ℕ, ◌<◌, ◌^◌, ◌∙◌, sym, 
 use Rattle.std.proofs.lemmas.Int.{ints, to_z-of_z}
 use mir.Syntax.{w128}
 use Rattle.dcx_math.specs.Rational.{whole, ◌/ℚ◌}
-use Rattle.dcx_frac.specs.Frac.{value}
-use Rattle.dcx_frac.specs.Fits.{IsRepresentable}
+use Rattle.dcx_atom.specs.Frac.{value}
+use Rattle.dcx_atom.specs.Fits.{IsRepresentable}
 use Rattle.dcx_affine.proofs.Reciprocals.{reciprocal_fits, reciprocal_is}
 use Rattle.dcx_affine.proofs.sums.reciprocal.Goals as goal
 

@@ -1,7 +1,7 @@
 -- The sum has the pairs passed: one more is added, or it is the first that stops.
 use Rattle.std.proofs.Common.{Err, get_or, arith}
 use Rattle.std.proofs.lemmas.Result.{err_from_is_err_and}
-use Rattle.dcx_call.proofs.Products.{own_item}
+use Rattle.dcx_unknowns.proofs.Products.{own_item}
 use Rattle.dcx_linear.specs.Stops.{OnPass-weaker}
 use Rattle.dcx_entries.specs.Sums.{adds_pair, adds_each}
 use Rattle.dcx_entries.specs.Standing.{args_of}

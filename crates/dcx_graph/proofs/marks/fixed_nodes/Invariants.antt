@@ -1,6 +1,6 @@
 -- The nodes so far are marked.
 use Rattle.std.proofs.Common.{◌≡◌, ℕ, ◌<◌, length}
-use Rattle.dcx_right.specs.Fixed.{is_fixed}
+use Rattle.dcx_postsolve.specs.Fixed.{is_fixed}
 use Rattle.dcx_unknowns.specs.Layout.{marked}
 use Rattle.dcx_graph.proofs.marks.fixed_nodes.Given as goal
 

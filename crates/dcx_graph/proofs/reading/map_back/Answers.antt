@@ -3,7 +3,7 @@ use Rattle.std.proofs.Common.{IfOk, sym, ◌∙◌, subst}
 use Rattle.std.proofs.lemmas.Result.{IfOk-weaker}
 use Rattle.dcx_tree.specs.Meaning.{setting_of}
 use Rattle.dcx_graph.specs.Answers.{CanBeRead, IsRead}
-use Rattle.dcx_right.specs.Answers.{IsRightFor}
+use Rattle.dcx_postsolve.specs.Answers.{IsRightFor}
 use Rattle.dcx_graph.proofs.Mapped.{known_of, can_be_read, read_right}
 use Rattle.dcx_graph.proofs.reading.map_back.Goals as goal
 
