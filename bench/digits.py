@@ -49,7 +49,10 @@ def is_answered(text):
 
 
 def main(words):
-    if words[:1] == ["script"]:
+    is_one = words[:1] == ["script"]
+    if not all(it.isdigit() for it in words[is_one:]) or (len(words) != 4 if is_one else len(words) > 1):
+        sys.exit(__doc__)
+    if is_one:
         print(drawn(*map(int, words[1:])), end="")
         return
     draws = int(words[0]) if words else 10

@@ -21,4 +21,6 @@ def main(n, count, folder):
 
 
 if __name__ == "__main__":
+    if len(sys.argv) != 4 or not all(it.isdigit() for it in sys.argv[1:3]):
+        sys.exit(__doc__)
     main(int(sys.argv[1]), int(sys.argv[2]), sys.argv[3])

@@ -220,7 +220,11 @@ def measure(most, kinds):
 
 
 def main(words):
-    if words[:1] in (["script"], ["lp"]):
+    is_one = words[:1] in (["script"], ["lp"])
+    numbers, kinds = (words[2:], words[1:2]) if is_one else (words[:1], words[1:])
+    if not all(it.isdigit() for it in numbers) or not set(kinds) <= set(KINDS) or is_one and not (kinds and numbers):
+        sys.exit(__doc__)
+    if is_one:
         program, text = KINDS[words[1]](*map(int, words[2:]))
         print(text if words[0] == "script" else program.text(), end="")
     else:

@@ -19,10 +19,13 @@ def script(name, n):
     raise SystemExit(__doc__)
 
 
+if len(sys.argv) != 3 or not sys.argv[2].isdigit():
+    sys.exit(__doc__)
+lines = script(sys.argv[1], int(sys.argv[2]))
 print("case rows model.py")
 print("file model.py")
 print("imports")
-for line in script(sys.argv[1], int(sys.argv[2])):
+for line in lines:
     print("|", line)
 print("gives 0")
 print("| rows")

@@ -57,9 +57,11 @@ def table(runs, measured):
             print(f"| `{name}` | {pivots:,} | " + " | ".join(cells) + " |", flush=True)
 
 
-if sys.argv[1] == "table":
+if sys.argv[1:2] == ["table"] and len(sys.argv) > 3 and sys.argv[2].isdigit():
     table(int(sys.argv[2]), programs(sys.argv[3:]))
-elif sys.argv[1] == "trial":
+elif sys.argv[1:2] == ["trial"] and len(sys.argv) == 4 and all(it.isdigit() for it in sys.argv[2:]):
     trial(int(sys.argv[2]), int(sys.argv[3]))
-else:
+elif sys.argv[1:2] == ["transport"] and len(sys.argv) == 3 and sys.argv[2].isdigit():
     transport(int(sys.argv[2]))
+else:
+    sys.exit(__doc__)

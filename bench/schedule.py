@@ -6,6 +6,8 @@ asks for a place that it doesn't reach.
 import os
 import sys
 
+if len(sys.argv) != 3 or not sys.argv[1].isdigit():
+    sys.exit(__doc__)
 n, folder = int(sys.argv[1]), sys.argv[2]
 script = f"""\
 # A cart goes {n} steps from rest at 0, and comes too late.

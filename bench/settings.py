@@ -7,9 +7,9 @@ affine in the parameters, so that `dcx resolve` reduces the problem once. With `
 import os
 import sys
 
+if len(sys.argv) != 5 or sys.argv[1] not in ("kept", "anew") or not all(it.isdigit() for it in sys.argv[2:4]):
+    sys.exit(__doc__)
 kind, n, count, folder = sys.argv[1], int(sys.argv[2]), int(sys.argv[3]), sys.argv[4]
-if kind not in ("kept", "anew"):
-    raise SystemExit(__doc__)
 machines = 20
 hours = [["%d" % ((i * 7 + j * 3) % 11 + 1) for j in range(n)] for i in range(machines)]
 script = [

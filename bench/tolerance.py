@@ -5,6 +5,7 @@ plan is put into the constraints, in fractions: `by` is by how much it breaks th
 `infeasible`, or `glpsol` anything else than a plan.
 """
 import os
+import shutil
 import subprocess
 import sys
 import tempfile
@@ -68,6 +69,8 @@ def dcx(script):
 
 
 def main():
+    if not shutil.which("glpsol"):
+        sys.exit("tolerance.py: no glpsol is on the path; it is in Debian's glpk-utils")
     status = 0
     for script, (cost, rows, names, bounds) in PROBLEMS.items():
         text = lp(cost, rows, names, bounds)

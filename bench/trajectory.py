@@ -8,6 +8,8 @@ import shutil
 import sys
 from fractions import Fraction
 
+if len(sys.argv) != 3 or not sys.argv[1].isdigit():
+    sys.exit(__doc__)
 count, folder = int(sys.argv[1]), sys.argv[2]
 here = os.path.dirname(os.path.abspath(__file__))
 STEP = Fraction(1, 50)

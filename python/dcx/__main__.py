@@ -7,6 +7,7 @@ from importlib import import_module
 from typing import Optional, Sequence
 
 from . import __version__
+from .commands import Unwritten
 
 # The package's own commands, each with a module of that name in `commands` (`_` for `-`), which has
 # `add_arguments(parser)` and `run(arguments) -> status`; it is loaded when the command is asked for.
@@ -20,7 +21,7 @@ COMMANDS = {
 }
 # The words of the program, which is handed them as they stand.
 WORDS = ("check", "solve", "resolve", "certificate", "certify", "migrate", "trial", "iis", "range")
-USAGE_STATUS = 2
+WRITE_FAULT = 4
 
 
 def command_parser(chosen: Optional[str]) -> argparse.ArgumentParser:
@@ -45,6 +46,9 @@ def main(words: Optional[Sequence[str]] = None) -> int:
     """Does what the words behind `python3 -m dcx` say, and gives the status to end with."""
     words = list(sys.argv[1:] if words is None else words)
     chosen = words[0] if words else None
+    if sys.stdout is None and chosen != "run":
+        print("dcx: standard output is closed", file=sys.stderr)
+        return WRITE_FAULT
     try:
         if chosen in WORDS:
             from .commands.program import run
@@ -57,7 +61,11 @@ def main(words: Optional[Sequence[str]] = None) -> int:
     except BrokenPipeError:
         # Whoever reads the output has closed it. Nothing more is written, also not as Python ends.
         sys.stdout = None
-        return 4
+        return WRITE_FAULT
+    except Unwritten as why:
+        sys.stdout = None
+        print(f"dcx: {why}", file=sys.stderr)
+        return WRITE_FAULT
 
 
 if __name__ == "__main__":

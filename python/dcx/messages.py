@@ -25,8 +25,9 @@ REFUSALS = {
     1: ("The file isn't UTF-8 text: the place is that of the first byte that isn't.", "Save it as UTF-8 text."),
     2: (
         "No name, number or sign begins with this character.",
-        "Often it comes from a text that was pasted: a minus that is no hyphen, or curly quotes. In place of a "
-        "`\\` at the end of a line put the expression in brackets.",
+        "Often it comes from a text that was pasted: a minus that is no hyphen, or curly quotes; at 1:1 it is mostly a "
+        "byte order mark, without which the file is to be saved. In place of a `\\` at the end of a line put the "
+        "expression in brackets.",
     ),
     3: (
         "This is no number of the language: a letter, `_` or a point stands right behind it, or it is too long or "

@@ -7,6 +7,7 @@ ends.
 
 from __future__ import annotations
 
+import fcntl
 import hashlib
 import os
 import shutil
@@ -133,7 +134,7 @@ def run(
     with ExitStack() as files:
         paths, numbers = [], []
         for content in contents:
-            file = files.enter_context(tempfile.TemporaryFile(buffering=0))
+            file = files.enter_context(_nameless())
             _write(file, content.encode() if isinstance(content, str) else content)
             numbers.append(file.fileno())
             paths.append(f"/dev/fd/{file.fileno()}")
@@ -173,6 +174,16 @@ def patience(seconds: Optional[float]) -> Optional[float]:
     """How long a process is waited for: as long as it takes where there is no limit, or one of more than a million
     seconds."""
     return seconds if seconds is None or seconds <= _LONGEST else None
+
+
+def _nameless():
+    """A new open file without a name. Its number isn't that of a standard stream, which is free where a stream is
+    closed: in the program that number is the stream's again."""
+    file = tempfile.TemporaryFile(buffering=0)
+    if file.fileno() > 2:
+        return file
+    with file:
+        return open(fcntl.fcntl(file.fileno(), fcntl.F_DUPFD_CLOEXEC, 3), "r+b", buffering=0)
 
 
 def _write(file, content: bytes) -> None:

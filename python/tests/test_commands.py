@@ -44,6 +44,13 @@ except ValueError as error:
 """
 
 
+def python(*words, **how):
+    """`python3 -m dcx` with these words at the top of the checkout, where standard output goes elsewhere."""
+    command = [sys.executable, "-m", "dcx", *words]
+    environment = {**os.environ, "PYTHONPATH": str(TOP / "python")}
+    return subprocess.run(command, stderr=subprocess.PIPE, cwd=TOP, env=environment, timeout=60, **how)
+
+
 def run(*words, folder=TOP, data=None, **options):
     """Standard output, standard error and the status of `python3 -m dcx` with these words, in a folder."""
     command = [sys.executable, "-m", "dcx", *map(str, words)]
@@ -257,9 +264,25 @@ class Help(unittest.TestCase):
         command = f"{sys.executable} -m dcx csv examples/schedule/iis.txt; echo $? >&2"
         reading, writing = os.pipe()
         os.close(reading)
-        done = subprocess.run(["sh", "-c", command], stdout=writing, stderr=subprocess.PIPE, cwd=TOP, text=True)
+        environment = {**os.environ, "PYTHONPATH": str(TOP / "python")}
+        how = {"stderr": subprocess.PIPE, "cwd": TOP, "text": True, "env": environment}
+        done = subprocess.run(["sh", "-c", command], stdout=writing, **how)
         os.close(writing)
         self.assertEqual(done.stderr, "4\n")
+
+    def test_output_that_cannot_be_written(self):
+        """No traceback, and the status that the program has for it."""
+        model, report = "examples/production/model.py", "examples/production/report.txt"
+        told = "dcx: standard output can't be written: No space left on device\n"
+        for words in (["table", model], ["json", report], ["csv", report], ["whole-check", "examples"]):
+            with self.subTest(words[0]), open("/dev/full", "wb") as full:
+                done = python(*words, stdout=full)
+                self.assertEqual((done.stderr.decode(), done.returncode), (told, 4))
+
+    def test_output_that_is_closed(self):
+        words = ["table", "examples/production/model.py"]
+        done = python(*words, stdout=subprocess.DEVNULL, preexec_fn=lambda: os.close(1))
+        self.assertEqual((done.stderr, done.returncode), (b"dcx: standard output is closed\n", 4))
 
 
 if __name__ == "__main__":

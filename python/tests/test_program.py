@@ -222,6 +222,16 @@ class Leftovers(Folder):
         done = python(code, TMPDIR=str(temporary))
         self.assertEqual((done.returncode, done.stderr), (0, ""))
 
+    def test_streams_that_are_closed(self):
+        """A file doesn't take the number of a stream, which the program has again: it would read what it writes."""
+        code = (
+            "import os\nfrom dcx import program\n"
+            "for number in (0, 1, 2): os.close(number)\n"
+            "done = program.run('resolve', 'x = 1', 'y = 2', timeout=30)\n"
+            "os._exit(20 if done.report == b'refused script 16 NoProblem at 1:1\\n' else 21)\n"
+        )
+        self.assertEqual(python(code).returncode, 20)
+
     def test_nothing_is_left_by_python_that_is_killed(self):
         temporary = self.folder / "temporary"
         temporary.mkdir()

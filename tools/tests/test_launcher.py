@@ -295,6 +295,18 @@ class Launcher(unittest.TestCase):
         # What is wanted for a stamp alone may be missing.
         self.assert_runs(it.dcx("x", PATH=self.path_without("cat", "mktemp", "split", "stat", "cmp")), "dist x\n")
 
+    def test_words_that_are_none(self):
+        """A script that doesn't know its words tells which it takes, and proves and writes nothing."""
+        it = self.new()
+        for words in (["build", "--help"], ["test", "--help"], ["program", "x"], ["sources", "--help"], ["copies", "--help"], ["pages", "--help"], ["below"]):
+            with self.subTest(words[0]):
+                run = it.run(it.at("tools", words[0]), *words[1:], PATH=f"{self.kit}:{os.environ['PATH']}")
+                self.assertEqual((run.returncode, run.stdout), (2, ""))
+                self.assertEqual(run.stderr.split()[:2], ["usage:", f"tools/{words[0]}"])
+        run = it.run(it.at("tools/below"), "nowhere")
+        self.assertEqual((run.returncode, run.stdout, run.stderr), (1, "", "dcx: crates.txt has no crate nowhere\n"))
+        self.assertEqual(it.count_proofs(), 0)
+
     def test_memory(self):
         it = self.new()
         write(it.at("dist/dcx"), '#!/bin/sh\nulimit -v\n', 0o755)

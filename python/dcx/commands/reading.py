@@ -6,6 +6,7 @@ import sys
 from typing import Callable
 
 from ..reports import Report, ReportError, read_report
+from . import put
 
 
 def add_arguments(parser: argparse.ArgumentParser) -> None:
@@ -14,7 +15,8 @@ def add_arguments(parser: argparse.ArgumentParser) -> None:
 
 
 def rewritten(arguments: argparse.Namespace, form: Callable[[Report], str]) -> int:
-    """Writes the report in another form. The status is 1 where it is none, 3 where it can't be read, else 0."""
+    """Writes the report in another form. The status is 1 where it is none, 3 where it can't be read, else 0. Raises as
+    `put` does."""
     name = "standard input" if arguments.report == "-" else arguments.report
     try:
         if arguments.report == "-":
@@ -30,6 +32,5 @@ def rewritten(arguments: argparse.Namespace, form: Callable[[Report], str]) -> i
     except ReportError as error:
         print(f"dcx: {name} is {error}", file=sys.stderr)
         return 1
-    sys.stdout.write(text)
-    sys.stdout.flush()
+    put(text)
     return 0

@@ -36,7 +36,8 @@ def run(arguments: argparse.Namespace) -> int:
     """Runs the script under `__main__`, with its arguments, its folder on the path and its own status."""
     script = arguments.script
     if not os.path.isfile(script):
-        print(f"dcx: {script} can't be read: no such file", file=sys.stderr)
+        reason = "it is a folder" if os.path.isdir(script) else "no such file"
+        print(f"dcx: {script} can't be read: {reason}", file=sys.stderr)
         return 3
     stand_in()
     round_floats(arguments.digits, arguments.decimals)
@@ -116,7 +117,8 @@ def print_users(error: BaseException) -> None:
         frames = [frame for frame, before in shown if not is_left_out(frame.filename, before, is_meant)]
         part.stack = traceback.StackSummary.from_list(frames)
         waiting += [(part.__cause__, cause.__cause__), (part.__context__, cause.__context__)]
-    sys.stdout.flush()
+    if sys.stdout is not None:
+        sys.stdout.flush()
     print("".join(told.format()), end="", file=sys.stderr)
 
 

@@ -17,7 +17,7 @@ from ..shown import PROGRAM
 from ..shown.fallback import Wishes
 from ..shown.stops import behind
 from ..tables import Tables
-from . import whole
+from . import put, whole
 from .asking import NOT_FOUND, STOPPED, Ended, add_files, asked, handed_over
 
 REFUSED = 7
@@ -59,7 +59,7 @@ def run(arguments: argparse.Namespace) -> int:
         except CertificateError as error:
             print(f"dcx: what the exact solver found is wrong, as the program says: {error}", file=sys.stderr)
             return REFUSED
-    print_text(report.to_json() + "\n" if arguments.json else tables.text(report))
+    put(report.to_json() + "\n" if arguments.json else tables.text(report))
     return status
 
 
@@ -90,10 +90,3 @@ def look(arguments: argparse.Namespace) -> Look:
     width = shutil.get_terminal_size((120, 24)).columns if is_terminal else 120
     is_coloured = is_terminal and not arguments.no_color and "NO_COLOR" not in os.environ
     return Look(arguments.digits, width, is_coloured)
-
-
-def print_text(text: str) -> None:
-    """Writes the text; a character that the output's encoding lacks is written as its number."""
-    encoding = sys.stdout.encoding or "ascii"
-    sys.stdout.write(text.encode(encoding, "backslashreplace").decode(encoding))
-    sys.stdout.flush()

@@ -11,7 +11,7 @@ from pathlib import Path
 from ..messages import status as status_message
 from ..program import ProgramError
 from ..view import found, page
-from . import whole
+from . import put, whole
 from .asking import NOT_FOUND, Ended, add_files, asked, handed_over
 
 WRITE_FAULT = 4
@@ -54,7 +54,7 @@ def run(arguments: argparse.Namespace) -> int:
     except OSError as error:
         print(f"dcx: {output} can't be written: {error.strerror}", file=sys.stderr)
         return WRITE_FAULT
-    print(output)
+    put(f"{output}\n")
     if arguments.open:
         webbrowser.open(Path(output).resolve().as_uri())
     return status

@@ -5,6 +5,7 @@ import argparse
 import sys
 
 from ..program import ProgramError
+from . import put
 
 WRONG, READ_FAULT, NOT_FOUND = 7, 3, 70
 
@@ -21,7 +22,7 @@ def run(arguments: argparse.Namespace) -> int:
     try:
         shown = checked(arguments.folder)
     except EvidenceError as error:
-        print(f"refused: {error}")
+        put(f"refused: {error}\n")
         return WRONG
     except ProgramError as error:
         print(f"dcx: {error}", file=sys.stderr)
@@ -29,12 +30,12 @@ def run(arguments: argparse.Namespace) -> int:
     except OSError as error:
         print(f"dcx: {error.filename} can't be read: {error.strerror}", file=sys.stderr)
         return READ_FAULT
-    print(f"{shown.leaves:,} boxes have all whole points, and the program accepts what is said of each")
+    lines = [f"{shown.leaves:,} boxes have all whole points, and the program accepts what is said of each"]
     if shown.step is not None:
-        print(f"values are multiples of {shown.step}: none lies between the goal of the boxes and the value")
+        lines.append(f"values are multiples of {shown.step}: none lies between the goal of the boxes and the value")
     if shown.status == "infeasible":
-        print("shown: infeasible, no whole point keeps the constraints of model.py")
-        return 0
-    print(f"shown: optimal, value {shown.value}, at the whole point")
-    print(shown.point, end="")
+        lines.append("shown: infeasible, no whole point keeps the constraints of model.py")
+    else:
+        lines.append(f"shown: optimal, value {shown.value}, at the whole point")
+    put("".join(f"{line}\n" for line in lines) + shown.point)
     return 0

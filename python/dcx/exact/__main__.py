@@ -1,11 +1,10 @@
 """The second reading as a command.
 
     python3 -m dcx.exact WORDS..           runs the words of dcx over files, with the report and the status that dcx
-                                           has; `--no-limits` in front of
-                                           them lets numbers and programs be as large as they get
+                                           has; `--no-limits` in front of them lets numbers and programs be as large
+                                           as they get
     python3 -m dcx.exact --cases FILE..    runs files of worked cases, tells each one that differs, and last how many
-                                           there were; of a folder with
-                                           an `index.txt` it runs the files that this lists
+                                           there were; of a folder with an `index.txt` it runs the files that this lists
 """
 from __future__ import annotations
 
