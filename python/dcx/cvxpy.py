@@ -6,7 +6,7 @@ from __future__ import annotations
 
 from . import __version__, atoms, constraints, errors as error, statuses as settings, unsupported as _unsupported
 from .atoms import *  # noqa: F401,F403  (the calls)
-from .constraints import Constraint, nonnegative as NonNeg, nonpositive as NonPos, zero as Zero
+from .constraints import Constraint, NonNeg, NonPos, Zero
 from .errors import (
     DCPError,
     DPPError,

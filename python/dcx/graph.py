@@ -93,7 +93,7 @@ class Graph:
         least = self.part_of(objective.args[0])
         counted.append((objective, *count.of_sides([least], least.shape)))
         for constraint in constraints:
-            counted.append((constraint, *count.of_sides(map(self.part_of, constraint.args), constraint.shape)))
+            counted.append((constraint, *count.of_sides(map(self.part_of, constraint.sides), constraint.shape)))
         return counted
 
     # -- how parts are made

@@ -6,7 +6,7 @@ from typing import Any, Iterator, Sequence, Union
 
 from . import arrays, foreign, missing, shapes, sites, spelling
 from .arrays import Array, Sparse
-from .constraints import Constraint
+from .constraints import Inequality
 from .errors import UnsupportedError
 from .expressions import Expression, Operand, next_number
 
@@ -322,8 +322,7 @@ class Variable(Leaf):
             places = [place for place, end in enumerate(ends) if end is not None]
             side, kept = operators.gathered(self, places, (len(places),)), [ends[place] for place in places]
         limit = Array((), kept[:1]) if len(set(kept)) == 1 else Array(side.shape, kept)
-        return [Constraint("<=", limit, side, is_turned=True) if sense == "low" else Constraint("<=", side, limit)]
-
+        return [Inequality(limit, side, is_turned=True) if sense == "low" else Inequality(side, limit)]
 
     @staticmethod
     def _is_implied(ends: list, sense: str, said: tuple) -> bool:

@@ -7,7 +7,7 @@ from typing import Sequence
 
 from . import arrays, indices, shapes, sites
 from .arrays import Array, Sparse
-from .constraints import Constraint
+from .constraints import Equality, Inequality
 from .errors import UnsupportedError, warnings_enabled
 from .expressions import Constant, Expression, as_expression, node
 from .numbers import exact
@@ -133,19 +133,19 @@ def raised(base, power) -> Expression:
 # ---- comparisons
 
 
-def at_most(left, right) -> Constraint:
+def at_most(left, right) -> Inequality:
     """`left <= right`."""
-    return Constraint("<=", *fitted(as_expression(left), as_expression(right)))
+    return Inequality(left, right)
 
 
-def at_least(left, right) -> Constraint:
+def at_least(left, right) -> Inequality:
     """`left >= right`, which is `right <= left`."""
-    return Constraint("<=", *fitted(as_expression(right), as_expression(left)), is_turned=True)
+    return Inequality(right, left, is_turned=True)
 
 
-def equal(left, right) -> Constraint:
+def equal(left, right) -> Equality:
     """`left == right`."""
-    return Constraint("==", *fitted(as_expression(left), as_expression(right)))
+    return Equality(left, right)
 
 
 # ---- places

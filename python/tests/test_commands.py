@@ -141,9 +141,11 @@ class Run(Folder):
             self.assertRegex(told, r"ModuleNotFoundError: dcx has no cvxpy\.\w+: take the names from cvxpy itself")
         text = (
             "import cvxpy as cp\nimport cvxpy.settings as s\nfrom cvxpy.error import DCPError\n"
+            "from cvxpy.constraints import Equality, Zero\nx = cp.Variable()\n"
             "print(DCPError is cp.error.DCPError, s is cp.settings, s.OPTIMAL)\n"
+            "print(Zero is cp.Zero, isinstance(x == 1, Equality), isinstance(x == 0, Zero))\n"
         )
-        self.assertEqual(run("run", self.script(text))[::2], ("True True optimal\n", 0))
+        self.assertEqual(run("run", self.script(text))[::2], ("True True optimal\nTrue True False\n", 0))
 
     def test_processes_that_a_script_starts(self):
         text = """\

@@ -424,7 +424,7 @@ class Surface(unittest.TestCase):
         least, rule = cp.Minimize(x[0]), x >= 1
         self.assertIs(least - 0, least)
         for ask in (lambda: least - x[0], lambda: x[0] + least, lambda: x + rule, lambda: cp.maximum(x, rule)):
-            with self.assertRaisesRegex(TypeError, r"^(Minimize|Constraint)\(.* stands where an expression or numbers"):
+            with self.assertRaisesRegex(TypeError, r"^(Minimize|Inequality)\(.* stands where an expression or numbers"):
                 ask()
 
 

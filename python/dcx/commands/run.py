@@ -87,12 +87,12 @@ class OneModule(MetaPathFinder):
 
 
 def stand_in() -> None:
-    """Lets `import cvxpy` and `from cvxpy import ..` find the recorder, and of what lies below it `error` and
-    `settings`."""
+    """Lets `import cvxpy` and `from cvxpy import ..` find the recorder, and of what lies below it `constraints`,
+    `error` and `settings`."""
     recorder = import_module("dcx.cvxpy")
     sys.modules["cvxpy"] = recorder
     recorder.__path__ = []
-    for name in ("error", "settings"):
+    for name in ("constraints", "error", "settings"):
         sys.modules[f"cvxpy.{name}"] = getattr(recorder, name)
     if OneModule not in sys.meta_path:
         sys.meta_path.insert(0, OneModule)
