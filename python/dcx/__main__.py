@@ -20,7 +20,6 @@ COMMANDS = {
 }
 # The words of the program, which is handed them as they stand.
 WORDS = ("check", "solve", "resolve", "certificate", "certify", "migrate", "trial", "iis", "range")
-USAGE_STATUS = 2
 
 
 def command_parser(chosen: Optional[str]) -> argparse.ArgumentParser:

@@ -369,6 +369,9 @@ def as_expression(value: Operand) -> Expression:
         return Constant(value)
     if isinstance(value, (str, Made)) or value is None:
         raise TypeError(f"{value!r} stands where an expression or numbers are wanted")
+    if hasattr(value, "__iter__") and not hasattr(value, "shape") and not isinstance(value, (list, tuple, range)):
+        kind = type(value).__name__
+        raise TypeError(f"a {kind} stands where an expression or numbers are wanted: write a list of what is in it")
     item = boxed_expression(value)
     return item if item is not None else Constant(value)
 

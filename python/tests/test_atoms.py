@@ -136,6 +136,9 @@ CASES = [
     ([(1, 1)], cp.squeeze, np.squeeze),
     *[([shape], lambda x, a=a: cp.expand_dims(x, a), lambda x, a=a: np.expand_dims(x, a)) for shape,
       a in [((3,), 0), ((3,), 1), ((3,), -1), ((), 0)]],
+    *[([shape], lambda x, s=s: cp.broadcast_to(x, s), lambda x, s=s: np.broadcast_to(x, s))
+      for shape, s in [((3,), (2, 3)), ((3,), 3), ((), (2,)), ((), (2, 3)), ((2, 1), (2, 3)), ((1, 1), (2, 3)),
+                       ((1, 3), [2, 3]), ((2, 3), (2, 3))]],
     # stacks
     ([(3,), (2,), ()], lambda x, y, z: cp.hstack([x, y, z, 7]), lambda x, y, z: np.hstack([x, y, z, 7])),
     ([(2, 3), (2, 1)], lambda x, y: cp.hstack([x, y, C]), lambda x, y: np.hstack([x, y, C])),
@@ -310,7 +313,8 @@ class Refused(unittest.TestCase):
             lambda: cp.concatenate([x, X]), lambda: cp.stack([x, X]), lambda: cp.squeeze(X, 0),
             lambda: cp.transpose(X, (0, 0)),
             lambda: cp.dotsort(x, [1, 2, 3, 4]), lambda: cp.cvar(x, 1), lambda: cp.vec(x, "K"),
-            lambda: cp.expand_dims(X, 0),
+            lambda: cp.expand_dims(X, 0), lambda: cp.broadcast_to(x, (3, 2)), lambda: cp.broadcast_to(X, (3,)),
+            lambda: cp.broadcast_to(X[:1, :1], 4), lambda: cp.broadcast_to(x, (2, 1, 3)),
         ]:
             with self.assertRaises(ValueError):
                 ask()
@@ -324,6 +328,10 @@ class Refused(unittest.TestCase):
                     lambda: x.sum(dtype=float), lambda: cp.norm1(item for item in x)]:
             with self.assertRaises(TypeError):
                 ask()
+        for made, kind in ((lambda: cp.sum(entry for entry in x), "generator"), (lambda: x + {1: 2}, "dict"),
+                           (lambda: cp.max({1, 2}), "set"), (lambda: cp.hstack([{"a": x}.values()]), "dict_values")):
+            with self.assertRaisesRegex(TypeError, f"a {kind} stands where .*: write a list of what is in it"):
+                made()
 
     def test_what_is_not_piecewise_linear(self):
         x, X = cp.Variable(3), cp.Variable((2, 3))

@@ -685,6 +685,25 @@ class Questions(unittest.TestCase):
                 self.assertEqual(e.is_nonneg(), sign in ("NONNEGATIVE", "ZERO"))
                 self.assertEqual(e.is_nonpos(), sign in ("NONPOSITIVE", "ZERO"))
 
+    def test_what_all_that_is_offered_has_in_common(self):
+        x = cp.Variable((2, 2))
+        for e in (x, cp.Parameter(), cp.Constant(2), 3 * x + 1, cp.abs(x), cp.minimum(x, 0), cp.abs(x) - cp.abs(x)):
+            self.assertTrue(e.is_pwl() and e.is_qpwa() and e.is_real())
+            self.assertFalse(e.is_complex() or e.is_imag())
+            self.assertEqual(e.is_quadratic(), e.is_affine(), str(e))
+        self.assertEqual([e.is_zero() for e in (0 * x, cp.Constant(0), x, cp.abs(x))], [True, True, False, False])
+        x.value = [[1, 2], [3, 4]]
+        self.assertEqual(x.H.value.tolist(), x.value.T.tolist())
+        self.assertEqual([entry.value for entry in x.flat], list(x.value.flatten(order="F")))
+        self.assertRaises(UnsupportedError, x.project, [[0, 0], [0, 0]])
+        problem = cp.Problem(cp.Minimize(cp.norm1(x)), [x >= 1])
+        self.assertTrue(problem.is_qp() and problem.is_lp())
+        self.assertFalse(cp.Problem(cp.Maximize(cp.norm1(x))).is_lp())
+        self.assertIsNone(problem.status)
+        problem.solve()
+        self.assertTrue(problem.status in cp.settings.SOLUTION_PRESENT)
+        self.assertFalse(problem.status in cp.settings.INF_OR_UNB)
+
     def test_places(self):
         x = cp.Variable(3)
         e = (x +

@@ -38,8 +38,8 @@ def folded(kind: str, expr: Operand, axis: Axis, keepdims: bool, nothing: int | 
 
 
 def sum(expr: Operand, axis: Axis = None, keepdims: bool = False) -> Expression:
-    """The sum of all entries, or along an axis, 0 of none; of a list of expressions their sum by `+`. Shapes and
-    errors are those of `folded`."""
+    """The sum of all entries, or along an axis, 0 of none; of a list of expressions their sum by `+`, whatever the
+    axis, as CVXPY has it. Shapes and errors are those of `folded`."""
     if isinstance(expr, list):
         return builtins.sum(expr)
     return folded("sum", expr, axis, keepdims, 0)

@@ -45,8 +45,8 @@ def outer(x: Operand, y: Operand) -> Expression:
 
 
 def kron(a: Operand, b: Operand) -> Expression:
-    """Each entry of a times all of b, in blocks; one of the two has to be numbers. UnsupportedError where neither is.
-    """
+    """Each entry of a times all of b, in blocks: each side of the result is the product of theirs. UnsupportedError
+    where both have variables."""
     a, b = as_expression(a), as_expression(b)
     if a.ndim == 0 or b.ndim == 0:
         return operators.multiplied(a, b)
