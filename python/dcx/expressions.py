@@ -322,7 +322,7 @@ class Constant(Expression):
 
     def __init__(self, value: Operand, name: str | None = None):
         if isinstance(value, Expression):
-            array = value._array() if not value.variables() and not value.parameters() else None
+            array = numbers_of(value)
             if array is None:
                 raise TypeError("a constant is made of numbers, and not of an expression with variables or parameters")
         else:
@@ -377,6 +377,11 @@ def as_expression(value: Operand) -> Expression:
         raise TypeError(f"a {kind} stands where an expression or numbers are wanted: write a list of what is in it")
     item = boxed_expression(value)
     return item if item is not None else Constant(value)
+
+
+def numbers_of(expression: Expression) -> Array | Sparse | None:
+    """The numbers of an expression in which neither variables nor parameters stand; None of any other."""
+    return None if expression.variables() or expression.parameters() else expression._array()
 
 
 def boxed_expression(value: Operand) -> Expression | None:

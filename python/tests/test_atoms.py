@@ -99,6 +99,8 @@ CASES = [
     ([(5,)], lambda x: cp.cvar(x, 0.7) * 1.5, lambda x: _largest(x, Fraction(3, 2))),
     ([(5,)], lambda x: cp.dotsort(x, [3, 1, -2, 1, 0.5]), lambda x: _dotsort(x, [3, 1, -2, 1, 0.5])),
     ([(2, 3)], lambda x: cp.dotsort(x, [2, 5]), lambda x: _dotsort(x, [2, 5])),
+    ([(5,)], lambda x: cp.dotsort(x, -cp.Constant([2, 5])), lambda x: _dotsort(x, [-2, -5])),
+    ([(5,)], lambda x: cp.sum_largest(x, cp.Constant(5) / 2), lambda x: _largest(x, 2.5)),
     ([(2, 3)], cp.ptp, np.ptp),
     ([(2, 3)], lambda x: cp.ptp(x, axis=1, keepdims=True), lambda x: np.ptp(x, axis=1, keepdims=True)),
     # along a vector
@@ -172,10 +174,15 @@ CASES = [
     *[([(4,)], lambda x, c=c: cp.convolve(c, x), lambda x, c=c: np.convolve(c, x))
       for c in ([1, 2, 0, -1], [3], [1, 0.5])],
     ([(4,)], lambda x: cp.convolve(x, [1, -1]), lambda x: np.convolve(x, [1, -1])),
+    ([(4,)], lambda x: cp.convolve(cp.Constant([1, 2]) / 4, x), lambda x: np.convolve([0.25, 0.5], x)),
+    *[([(4,)], lambda x, k=k: cp.convolve(cp.Parameter(len(k), value=k), x), lambda x, k=k: np.convolve(k, x))
+      for k in ([3], [1, -2], [1, 0.5, 0, -1, 2])],
+    ([(4,)], lambda x: cp.convolve(x, 1 - cp.Parameter(2, value=[0.5, 3])), lambda x: np.convolve(x, [0.5, -2])),
     ([(4, 1)], lambda x: cp.conv([1, 2], x), lambda x: np.convolve([1, 2], x.ravel()).reshape(5, 1)),
     ([(3,)], lambda x: cp.conv([1, 2], x), lambda x: np.convolve([1, 2], x)),
     # methods
     ([(2, 3)], lambda x: x.sum(axis=1), lambda x: x.sum(axis=1)),
+    ([(3,)], lambda x: x * (2 * cp.Constant(3)) ** 2, lambda x: 36 * x),
     ([(2, 3)], lambda x: x.mean(0, keepdims=True), lambda x: x.mean(0, keepdims=True)),
     ([(2, 3)], lambda x: x.max(axis=0), lambda x: x.max(axis=0)), ([(2, 3)], lambda x: x.min(), lambda x: x.min()),
     ([(3, 3)], lambda x: x.trace(), np.trace), ([(2, 3)], lambda x: x.flatten(), lambda x: x.flatten(order="F")),
