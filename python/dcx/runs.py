@@ -86,8 +86,8 @@ def solve_at(
     has what was found until then; a smaller `chunk` leaves less of it out.
 
     Raises `DCPError`, `LimitError` as `Problem.solve`; `ParameterError` where a setting leaves a parameter without a
-    value; `KeyError` where it names what is no parameter of the problem, `ValueError` where a value doesn't fit or a
-    limit is none; `TypeError` where a setting is no dictionary, or what is to carry the parts no executor.
+    value; `KeyError` where it names what is no parameter of the problem, `ValueError` where a value doesn't fit, a
+    parameter has two, or a limit is none; `TypeError` where a setting is no dictionary, or what is to carry the parts no executor.
     """
     if executor is not None and not callable(getattr(executor, "submit", None)):
         raise TypeError(f"an executor has a method submit, as those of concurrent.futures, and {executor!r} has none")
@@ -299,6 +299,8 @@ def _line(script: Script, setting: Mapping[Any, Any], number: int) -> str:
         parameter = script.leaf("parameter", key)
         if parameter is None:
             raise KeyError(f"settings[{number}] names {key!r}, which is no parameter that the problem reaches")
+        if parameter in values:
+            raise ValueError(f"settings[{number}] has two values of {parameter.name()}: by itself, and by its name")
         try:
             values[parameter] = parameter._tested(value)
         except (ValueError, TypeError) as error:

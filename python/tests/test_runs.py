@@ -170,6 +170,8 @@ class Here(Case):
             problem.solve_at([{p: [1, 2]}])
         with self.assertRaisesRegex(ValueError, r"settings\[1\]: Parameter value of p: NaN"):
             problem.solve_at([{p: [1, 2, 3]}, {p: [1, float("nan"), 3]}])
+        with self.assertRaisesRegex(ValueError, r"settings\[1\] has two values of p: by itself, and by its name"):
+            problem.solve_at([{p: [1, 2, 3]}, {p: [1, 2, 3], "p": [3, 2, 1]}])
         with self.assertRaisesRegex(TypeError, r"settings\[0\] is a list"):
             problem.solve_at([[1]])
         for chunk in (0, -3, 1.5, True, float("inf"), "3"):
