@@ -21,7 +21,8 @@ class Constraint(Sided, Made):
     `NonPos`. `a >= b` is recorded as `b <= a`; `is_turned` tells so, and texts show what the user wrote. `dual_value`
     has the multipliers of the last answer in floats, `exact_dual` in fractions, in the constraint's shape; None before.
 
-    ValueError where the shapes of the sides don't fit, TypeError where one is no number and no expression.
+    ValueError where the shapes of the sides don't fit; TypeError where one is no number and no expression, and of this
+    class itself, which has no sign.
     """
 
     __slots__ = ("sides", "shape", "site", "id", "is_turned", "_dual", "_known", "__weakref__")
@@ -29,6 +30,8 @@ class Constraint(Sided, Made):
 
     def __init__(self, left: Operand, right: Operand, is_turned: bool = False):
         from . import operators
+        if not self.op:
+            raise TypeError("a constraint is made by <=, >= or ==, or of one of its classes, as Zero and NonNeg")
         self.sides = operators.fitted(as_expression(left), as_expression(right))
         self.shape = shapes.paired(*(side.shape for side in self.sides))
         self.site = sites.here()

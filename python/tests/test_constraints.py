@@ -59,6 +59,9 @@ class Sides(unittest.TestCase):
             self.assertEqual(repr(made), f"{kind.__name__}({made})")
             self.assertIs(type(pickle.loads(pickle.dumps(made))), kind)
 
+        with self.assertRaisesRegex(TypeError, "made by <=, >= or =="):
+            cp.Constraint(x, 1)
+
     def test_constraints_of_one_expression(self):
         x = cp.Variable((2, 2), "x")
         x.value = point = np.array([[1, -1], [0, 2.5]])
