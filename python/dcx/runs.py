@@ -87,7 +87,8 @@ def solve_at(
 
     Raises `DCPError`, `LimitError` as `Problem.solve`; `ParameterError` where a setting leaves a parameter without a
     value; `KeyError` where it names what is no parameter of the problem, `ValueError` where a value doesn't fit, a
-    parameter has two, or a limit is none; `TypeError` where a setting is no dictionary, or what is to carry the parts no executor.
+    parameter has two, or a limit is none; `TypeError` where a setting is no dictionary, or what is to carry the parts
+    no executor.
     """
     if executor is not None and not callable(getattr(executor, "submit", None)):
         raise TypeError(f"an executor has a method submit, as those of concurrent.futures, and {executor!r} has none")

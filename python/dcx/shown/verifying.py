@@ -71,8 +71,8 @@ def verify(
 
     Raises `TypeError` where values or multipliers are no dictionary, `KeyError` where a key is no variable or
     constraint of the problem or a variable has no value, `ValueError` where a value has another shape or isn't finite,
-    a variable has two, or a limit is none, `UnsupportedError` of a problem in whole numbers, `SolverError` where the search fails or takes
-    too long, `CertificateError` where the program says no, and else as `Problem.solve`.
+    a variable has two, or a limit is none, `UnsupportedError` of a problem in whole numbers, `SolverError` where the
+    search fails or takes too long, `CertificateError` where the program says no, and else as `Problem.solve`.
     """
     for given, what in ((values, "values by variable or name"), (duals, "multipliers by constraint")):
         if not isinstance(given, Mapping) and (given is values or given is not None):
