@@ -255,7 +255,7 @@ class Values(unittest.TestCase):
                 expression = ours(*parameters)
                 wanted = np.asarray(theirs(*points), dtype=float)
                 np.testing.assert_allclose(np.asarray(expression.value, dtype=float), wanted, rtol=0, atol=1e-12)
-                self.assertTrue(expression.is_constant() or not expression.parameters())
+                self.assertTrue(expression.is_constant())
 
 
 class Exactness(unittest.TestCase):
