@@ -40,6 +40,7 @@ class Answered:
         self._report: Optional[bytes] = None
         self._asked: Optional[str] = None
         self._progress: Any = None
+        self._partial: Optional[list[Optional[Result]]] = None
 
     def _keep(self, result: Result) -> None:
         """Keeps a result, and sets the values of variables and constraints by it."""
@@ -99,6 +100,13 @@ class Answered:
         """How far the last search for whole numbers came, or this one, while it runs, as a
         `dcx.whole.search.Progress` with `best`, `bound`, `gap` and `nodes`; None where there was none."""
         return self._progress
+
+    @property
+    def partial_results(self) -> Optional[list[Optional[Result]]]:
+        """What the last `solve_at` has found where it didn't come to its end, as where it was interrupted, or while it
+        runs: a `Result` for each setting, in order, and None for those that it hasn't answered. None where it came to
+        its end, and before one."""
+        return None if self._partial is None else list(self._partial)
 
     @property
     def report(self) -> Optional[bytes]:

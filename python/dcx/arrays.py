@@ -4,7 +4,7 @@ from __future__ import annotations
 
 import sys
 from fractions import Fraction
-from typing import Iterable, Sequence
+from typing import Any, Iterable, Sequence
 
 from .numbers import exact
 
@@ -119,7 +119,7 @@ def size_of(shape: Sequence[int]) -> int:
     return size
 
 
-def numpy():
+def numpy() -> Any:
     """NumPy where it can be imported, else None."""
     if "numpy" in _modules:
         return _modules["numpy"]
@@ -233,7 +233,7 @@ def nested(shape: Sequence[int], items: list) -> object:
     return [items[row * shape[1]:(row + 1) * shape[1]] for row in range(shape[0])]
 
 
-def to_floats(array: Array | Sparse):
+def to_floats(array: Array | Sparse) -> Any:
     """The entries as floats: a NumPy array, or lists of rows where NumPy isn't there; where there is no side a float,
     that of NumPy where it is there, which has the methods that an array has."""
     array = array.dense()
@@ -242,7 +242,7 @@ def to_floats(array: Array | Sparse):
     return _out(array, float, float)
 
 
-def to_fractions(array: Array | Sparse):
+def to_fractions(array: Array | Sparse) -> Any:
     """The entries as fractions: a `Fraction` where there is no side, else a NumPy array of them, or lists of rows."""
     return _out(array.dense(), Fraction, object)
 

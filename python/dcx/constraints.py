@@ -15,21 +15,25 @@ _TRUTH = ("Cannot evaluate the truth value of a constraint or chain constraints,
 
 
 class Constraint(Sided, Made):
-    """`args[0] <= args[1]` or `args[0] == args[1]`, entry by entry: `op` is the sign between them.
+    """`sides[0] <= sides[1]` or `sides[0] == sides[1]`, entry by entry: `op` is the sign between them.
 
-    `a >= b` is recorded as `b <= a`; `is_turned` tells so, and texts show what the user wrote. `dual_value` has the
-    multipliers of the last answer in floats, `exact_dual` in fractions, in the constraint's shape; None before.
+    `args` are the expressions that it was made of: the two sides, or the one expression of `Zero`, `NonNeg` and
+    `NonPos`. `a >= b` is recorded as `b <= a`; `is_turned` tells so, and texts show what the user wrote. `dual_value`
+    has the multipliers of the last answer in floats, `exact_dual` in fractions, in the constraint's shape; None before.
+
+    ValueError where the shapes of the sides don't fit; TypeError where one is no number and no expression, and of this
+    class itself, which has no sign.
     """
 
-    __slots__ = ("op", "args", "shape", "site", "id", "is_turned", "_dual", "_known", "__weakref__")
+    __slots__ = ("sides", "shape", "site", "id", "is_turned", "_dual", "_known", "__weakref__")
+    op = ""
 
-    def __init__(self, op: str, left: Operand, right: Operand, is_turned: bool = False):
-        if op not in ("<=", "=="):
-            raise ValueError(f"a constraint has the sign <= or ==, and not {op!r}")
-        left, right = as_expression(left), as_expression(right)
-        self.op = op
-        self.args = (left, right)
-        self.shape = shapes.paired(left.shape, right.shape)
+    def __init__(self, left: Operand, right: Operand, is_turned: bool = False):
+        from . import operators
+        if not self.op:
+            raise TypeError("a constraint is made by <=, >= or ==, or of one of its classes, as Zero and NonNeg")
+        self.sides = operators.fitted(as_expression(left), as_expression(right))
+        self.shape = shapes.paired(*(side.shape for side in self.sides))
         self.site = sites.here()
         self.id = next_number()
         self.is_turned = is_turned
@@ -40,23 +44,28 @@ class Constraint(Sided, Made):
     # ---- shapes and parts
 
     @property
+    def args(self) -> tuple[Expression, ...]:
+        """The expressions that it was made of."""
+        return self.sides
+
+    @property
     def expr(self) -> Expression:
         """The left side less the right one: what is to be 0, or at most 0."""
-        return self.args[0] - self.args[1]
+        return self.sides[0] - self.sides[1]
 
     def _roots(self) -> list:
-        return list(self.args)
+        return list(self.sides)
 
     def name(self) -> str:
         """The constraint as text, as it was written."""
-        left, right = self.args
+        left, right = self.sides
         return f"{right} >= {left}" if self.is_turned else f"{left} {self.op} {right}"
 
     def __str__(self) -> str:
         return self.name()
 
     def __repr__(self) -> str:
-        return f"Constraint({self.name()})"
+        return f"{type(self).__name__}({self.name()})"
 
     # ---- truth values, which Python asks for in a chain of comparisons
 
@@ -90,7 +99,7 @@ class Constraint(Sided, Made):
     # ---- values
 
     def _residual(self) -> Array | None:
-        left, right = (evaluation.value_of(side) for side in self.args)
+        left, right = (evaluation.value_of(side) for side in self.sides)
         if left is None or right is None:
             return None
         gap = evaluation.minus(left, right)
@@ -147,16 +156,63 @@ class Constraint(Sided, Made):
 missing.refuse(Constraint, "constraint")
 
 
-def zero(expr: Operand) -> Constraint:
-    """The expression is 0, as `Zero(expr)`."""
-    return Constraint("==", expr, 0)
+class Inequality(Constraint):
+    """`Inequality(left, right)`: the left side is at most the right one, as `left <= right` records it."""
+
+    __slots__ = ()
+    op = "<="
 
 
-def nonnegative(expr: Operand) -> Constraint:
-    """The expression is at least 0, as `NonNeg(expr)`."""
-    return Constraint("<=", 0, expr, is_turned=True)
+class Equality(Constraint):
+    """`Equality(left, right)`: the sides are equal, as `left == right` records it."""
+
+    __slots__ = ()
+    op = "=="
 
 
-def nonpositive(expr: Operand) -> Constraint:
-    """The expression is at most 0, as `NonPos(expr)`."""
-    return Constraint("<=", expr, 0)
+class _OfOne(Constraint):
+    """A constraint of one expression, whose other side is 0."""
+
+    __slots__ = ()
+    _place = 0  # of the expression among the sides
+
+    @property
+    def args(self) -> tuple[Expression, ...]:
+        """The expression."""
+        return (self.sides[self._place],)
+
+    @property
+    def expr(self) -> Expression:
+        """The expression."""
+        return self.args[0]
+
+
+class Zero(_OfOne):
+    """`Zero(expr)`: each entry of the expression is 0."""
+
+    __slots__ = ()
+    op = "=="
+
+    def __init__(self, expr: Operand):
+        super().__init__(expr, 0)
+
+
+class NonPos(_OfOne):
+    """`NonPos(expr)`: each entry of the expression is at most 0."""
+
+    __slots__ = ()
+    op = "<="
+
+    def __init__(self, expr: Operand):
+        super().__init__(expr, 0)
+
+
+class NonNeg(_OfOne):
+    """`NonNeg(expr)`: each entry of the expression is at least 0."""
+
+    __slots__ = ()
+    op = "<="
+    _place = 1
+
+    def __init__(self, expr: Operand):
+        super().__init__(0, expr, is_turned=True)

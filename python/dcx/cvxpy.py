@@ -4,9 +4,9 @@ What isn't offered may be imported too, and is refused where it is called, with 
 """
 from __future__ import annotations
 
-from . import __version__, atoms, constraints, errors as error, statuses as settings, unsupported as _unsupported
+from . import __version__, atoms, below as _below, errors as error, statuses as settings, unsupported as _unsupported
 from .atoms import *  # noqa: F401,F403  (the calls)
-from .constraints import Constraint, nonnegative as NonNeg, nonpositive as NonPos, zero as Zero
+from .constraints import Constraint, NonNeg, NonPos, Zero
 from .errors import (
     DCPError,
     DPPError,
@@ -23,12 +23,14 @@ from .problems import Problem
 from .statuses import *  # noqa: F401,F403  (words of answers and names of solvers)
 from .statuses import installed_solvers
 
+constraints, expressions, problems = (_below.MODULES[_name] for _name in ("constraints", "expressions", "problems"))
+
 __all__ = [
     "Constant", "Constraint", "DCPError", "DPPError", "Expression", "Maximize", "Minimize", "NonNeg", "NonPos",
     "Parameter",
     "ParameterError", "Problem", "SolverError", "Variable", "Zero", "constraints", "disable_warnings",
-    "enable_warnings", "error",
-    "installed_solvers", "settings", "warnings_enabled", *atoms.__all__, *settings.__all__,
+    "enable_warnings", "error", "expressions",
+    "installed_solvers", "problems", "settings", "warnings_enabled", *atoms.__all__, *settings.__all__,
 ]
 
 

@@ -2,13 +2,16 @@
 from __future__ import annotations
 
 import itertools
-from typing import Any, Iterator, Optional, Sequence, Union
+from typing import TYPE_CHECKING, Any, Iterator, Optional, Sequence, Union
 
 from . import arrays, missing, shapes, sites
 from .arrays import Array, Sparse
 from .errors import UnsupportedError
 from .questions import Questions
 from .trees import Made, Sided
+
+if TYPE_CHECKING:
+    from .constraints import Constraint
 
 # what stands where an expression is wanted: one, or a number, an array, a sparse matrix, a list of numbers or of lists
 Operand = Any
@@ -116,60 +119,60 @@ class Expression(Questions, Sided, Made):
 
     # ---- operators: `operators` has what each of them means
 
-    def __add__(self, other):
+    def __add__(self, other: Operand) -> Expression:
         return _operator("added", self, other)
 
-    def __radd__(self, other):
+    def __radd__(self, other: Operand) -> Expression:
         return _operator("added", other, self)
 
-    def __sub__(self, other):
+    def __sub__(self, other: Operand) -> Expression:
         return _operator("subtracted", self, other)
 
-    def __rsub__(self, other):
+    def __rsub__(self, other: Operand) -> Expression:
         return _operator("subtracted", other, self)
 
-    def __mul__(self, other):
+    def __mul__(self, other: Operand) -> Expression:
         return _operator("multiplied", self, other)
 
-    def __rmul__(self, other):
+    def __rmul__(self, other: Operand) -> Expression:
         return _operator("multiplied", other, self)
 
-    def __truediv__(self, other):
+    def __truediv__(self, other: Operand) -> Expression:
         return _operator("divided", self, other)
 
-    def __rtruediv__(self, other):
+    def __rtruediv__(self, other: Operand) -> Expression:
         return _operator("divided", other, self)
 
-    def __matmul__(self, other):
+    def __matmul__(self, other: Operand) -> Expression:
         return _operator("matrix_multiplied", self, other)
 
-    def __rmatmul__(self, other):
+    def __rmatmul__(self, other: Operand) -> Expression:
         return _operator("matrix_multiplied", other, self)
 
-    def __pow__(self, power):
+    def __pow__(self, power: Operand) -> Expression:
         return _operator("raised", self, power)
 
-    def __rpow__(self, base):
+    def __rpow__(self, base: Operand) -> Expression:
         return _operator("raised", base, self)
 
-    def __neg__(self):
+    def __neg__(self) -> Expression:
         from . import operators
         return operators.negated(self)
 
-    def __pos__(self):
+    def __pos__(self) -> Expression:
         return self
 
-    def __abs__(self):
+    def __abs__(self) -> Expression:
         from . import atoms
         return atoms.abs(self)
 
-    def __le__(self, other):
+    def __le__(self, other: Operand) -> Constraint:
         return _operator("at_most", self, other)
 
-    def __ge__(self, other):
+    def __ge__(self, other: Operand) -> Constraint:
         return _operator("at_least", self, other)
 
-    def __eq__(self, other):
+    def __eq__(self, other: Operand) -> Constraint:  # type: ignore[override]
         return _operator("equal", self, other)
 
     def __ne__(self, other):
@@ -202,7 +205,7 @@ class Expression(Questions, Sided, Made):
     def __hash__(self) -> int:
         return id(self)
 
-    def __getitem__(self, key):
+    def __getitem__(self, key: Any) -> Expression:
         from . import operators
         return operators.indexed(self, key)
 
@@ -319,7 +322,7 @@ class Constant(Expression):
 
     def __init__(self, value: Operand, name: str | None = None):
         if isinstance(value, Expression):
-            array = value._array() if not value.variables() and not value.parameters() else None
+            array = numbers_of(value)
             if array is None:
                 raise TypeError("a constant is made of numbers, and not of an expression with variables or parameters")
         else:
@@ -369,8 +372,16 @@ def as_expression(value: Operand) -> Expression:
         return Constant(value)
     if isinstance(value, (str, Made)) or value is None:
         raise TypeError(f"{value!r} stands where an expression or numbers are wanted")
+    if hasattr(value, "__iter__") and not hasattr(value, "shape") and not isinstance(value, (list, tuple, range)):
+        kind = type(value).__name__
+        raise TypeError(f"a {kind} stands where an expression or numbers are wanted: write a list of what is in it")
     item = boxed_expression(value)
     return item if item is not None else Constant(value)
+
+
+def numbers_of(expression: Expression) -> Array | Sparse | None:
+    """The numbers of an expression in which neither variables nor parameters stand; None of any other."""
+    return None if expression.variables() or expression.parameters() else expression._array()
 
 
 def boxed_expression(value: Operand) -> Expression | None:

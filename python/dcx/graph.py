@@ -93,7 +93,7 @@ class Graph:
         least = self.part_of(objective.args[0])
         counted.append((objective, *count.of_sides([least], least.shape)))
         for constraint in constraints:
-            counted.append((constraint, *count.of_sides(map(self.part_of, constraint.args), constraint.shape)))
+            counted.append((constraint, *count.of_sides(map(self.part_of, constraint.sides), constraint.shape)))
         return counted
 
     # -- how parts are made
@@ -190,28 +190,31 @@ class Graph:
 
 def _written_by_rows(order: list[Any], roots: list[Any]) -> dict[int, Sparse]:
     """The matrices, by the id of their constants, whose products have fewer entries when they are written out by
-    rows."""
+    rows. Equal matrices are one, whose own entries count once."""
     users: dict[int, list] = {}
-    matrices: dict[int, Any] = {}
+    constants: dict[int, Any] = {}
     for expression in order:
         if expression.kind == "constant" and len(expression.shape) == 2:
             if isinstance(expression.array, Sparse) or expression.array.size >= _WIDE:
-                matrices[id(expression)] = expression
+                constants[id(expression)] = expression
                 users[id(expression)] = []
         for arg in expression.args:
             if id(arg) in users:
                 users[id(arg)].append(expression)
-    for root in roots:
-        matrices.pop(id(root), None)
+    whole = {root.array for root in roots if id(root) in constants}  # those that stand as one anyway
+    products: dict[Any, list] = {}
+    for key, constant in constants.items():
+        of_numbers = [all(arg.kind == "constant" for arg in user.args) for user in users[key]]
+        if all(user.kind == "@" and not known for user, known in zip(users[key], of_numbers)):
+            products.setdefault(constant.array, []).extend((constant, user) for user in users[key])
+        elif not all(of_numbers):
+            whole.add(constant.array)
     found = {}
-    for key, constant in matrices.items():
-        products = users[key]
-        if any(product.kind != "@" or all(arg.kind == "constant" for arg in product.args) for product in products):
-            continue
-        matrix = _sparse(constant.array)
-        as_one = constant.array.size + sum(product.size for product in products)
-        if sum(_entries_by_rows(matrix, constant, product) for product in products) < as_one:
-            found[key] = matrix
+    for array, pairs in products.items():
+        matrix = _sparse(array)
+        as_one = sum(product.size for _, product in pairs) + (0 if array in whole else array.size)
+        if sum(_entries_by_rows(matrix, constant, product) for constant, product in pairs) < as_one:
+            found.update((id(constant), matrix) for constant, _ in pairs)
     return found
 
 

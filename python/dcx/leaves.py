@@ -6,7 +6,7 @@ from typing import Any, Iterator, Sequence, Union
 
 from . import arrays, foreign, missing, shapes, sites, spelling
 from .arrays import Array, Sparse
-from .constraints import Constraint
+from .constraints import Inequality
 from .errors import UnsupportedError
 from .expressions import Expression, Operand, next_number
 
@@ -77,15 +77,14 @@ class Leaf(Expression):
 
     def _judge(self, word: str) -> None:
         """ValueError where attributes exclude each other or want another shape."""
-        held = [key for key in _OF_LANGUAGE if self.attributes[key]]
         if self.attributes["nonneg"] and self.attributes["nonpos"]:
             raise ValueError(f"Cannot set more than one special attribute in {word}: nonneg and nonpos leave 0 alone")
         is_square = self.ndim == 2 and self.shape[0] == self.shape[1]
         if (self.attributes["symmetric"] or self.attributes["diag"]) and not is_square:
             raise ValueError(f"Invalid dimensions {self.shape}. Must be a square matrix.")
-        shapely = [key for key in held if key in ("symmetric", "diag", "boolean", "integer")]
-        if len(shapely) > 1:
-            raise ValueError(f"Cannot set more than one special attribute in {word}: {' and '.join(shapely)}")
+        for pair in (("symmetric", "diag"), ("boolean", "integer")):
+            if all(self.attributes[key] for key in pair):
+                raise ValueError(f"Cannot set more than one special attribute in {word}: {' and '.join(pair)}")
 
     def _bounds(self, bounds) -> tuple:
         """The two ends, each None or a list of an exact number or None for each entry."""
@@ -258,7 +257,7 @@ missing.refuse(Leaf, "leaf")
 class Variable(Leaf):
     """What is solved for: `Variable(shape=(), name=None, **attributes)`.
 
-    Attributes are nonneg, nonpos, pos and neg (which are nonneg and nonpos, as in CVXPY), symmetric, diag, boolean,
+    Attributes are nonneg, nonpos, pos and neg (which are nonneg and nonpos, as in CVXPY), symmetric or diag, boolean or
     integer, and bounds=[l, u] with numbers, arrays, None and infinities as open ends.
 
     Raises `ValueError` of a shape that is none, of attributes that exclude each other or want another shape, and of
@@ -291,21 +290,28 @@ class Variable(Leaf):
         return self._own
 
     def language_attributes(self) -> tuple:
-        """The attributes that a declaration in the program's language has: at most one of its first four, or boolean,
-        or integer with a sign. What the language can't say beside another is one of the own constraints."""
+        """The attributes that a declaration in the program's language has: boolean, or integer with a sign, or
+        symmetric, diag or a sign. What the language can't say beside another is one of the own constraints."""
         held = self.attributes
-        for word in ("symmetric", "diag", "boolean"):
-            if held[word]:
+        if held["boolean"]:
+            return ("boolean",)
+        for word in ("symmetric", "diag"):
+            if held[word] and not held["integer"]:
                 return (word,)
         return tuple(word for word in ("integer", "nonneg", "nonpos") if held[word])
 
     def _made(self) -> list:
+        from .atoms import upper_tri
         held, said = self.attributes, self.language_attributes()
         made = []
         if held["nonneg"] and "nonneg" not in said and not held["boolean"]:
             made.append(self >= 0)
         if held["nonpos"] and "nonpos" not in said:
             made.append(self <= 0)
+        if held["symmetric"] and "symmetric" not in said and self.size > 1:
+            made.append(upper_tri(self) == upper_tri(self.T))
+        if held["diag"] and "diag" not in said and self.size > 1:
+            made += [upper_tri(self) == 0, upper_tri(self.T) == 0]
         for ends, sense in zip(self._ends or (), ("low", "high")):
             if ends is not None:
                 made += self._bounded(ends, sense, said)
@@ -322,8 +328,7 @@ class Variable(Leaf):
             places = [place for place, end in enumerate(ends) if end is not None]
             side, kept = operators.gathered(self, places, (len(places),)), [ends[place] for place in places]
         limit = Array((), kept[:1]) if len(set(kept)) == 1 else Array(side.shape, kept)
-        return [Constraint("<=", limit, side, is_turned=True) if sense == "low" else Constraint("<=", side, limit)]
-
+        return [Inequality(limit, side, is_turned=True) if sense == "low" else Inequality(side, limit)]
 
     @staticmethod
     def _is_implied(ends: list, sense: str, said: tuple) -> bool:

@@ -29,7 +29,7 @@ _TABLES = {
         _GEOMETRIC: "is_dgp() is_log_log_affine() is_log_log_convex() is_log_log_concave() is_log_log_constant()",
         _GRADIENTS: "grad",
         _FORMS: "canonicalize() canonical_form get_data() tree_copy()",
-        _LABELS: "label set_label(..)",
+        _LABELS: "label set_label(..) format_labeled()",
         ("every expression here is defined everywhere", "the constraints that you mean"): "domain",
         ("bounds are known of variables alone", "bounds of a variable, or is_nonneg() and is_nonpos()"): "get_bounds()",
     },
@@ -44,7 +44,7 @@ _TABLES = {
         _QUASI: "is_dqcp()",
         _GEOMETRIC: "is_dgp()",
         _FORMS: "canonicalize() canonical_form get_data() tree_copy()",
-        _LABELS: "label set_label(..)",
+        _LABELS: "label set_label(..) format_labeled()",
     },
     "problem": {
         ("there is no other solver's data", "problem.script() and problem.settings(), which are handed over"):
@@ -57,6 +57,7 @@ _TABLES = {
         _QUASI: "is_dqcp()",
         _GEOMETRIC: "is_dgp()",
         _FORMS: "canonicalize() canonical_form",
+        _LABELS: "format_labeled()",
     },
 }
 

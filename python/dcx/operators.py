@@ -7,9 +7,9 @@ from typing import Sequence
 
 from . import arrays, indices, shapes, sites
 from .arrays import Array, Sparse
-from .constraints import Constraint
+from .constraints import Equality, Inequality
 from .errors import UnsupportedError, warnings_enabled
-from .expressions import Constant, Expression, as_expression, node
+from .expressions import Constant, Expression, as_expression, node, numbers_of
 from .numbers import exact
 
 _STAR = ("This use of ``*`` has resulted in matrix multiplication. Using ``*`` for matrix multiplication has been "
@@ -119,12 +119,13 @@ def matrix_multiplied(left, right) -> Expression:
 def raised(base, power) -> Expression:
     """`base ** power`, where the power is 1, or both are constants and the power is a whole number."""
     base, power = as_expression(base), as_expression(power)
-    if power.kind == "constant" and power.is_scalar():
-        exponent = power.array.entries[0]
+    exponents, numbers = numbers_of(power), numbers_of(base)
+    if exponents is not None and power.is_scalar():
+        exponent = exponents.entries[0]
         if exponent == 1:
             return base
-        if base.kind == "constant" and exponent.denominator == 1 and (exponent >= 0 or all(base.array.entries)):
-            return Constant(Array(base.shape, (number**exponent.numerator for number in base.array.entries)))
+        if numbers is not None and exponent.denominator == 1 and (exponent >= 0 or all(numbers.entries)):
+            return Constant(Array(base.shape, (number**exponent.numerator for number in numbers.entries)))
     raise UnsupportedError("a power isn't piecewise linear, so it has no exact answer in fractions: for least squares "
                            "write "
                            "cp.norm1(x) or cp.norm_inf(x), for a smooth cost cp.maximum of its tangents", sites.here())
@@ -133,19 +134,19 @@ def raised(base, power) -> Expression:
 # ---- comparisons
 
 
-def at_most(left, right) -> Constraint:
+def at_most(left, right) -> Inequality:
     """`left <= right`."""
-    return Constraint("<=", *fitted(as_expression(left), as_expression(right)))
+    return Inequality(left, right)
 
 
-def at_least(left, right) -> Constraint:
+def at_least(left, right) -> Inequality:
     """`left >= right`, which is `right <= left`."""
-    return Constraint("<=", *fitted(as_expression(right), as_expression(left)), is_turned=True)
+    return Inequality(right, left, is_turned=True)
 
 
-def equal(left, right) -> Constraint:
+def equal(left, right) -> Equality:
     """`left == right`."""
-    return Constraint("==", *fitted(as_expression(left), as_expression(right)))
+    return Equality(left, right)
 
 
 # ---- places

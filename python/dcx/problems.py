@@ -8,9 +8,9 @@ from typing import Any, Callable, Iterable, Mapping, NamedTuple, Optional
 from . import missing, sites
 from .answered import Answered, Solution, SolverStats
 from .arguments import Arguments
-from .constraints import Constraint
+from .constraints import Constraint, Inequality
 from .errors import DCPError
-from .expressions import Constant, Expression
+from .expressions import Expression
 from .objectives import Maximize, Objective
 from .questions import refuse_context
 from .results import Result
@@ -274,7 +274,7 @@ class Problem(Answered, Made):
         return f"Problem({self._objective!r}, {self._constraints!r})"
 
     def _roots(self) -> list:
-        return [self._objective.expr, *(side for item in self._constraints for side in item.args)]
+        return [self._objective.expr, *(side for item in self._constraints for side in item.sides)]
 
 
 missing.refuse(Problem, "problem")
@@ -289,7 +289,7 @@ def _constraint(item: Any, place: int) -> Constraint:
         if not item:
             site = sites.here()
             warnings.warn_explicit(_NEVER, UserWarning, site.file, site.line)
-        return Constraint("<=", Constant(0 if item else 1), Constant(1 if item else 0))
+        return Inequality(0 if item else 1, 1 if item else 0)
     hint = ""
     if isinstance(item, (list, tuple)):
         hint = "; lists are joined by +, and not put into each other"

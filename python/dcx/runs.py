@@ -82,9 +82,13 @@ def solve_at(
     nothing any more, by this process. Where it fails again each of its results has the status `solver_error`, and an
     `error` that names the part; the others stay. A setting that has no answer has such a result as well.
 
+    Where the call doesn't come to its end, by an interruption or by what `progress` raises, `problem.partial_results`
+    has what was found until then; a smaller `chunk` leaves less of it out.
+
     Raises `DCPError`, `LimitError` as `Problem.solve`; `ParameterError` where a setting leaves a parameter without a
-    value; `KeyError` where it names what is no parameter of the problem, `ValueError` where a value doesn't fit or a
-    limit is none; `TypeError` where a setting is no dictionary, or what is to carry the parts no executor.
+    value; `KeyError` where it names what is no parameter of the problem, `ValueError` where a value doesn't fit, a
+    parameter has two, or a limit is none; `TypeError` where a setting is no dictionary, or what is to carry the parts
+    no executor.
     """
     if executor is not None and not callable(getattr(executor, "submit", None)):
         raise TypeError(f"an executor has a method submit, as those of concurrent.futures, and {executor!r} has none")
@@ -97,6 +101,7 @@ def solve_at(
     is_whole = problem.is_mixed_integer()
     carrier = _Carrier(script.text, tuple(options), executor)
     results: list[Optional[Result]] = [None] * len(settings)
+    problem._partial = results
     stops: list[tuple[Result, solving.Question]] = []
     done = 0
 
@@ -112,22 +117,25 @@ def solve_at(
     for part, outcome in carrier.all(parts):
         before = len(stops)
         for result in _results(problem, script, settings, part, outcome):
-            kept(result)
             stop = None if result.answer is None else result.answer.stop
             if exact and solving.helps(stop, is_whole, max_iters is not None):
                 line = lines[result.index]
                 stops.append((result, solving.Question(script.text, line, problem._maximized, is_whole, wishes)))
+            else:
+                kept(result)
         told(part.count - (len(stops) - before))
     for result in _behind(problem, script, stops, executor):
         kept(result)
         told(1)
+    problem._partial = None
     return results
 
 
 def _behind(
     problem: Any, script: Script, stops: list[tuple[Result, solving.Question]], executor: Any
 ) -> Iterator[Result]:
-    """The results of settings at which the program stopped, in order, by what is shown behind that."""
+    """The results of settings at which the program stopped, in order, by what is shown behind that. Where a search is
+    interrupted the best point so far is the last result, and the interruption goes on."""
     futures = [_submitted(executor, question) for _, question in stops]
     try:
         for (result, question), future in zip(stops, futures):
@@ -136,10 +144,10 @@ def _behind(
                 shown = solving.behind(result.answer.stop, script, lambda: _asked(question, future))
             except (SolverError, CertificateError) as cause:
                 error = cause
-            if getattr(shown, "why", None) == "interrupted":
-                raise KeyboardInterrupt
             answer = None if shown is None else shown.answer
             yield Result(script, answer, problem._maximized, result.setting, result.index, error, shown=shown)
+            if getattr(shown, "why", None) == "interrupted":
+                raise KeyboardInterrupt
     finally:
         for future in filter(None, futures):
             future.cancel()
@@ -292,6 +300,8 @@ def _line(script: Script, setting: Mapping[Any, Any], number: int) -> str:
         parameter = script.leaf("parameter", key)
         if parameter is None:
             raise KeyError(f"settings[{number}] names {key!r}, which is no parameter that the problem reaches")
+        if parameter in values:
+            raise ValueError(f"settings[{number}] has two values of {parameter.name()}: by itself, and by its name")
         try:
             values[parameter] = parameter._tested(value)
         except (ValueError, TypeError) as error:

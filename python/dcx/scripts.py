@@ -114,13 +114,13 @@ class _Writer:
         self.objective = objective
         # the same constraint twice is one, and what has no entry asks for nothing
         self.constraints = [constraint for constraint in dict.fromkeys(constraints) if constraint.size]
-        roots = [objective.args[0], *(side for constraint in self.constraints for side in constraint.args)]
+        roots = [objective.args[0], *(side for constraint in self.constraints for side in constraint.sides)]
         graph = Graph(roots)
         variables = [leaf for leaf in graph.leaves() if leaf.kind == "variable"]
         own = [constraint for variable in variables for constraint in variable.own_constraints()]
         if own:
             self.constraints += own
-            graph = Graph(roots + [side for constraint in own for side in constraint.args])
+            graph = Graph(roots + [side for constraint in own for side in constraint.sides])
         _check_limits(graph, objective, self.constraints)
         self.graph = graph
         self.parts = graph.used()
@@ -241,7 +241,7 @@ class _Writer:
     def constraint(self, constraint: Any) -> None:
         """Writes a constraint, with its sides in the user's order."""
         sheet = self.sheet
-        sides, operator = list(map(self.graph.part_of, constraint.args)), constraint.op
+        sides, operator = list(map(self.graph.part_of, constraint.sides)), constraint.op
         if operator == "<=" and constraint.is_turned:
             sides, operator = sides[::-1], ">="
         numbers_alone = all(side.plain for side in sides)  # two plain values make no constraint

@@ -199,8 +199,8 @@ class _Solve:
         """Says what is handed over, and, once, which arguments have no meaning."""
         script = self.script
         self.say(
-            f"{len(script.variables)} variables, {len(script.parameters)} parameters, "
-            f"{len(script.constraints)} constraints; problem.script() shows what is handed over"
+            f"variables: {len(script.variables)}, parameters: {len(script.parameters)}, constraints: "
+            f"{len(script.constraints)}; problem.script() shows what is handed over"
         )
         meaningless = self.given.meaningless
         if self.verbose and meaningless and not self.problem._arguments_told:

@@ -1,5 +1,5 @@
-"""Words: how a solve ends, in CVXPY's spelling, and the names of CVXPY's solvers, which are taken for the one that
-there is."""
+"""Words: how a solve ends, in CVXPY's spelling, and the names of CVXPY's solvers and of what it hands problems over by,
+which are taken for the one that there is."""
 from __future__ import annotations
 
 OPTIMAL = "optimal"
@@ -46,6 +46,11 @@ SDPA = "SDPA"
 XPRESS = "XPRESS"
 
 ROBUST_KKTSOLVER = "robust"
+COO_CANON_BACKEND = "COO"
+CPP_CANON_BACKEND = "CPP"
+NUMPY_CANON_BACKEND = "NUMPY"
+RUST_CANON_BACKEND = "RUST"
+SCIPY_CANON_BACKEND = "SCIPY"
 
 __all__ = [name for name in globals() if name.isupper()]
 

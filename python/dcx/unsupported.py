@@ -44,7 +44,7 @@ _REASONS = {
     _QUASI: "ceil floor sign quasiconvex one_minus_pos diff_pos",
     _GEOMETRIC: "dgp2dcp Dgp2Dcp",
     _GRADIENTS: "derivative backward linearize grad",
-    _SOLVERS: "partial_optimize transforms reductions interface utilities lin_ops performance_tests",
+    _SOLVERS: "partial_optimize reductions interface utilities lin_ops performance_tests",
 }
 
 # what is told of one name alone
@@ -56,8 +56,9 @@ _OWN = {
     "SuppFunc": ("a support function is a problem of its own", "cp.max of its values at the corners of the set"),
     "CallbackParam": ("a parameter has a value and no function", "cp.Parameter, and its value before each solve"),
     "Sum": ("classes of calls aren't offered", "cp.sum"),
-    "broadcast_to": ("operators broadcast by themselves", "x + np.zeros(shape)"),
-    "promote": ("operators broadcast by themselves", "x + np.zeros(shape)"),
+    "promote": ("operators broadcast by themselves", "cp.broadcast_to(x, shape)"),
+    "transforms": ("several objectives make one by their own sums",
+                   "2*objective + other, or cp.maximum of their expressions"),
     "huber": ("a square isn't piecewise linear, and its middle piece is one",
               "cp.maximum(cp.abs(x)/10, cp.abs(x) - 1), or other pieces near to it"),
     "psd_wrap": ("there are no quadratic forms", "cp.norm1(x) or cp.norm_inf(x) as the measure of a deviation"),

@@ -99,6 +99,8 @@ CASES = [
     ([(5,)], lambda x: cp.cvar(x, 0.7) * 1.5, lambda x: _largest(x, Fraction(3, 2))),
     ([(5,)], lambda x: cp.dotsort(x, [3, 1, -2, 1, 0.5]), lambda x: _dotsort(x, [3, 1, -2, 1, 0.5])),
     ([(2, 3)], lambda x: cp.dotsort(x, [2, 5]), lambda x: _dotsort(x, [2, 5])),
+    ([(5,)], lambda x: cp.dotsort(x, -cp.Constant([2, 5])), lambda x: _dotsort(x, [-2, -5])),
+    ([(5,)], lambda x: cp.sum_largest(x, cp.Constant(5) / 2), lambda x: _largest(x, 2.5)),
     ([(2, 3)], cp.ptp, np.ptp),
     ([(2, 3)], lambda x: cp.ptp(x, axis=1, keepdims=True), lambda x: np.ptp(x, axis=1, keepdims=True)),
     # along a vector
@@ -136,6 +138,9 @@ CASES = [
     ([(1, 1)], cp.squeeze, np.squeeze),
     *[([shape], lambda x, a=a: cp.expand_dims(x, a), lambda x, a=a: np.expand_dims(x, a)) for shape,
       a in [((3,), 0), ((3,), 1), ((3,), -1), ((), 0)]],
+    *[([shape], lambda x, s=s: cp.broadcast_to(x, s), lambda x, s=s: np.broadcast_to(x, s))
+      for shape, s in [((3,), (2, 3)), ((3,), 3), ((), (2,)), ((), (2, 3)), ((2, 1), (2, 3)), ((1, 1), (2, 3)),
+                       ((1, 3), [2, 3]), ((2, 3), (2, 3))]],
     # stacks
     ([(3,), (2,), ()], lambda x, y, z: cp.hstack([x, y, z, 7]), lambda x, y, z: np.hstack([x, y, z, 7])),
     ([(2, 3), (2, 1)], lambda x, y: cp.hstack([x, y, C]), lambda x, y: np.hstack([x, y, C])),
@@ -169,10 +174,15 @@ CASES = [
     *[([(4,)], lambda x, c=c: cp.convolve(c, x), lambda x, c=c: np.convolve(c, x))
       for c in ([1, 2, 0, -1], [3], [1, 0.5])],
     ([(4,)], lambda x: cp.convolve(x, [1, -1]), lambda x: np.convolve(x, [1, -1])),
+    ([(4,)], lambda x: cp.convolve(cp.Constant([1, 2]) / 4, x), lambda x: np.convolve([0.25, 0.5], x)),
+    *[([(4,)], lambda x, k=k: cp.convolve(cp.Parameter(len(k), value=k), x), lambda x, k=k: np.convolve(k, x))
+      for k in ([3], [1, -2], [1, 0.5, 0, -1, 2])],
+    ([(4,)], lambda x: cp.convolve(x, 1 - cp.Parameter(2, value=[0.5, 3])), lambda x: np.convolve(x, [0.5, -2])),
     ([(4, 1)], lambda x: cp.conv([1, 2], x), lambda x: np.convolve([1, 2], x.ravel()).reshape(5, 1)),
     ([(3,)], lambda x: cp.conv([1, 2], x), lambda x: np.convolve([1, 2], x)),
     # methods
     ([(2, 3)], lambda x: x.sum(axis=1), lambda x: x.sum(axis=1)),
+    ([(3,)], lambda x: x * (2 * cp.Constant(3)) ** 2, lambda x: 36 * x),
     ([(2, 3)], lambda x: x.mean(0, keepdims=True), lambda x: x.mean(0, keepdims=True)),
     ([(2, 3)], lambda x: x.max(axis=0), lambda x: x.max(axis=0)), ([(2, 3)], lambda x: x.min(), lambda x: x.min()),
     ([(3, 3)], lambda x: x.trace(), np.trace), ([(2, 3)], lambda x: x.flatten(), lambda x: x.flatten(order="F")),
@@ -245,7 +255,7 @@ class Values(unittest.TestCase):
                 expression = ours(*parameters)
                 wanted = np.asarray(theirs(*points), dtype=float)
                 np.testing.assert_allclose(np.asarray(expression.value, dtype=float), wanted, rtol=0, atol=1e-12)
-                self.assertTrue(expression.is_constant() or not expression.parameters())
+                self.assertTrue(expression.is_constant())
 
 
 class Exactness(unittest.TestCase):
@@ -310,7 +320,8 @@ class Refused(unittest.TestCase):
             lambda: cp.concatenate([x, X]), lambda: cp.stack([x, X]), lambda: cp.squeeze(X, 0),
             lambda: cp.transpose(X, (0, 0)),
             lambda: cp.dotsort(x, [1, 2, 3, 4]), lambda: cp.cvar(x, 1), lambda: cp.vec(x, "K"),
-            lambda: cp.expand_dims(X, 0),
+            lambda: cp.expand_dims(X, 0), lambda: cp.broadcast_to(x, (3, 2)), lambda: cp.broadcast_to(X, (3,)),
+            lambda: cp.broadcast_to(X[:1, :1], 4), lambda: cp.broadcast_to(x, (2, 1, 3)),
         ]:
             with self.assertRaises(ValueError):
                 ask()
@@ -324,6 +335,10 @@ class Refused(unittest.TestCase):
                     lambda: x.sum(dtype=float), lambda: cp.norm1(item for item in x)]:
             with self.assertRaises(TypeError):
                 ask()
+        for made, kind in ((lambda: cp.sum(entry for entry in x), "generator"), (lambda: x + {1: 2}, "dict"),
+                           (lambda: cp.max({1, 2}), "set"), (lambda: cp.hstack([{"a": x}.values()]), "dict_values")):
+            with self.assertRaisesRegex(TypeError, f"a {kind} stands where .*: write a list of what is in it"):
+                made()
 
     def test_what_is_not_piecewise_linear(self):
         x, X = cp.Variable(3), cp.Variable((2, 3))

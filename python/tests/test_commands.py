@@ -152,6 +152,29 @@ class Run(Folder):
         )
         self.assertEqual(run("run", self.script(text))[::2], ("True True optimal\n", 0))
 
+    def test_the_modules_of_cvxpys_classes(self):
+        text = """\
+import cvxpy
+import cvxpy as cp
+import cvxpy.problems.problem
+from cvxpy.constraints import Equality, Zero
+from cvxpy.constraints.constraint import Constraint
+from cvxpy.constraints.nonpos import Inequality, NonNeg, NonPos
+from cvxpy.expressions.constants import Constant, Parameter
+from cvxpy.expressions.expression import Expression
+from cvxpy.expressions.leaf import Leaf
+from cvxpy.expressions.variable import Variable
+from cvxpy.problems.objective import Minimize
+
+x: cp.expressions.variable.Variable = Variable()
+print([type(one) is kind for one, kind in ((x == 0, Equality), (cp.Zero(x), Zero), (x <= 1, Inequality))])
+print(all(isinstance(one, Constraint) for one in (x <= 1, NonNeg(x), NonPos(x))), isinstance(x, Leaf))
+print([isinstance(one, Expression) for one in (x, x + 1, Parameter(), Constant(2), x >= 1)])
+print(cvxpy.problems.problem.Problem(Minimize(x), [x >= 3]).solve())
+"""
+        told = "[True, True, True]\nTrue True\n[True, True, True, True, False]\n3.0\n"
+        self.assertEqual(run("run", self.script(text)), (told, "", 0))
+
     def test_processes_that_a_script_starts(self):
         text = """\
 import concurrent.futures

@@ -1,6 +1,7 @@
 """Constraints: their sides, what breaks them, and what the rules say of them."""
 from __future__ import annotations
 
+import pickle
 import unittest
 from fractions import Fraction
 
@@ -47,11 +48,52 @@ class Sides(unittest.TestCase):
         self.assertRaises(ValueError, lambda: X == X.T)
         self.assertRaises(TypeError, lambda: X == "x")
 
-    def test_classes_of_cvxpy(self):
+    def test_classes_of_comparisons(self):
         x = cp.Variable(2, "x")
-        x.value = [1, -1]
-        self.assertEqual([list(c.residual) for c in (cp.NonNeg(x), cp.NonPos(x), cp.Zero(x))], [[0, 1], [1, 0], [1, 1]])
-        self.assertIsInstance(cp.Zero(x), cp.Constraint)
+        kinds = [cp.Zero, cp.NonNeg, cp.NonPos, cp.constraints.Equality, cp.constraints.Inequality]
+        for made, kind in [(x == 0, cp.constraints.Equality), (0 == x, cp.constraints.Equality),
+                           (x <= 0, cp.constraints.Inequality), (x >= 0, cp.constraints.Inequality),
+                           (cp.Zero(x), cp.Zero), (cp.NonNeg(x), cp.NonNeg), (cp.NonPos(x), cp.NonPos)]:
+            self.assertIsInstance(made, cp.Constraint)
+            self.assertEqual([isinstance(made, one) for one in kinds], [one is kind for one in kinds], str(made))
+            self.assertEqual(repr(made), f"{kind.__name__}({made})")
+            self.assertIs(type(pickle.loads(pickle.dumps(made))), kind)
+
+        with self.assertRaisesRegex(TypeError, "made by <=, >= or =="):
+            cp.Constraint(x, 1)
+
+    def test_constraints_of_one_expression(self):
+        x = cp.Variable((2, 2), "x")
+        x.value = point = np.array([[1, -1], [0, 2.5]])
+        wanted = {cp.Zero: abs(point), cp.NonNeg: np.maximum(-point, 0), cp.NonPos: np.maximum(point, 0)}
+        for kind, text in ((cp.Zero, "x == 0"), (cp.NonNeg, "x >= 0"), (cp.NonPos, "x <= 0")):
+            made = kind(x)
+            self.assertEqual((made.args, str(made), made.shape, made.size), ((x,), text, (2, 2), 4))
+            self.assertIs(made.expr, x)
+            np.testing.assert_array_equal(made.residual, wanted[kind])
+            np.testing.assert_array_equal(made.violation(), wanted[kind])
+            self.assertEqual(made.site.text, "made = kind(x)")
+            self.assertFalse(made.value(0.5))
+            self.assertTrue(made.value(2.5))
+            self.assertIsNone(made.dual_value)
+            self.assertRaises(TypeError, lambda: kind("x"))
+        self.assertEqual([kind(cp.abs(x)).is_dcp() for kind in wanted], [False, False, True])
+
+    def test_multipliers_of_one_expression(self):
+        """Least 2a + 3b where a + b is 4, both are at least 1, and a is at most 9: a is 3, so its bounds have none."""
+        x = cp.Variable(2)
+        total, least, most = cp.Zero(cp.sum(x) - 4), cp.NonNeg(x - 1), cp.NonPos(x[:1] - 9)
+        problem = cp.Problem(cp.Minimize(2 * x[0] + 3 * x[1]), [total, least, most])
+        self.assertEqual((problem.solve(), x.value.tolist()), (9, [3, 1]))
+        # (2, 3) + y (1, 1) - z is 0, with z of the bounds, which has no first entry
+        self.assertEqual((total.dual_value, least.dual_value.tolist(), most.dual_value.tolist()), (-2, [0, 1], [0]))
+        self.assertEqual(problem.size_metrics[2:], (1, 3))
+
+    def test_sides_of_one_entry_fit_the_others(self):
+        X, s = cp.Variable(3), cp.Variable((1, 1))
+        for kind in (cp.constraints.Equality, cp.constraints.Inequality):
+            problem = cp.Problem(cp.Minimize(cp.sum(X)), [kind(s, X), s == 2])
+            self.assertEqual((problem.solve(), X.value.tolist()), (6, [2, 2, 2]))
 
     def test_parts(self):
         x, p = cp.Variable(2, "x"), cp.Parameter(name="p")

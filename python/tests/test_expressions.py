@@ -465,7 +465,9 @@ class Leaves(unittest.TestCase):
                             ({"bounds": [-1, 1]}, ()), ({"bounds": [None, None]}, ()),
                             ({"bounds": [1, None], "integer": True}, ("integer", "nonneg")),
                             ({"bounds": [-1, 1], "boolean": True}, ("boolean",)),
-                            ({"boolean": True, "nonneg": True}, ("boolean",))]:
+                            ({"boolean": True, "nonneg": True}, ("boolean",)),
+                            ({"symmetric": True, "boolean": True}, ("boolean",)),
+                            ({"diag": True, "integer": True, "nonneg": True}, ("integer", "nonneg"))]:
             x = cp.Variable((2, 2), **given)
             self.assertEqual(x.language_attributes(), said, given)
 
@@ -503,6 +505,7 @@ class Leaves(unittest.TestCase):
         self.assertEqual(own(3, bounds=[[1, None, 1], None]), ["x[0:3:2] >= 1"])
         self.assertEqual(own((2, 2), symmetric=True, nonneg=True), ["x >= 0"])
         self.assertEqual(own((2, 2), pos=True), [])
+        self.assertEqual(own((1, 1), symmetric=True, boolean=True) + own((1, 1), diag=True, integer=True), [])
         self.assertEqual(own(integer=True, bounds=[0, 5]), ["x <= 5"])
         self.assertEqual(own(boolean=True, bounds=[0, 1]), [])
         self.assertEqual(own(boolean=True, bounds=[1, 1]), ["x >= 1"])
@@ -527,6 +530,28 @@ class Leaves(unittest.TestCase):
         x = cp.Variable((2, 2), symmetric=True, bounds=[[[1, -np.inf], [-1, 2]], 4])
         cp.Problem(cp.Minimize(cp.trace(x) + x[0, 1])).solve()
         self.assertEqual(x.value.tolist(), [[1, -1], [-1, 2]])
+
+    def test_matrices_of_whole_numbers(self):
+        """Against all matrices of few entries."""
+        rng = np.random.default_rng(8)
+        for _ in range(4):
+            C, most = rng.integers(-4, 5, (3, 3)), int(rng.integers(1, 4))
+            X = cp.Variable((3, 3), symmetric=True, boolean=True)
+            problem = cp.Problem(cp.Maximize(cp.sum(cp.multiply(C, X))), [cp.sum(X, axis=1) <= most])
+            best = -np.inf
+            for bits in itertools.product((0, 1), repeat=6):
+                made = np.zeros((3, 3))
+                made[np.triu_indices(3)] = bits
+                made = np.maximum(made, made.T)
+                if (made.sum(axis=1) <= most).all():
+                    best = max(best, (C * made).sum())
+            self.assertEqual(problem.solve(), best)
+            np.testing.assert_array_equal(X.value, X.value.T)
+            D = cp.Variable((3, 3), diag=True, integer=True, bounds=[-1, 2])
+            problem = cp.Problem(cp.Minimize(cp.sum(cp.multiply(C, D)) + cp.abs(cp.trace(D))))
+            points = itertools.product(range(-1, 3), repeat=3)
+            self.assertEqual(problem.solve(), min(np.diag(C) @ point + abs(sum(point)) for point in points))
+            np.testing.assert_array_equal(D.value, np.diag(np.diag(D.value)))
 
     def test_values(self):
         x = cp.Variable((2, 2))
@@ -684,6 +709,25 @@ class Questions(unittest.TestCase):
                 self.assertEqual(e.is_constant(), curvature == "CONSTANT")
                 self.assertEqual(e.is_nonneg(), sign in ("NONNEGATIVE", "ZERO"))
                 self.assertEqual(e.is_nonpos(), sign in ("NONPOSITIVE", "ZERO"))
+
+    def test_what_all_that_is_offered_has_in_common(self):
+        x = cp.Variable((2, 2))
+        for e in (x, cp.Parameter(), cp.Constant(2), 3 * x + 1, cp.abs(x), cp.minimum(x, 0), cp.abs(x) - cp.abs(x)):
+            self.assertTrue(e.is_pwl() and e.is_qpwa() and e.is_real())
+            self.assertFalse(e.is_complex() or e.is_imag())
+            self.assertEqual(e.is_quadratic(), e.is_affine(), str(e))
+        self.assertEqual([e.is_zero() for e in (0 * x, cp.Constant(0), x, cp.abs(x))], [True, True, False, False])
+        x.value = [[1, 2], [3, 4]]
+        self.assertEqual(x.H.value.tolist(), x.value.T.tolist())
+        self.assertEqual([entry.value for entry in x.flat], list(x.value.flatten(order="F")))
+        self.assertRaises(UnsupportedError, x.project, [[0, 0], [0, 0]])
+        problem = cp.Problem(cp.Minimize(cp.norm1(x)), [x >= 1])
+        self.assertTrue(problem.is_qp() and problem.is_lp())
+        self.assertFalse(cp.Problem(cp.Maximize(cp.norm1(x))).is_lp())
+        self.assertIsNone(problem.status)
+        problem.solve()
+        self.assertTrue(problem.status in cp.settings.SOLUTION_PRESENT)
+        self.assertFalse(problem.status in cp.settings.INF_OR_UNB)
 
     def test_places(self):
         x = cp.Variable(3)

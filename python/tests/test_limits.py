@@ -99,6 +99,11 @@ class Counts(unittest.TestCase):
         v, m, s, p = cp.Variable(4), cp.Variable((3, 4)), cp.Variable(), cp.Parameter()
         self.edge(cp.Minimize(0), [v - s <= -s, -s <= m, 1 - p <= v, -p <= v, p <= v, v >= p + 1])
         self.edge(cp.Minimize(cp.tv(v)), [cp.diff(v) <= 1, cp.diff(v, 2) <= -cp.diff(v, 2), cp.norm1(cp.diff(v)) <= 3])
+        rows = sparse.diags([1, 2, 3], [-1, 0, 1], shape=(12, 12), format="csr")
+        x, y, numbers = cp.Variable(12), cp.Variable((2, 12)), cp.Constant(rows) @ cp.Constant(np.arange(12))
+        self.edge(cp.Minimize(0), [rows @ x <= numbers, y @ rows >= numbers])
+        self.edge(cp.Minimize(0), [rows @ x <= numbers, y @ rows >= 2, rows @ x == rows @ cp.abs(x), y[0] @ rows == 1])
+        self.edge(cp.Minimize(0), [rows @ x <= numbers, cp.diag(x) >= rows, cp.multiply(rows, cp.diag(x)) <= 1])
         self.edge(cp.Minimize(5), [m <= -cp.abs(m), cp.Constant(1) <= 2, -(-v) <= 0, v + -(-v) <= v - -v])
 
     def test_sides_of_constraints_are_spread(self):
@@ -208,13 +213,20 @@ class Zeros(unittest.TestCase):
         self.assertEqual(problem.solve(), 2)
 
     def test_one_matrix_in_many_products_is_written_once(self):
-        """Where a matrix stands in many products, its own entries count once."""
-        half = np.array([[(i * j) % 3 for j in range(12)] for i in range(12)])
+        """In one product three numbers a row are shorter by rows, and in twenty the matrix is, whose own entries count
+        once: also where each product has a constant of its own, as where a loop has an array before `@`."""
+        matrix = sparse.diags([np.arange(1, 12), np.arange(2, 14), np.arange(3, 14)], [-1, 0, 1], format="csr")
         xs = [cp.Variable(12) for _ in range(20)]
-        script = cp.Problem(cp.Minimize(xs[0][0]), [sparse.csr_matrix(half) @ x == 1 for x in xs]).script()
-        matrix = sparse.csr_matrix(half)
-        shared = cp.Problem(cp.Minimize(xs[0][0]), [matrix @ x == 1 for x in xs]).script()
-        self.assertEqual(script.count("np.array"), shared.count("np.array"))
+        one = cp.Problem(cp.Minimize(xs[0][0]), [matrix @ xs[0] == 1])
+        self.assertNotIn("np.array", one.script())
+        constant = cp.Constant(matrix)
+        for given in (lambda: constant, lambda: matrix, matrix.copy):
+            problem = cp.Problem(cp.Minimize(xs[0][0]), [given() @ x == 1 for x in xs])
+            self.assertEqual((problem.script().count("np.array("), problem.script().count(" @ ")), (1, 20))
+            # the matrix, the variables and their products, 1 and its spread, and x[0]
+            self.assertEqual(self.entries(problem), 144 + 20 * (12 + 12) + 1 + 12 + 1)
+        both = cp.Problem(cp.Minimize(xs[0][0]), [matrix @ xs[0] == 1, cp.diag(xs[1]) >= matrix.copy()])
+        self.assertEqual((both.script().count("np.array("), both.script().count(" @ ")), (1, 1))
 
 
 class Depth(unittest.TestCase):

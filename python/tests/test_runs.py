@@ -8,8 +8,9 @@ import pickle
 import shlex
 import shutil
 import signal
+import subprocess
+import sys
 import tempfile
-import time
 import unittest
 from concurrent.futures import Executor, Future, ProcessPoolExecutor, ThreadPoolExecutor
 from fractions import Fraction
@@ -20,11 +21,12 @@ import numpy as np
 from scipy.optimize import linprog
 
 import dcx.cvxpy as cp
-from dcx import program, runs, shown
+from dcx import program, runs, shown, solving
 from dcx.errors import DCPError, ParameterError, SolverError
 from dcx.whole import EVIDENCE
 
 from . import wide
+from .test_program import ROOT, wait_for
 
 PROGRAM = program.find()
 
@@ -168,6 +170,8 @@ class Here(Case):
             problem.solve_at([{p: [1, 2]}])
         with self.assertRaisesRegex(ValueError, r"settings\[1\]: Parameter value of p: NaN"):
             problem.solve_at([{p: [1, 2, 3]}, {p: [1, float("nan"), 3]}])
+        with self.assertRaisesRegex(ValueError, r"settings\[1\] has two values of p: by itself, and by its name"):
+            problem.solve_at([{p: [1, 2, 3]}, {p: [1, 2, 3], "p": [3, 2, 1]}])
         with self.assertRaisesRegex(TypeError, r"settings\[0\] is a list"):
             problem.solve_at([[1]])
         for chunk in (0, -3, 1.5, True, float("inf"), "3"):
@@ -221,6 +225,75 @@ class Here(Case):
                 if executor is not None:
                     executor.shutdown()
         self.assertEqual((self.folder / "runs").read_text(), "run\n" * 4)
+
+
+class Interrupted(Case):
+    """What was answered before an interruption stays."""
+
+    def check_part(self, settings, answered):
+        """The settings at these places are answered, and no others; they needn't be asked again."""
+        problem = self.model.problem
+        found = problem.partial_results
+        self.assertEqual([place for place, result in enumerate(found) if result is not None], sorted(answered))
+        kept = [result for result in found if result is not None]
+        self.assertEqual([result.exact for result in kept], [self.model.by_hand(result.setting) for result in kept])
+        rest = [setting for setting, result in zip(settings, found) if result is None]
+        self.check(problem.solve_at(rest), rest)
+        self.assertIsNone(problem.partial_results)
+
+    def test_here(self):
+        settings, problem = self.model.settings(50), self.model.problem
+        self.assertIsNone(problem.partial_results)
+        for error in (KeyboardInterrupt, ZeroDivisionError):
+
+            def progress(done, total, error=error):
+                if done == 20:
+                    raise error
+
+            with self.assertRaises(error):
+                problem.solve_at(settings, chunk=10, progress=progress)
+            self.check_part(settings, range(20))
+
+    def test_by_an_executor(self):
+        settings, done = self.model.settings(50), []
+
+        def progress(*counts):
+            done.append(counts)
+            if len(done) == 3:
+                raise KeyboardInterrupt
+
+        with ThreadPoolExecutor(2) as executor, self.assertRaises(KeyboardInterrupt):
+            self.model.problem.solve_at(settings, chunk=10, executor=executor, progress=progress)
+        found = self.model.problem.partial_results
+        answered = [place for place, result in enumerate(found) if result is not None]
+        self.assertEqual(([len(answered)], len({place // 10 for place in answered})), ([30], 3))
+        self.check_part(settings, answered)
+
+    def test_what_did_not_begin_leaves_nothing(self):
+        with self.assertRaises(KeyError):
+            self.model.problem.solve_at([{"q": 1}])
+        self.assertIsNone(self.model.problem.partial_results)
+
+    def test_a_signal(self):
+        """The third run of the program doesn't end; the interruption reaches Python while it waits for that."""
+        code = (
+            "import dcx.cvxpy as cp\nx, p = cp.Variable(), cp.Parameter(name='p')\n"
+            "problem = cp.Problem(cp.Minimize(x), [2 * x >= p])\n"
+            "try:\n    problem.solve_at([{'p': number} for number in range(6)], chunk=2)\n"
+            "except KeyboardInterrupt:\n"
+            "    print([result and str(result.exact) for result in problem.partial_results])\n"
+        )
+        began = self.folder / "began"
+        before = signal.signal(signal.SIGINT, signal.default_int_handler)
+        self.addCleanup(signal.signal, signal.SIGINT, before or signal.SIG_DFL)
+        with self.wrapped(f"if grep -q 'p = 4' \"$3\"; then touch {began}; exec sleep 60; fi"):
+            environment = {**os.environ, "PYTHONPATH": str(ROOT / "python")}
+            words = [sys.executable, "-c", code]
+            process = subprocess.Popen(words, stdout=subprocess.PIPE, text=True, env=environment)
+            wait_for(began.exists)
+            process.send_signal(signal.SIGINT)
+            told, _ = process.communicate(timeout=60)
+        self.assertEqual((told, process.returncode), ("['0', '1/2', '1', '3/2', None, None]\n", 0))
 
 
 class BehindStops(unittest.TestCase):
@@ -292,6 +365,18 @@ class BehindStops(unittest.TestCase):
         with self.assertRaises(TypeError):
             self.problem.solve_at([], tolerance=1)
 
+    def test_an_interruption_there(self):
+        """What the program answered stays, and so does what was shown behind the first stop."""
+        def progress(done, total):
+            if done == 2:
+                raise KeyboardInterrupt
+
+        with self.assertRaises(KeyboardInterrupt):
+            self.problem.solve_at(self.settings(), progress=progress)
+        first, second, third = self.problem.partial_results
+        self.assertAlmostEqual(first.value, self.found.fun, places=7)
+        self.assertEqual((first.shown_by, second.exact, third), (shown.CERTIFICATE, 0, None))
+
     def test_python_s_word(self):
         (first,) = self.problem.solve_at([{self.p: self.b}], trust="python")
         self.assertAlmostEqual(first.value, self.found.fun, places=7)
@@ -305,6 +390,20 @@ class BehindStops(unittest.TestCase):
         self.assertEqual((first.status, first.value), ("optimal", sum(sorted(cost)[:41])))
         self.assertEqual((second.status, second.shown_by), ("infeasible", EVIDENCE))
         self.assertEqual(problem.solve_at([{p: 41}], exact=False)[0].error.stop.name, "Branch")
+
+        def interrupted(question):
+            def told(progress):
+                if progress.best is not None:
+                    raise KeyboardInterrupt
+
+            return solving.asked(question, told)
+
+        with mock.patch("dcx.runs.ask_behind", interrupted), self.assertRaises(KeyboardInterrupt):
+            problem.solve_at([{p: 651}, {p: 41}, {p: 42}])
+        first, second, third = problem.partial_results
+        self.assertEqual((first.status, second.status, third), ("infeasible", "user_limit", None))
+        chosen = second[take]
+        self.assertEqual((set(chosen) | {0, 1}, sum(chosen) >= 41, cost @ chosen), ({0, 1}, True, second.value))
 
 
 class Odd(Executor):
@@ -440,9 +539,7 @@ class Values(unittest.TestCase):
         A, c = draw.integers(0, 6, (4, 5)) + np.eye(4, 5, dtype=int), draw.integers(1, 9, 5)
         problem = cp.Problem(cp.Minimize(c @ x + q * cp.max(x)), [A @ x >= p])
         settings = [{p: draw.integers(-2, 20, 4), q: int(draw.integers(0, 9))} for _ in range(30)]
-        start = time.perf_counter()
         results = problem.solve_at(settings)
-        self.assertLess(time.perf_counter() - start, 20)
         for result, setting in zip(results, settings):
             most = np.hstack([np.eye(5), -np.ones((5, 1))])
             above, right = np.vstack([np.hstack([-A, np.zeros((4, 1))]), most]), [*(-setting[p]), 0, 0, 0, 0, 0]

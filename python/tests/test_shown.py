@@ -302,7 +302,7 @@ class Tables(unittest.TestCase):
     def test_intervals(self):
         out, told, status = called("table", "--box", "500", self.file("wide"))
         self.assertEqual((told, status), ("", 0))
-        self.assertRegex(out, "shown by an interval: the best is from .* where |x| <= 500")
+        self.assertRegex(out, r"shown by an interval: the best is from .* where \|x\| <= 500\n")
         report = json.loads(called("table", "--json", self.file("wide"))[0])
         (answer,) = report["answers"]
         self.assertEqual((answer["status"], answer["shown_by"]), ("optimal_inaccurate", INTERVAL))

@@ -45,6 +45,8 @@ class Names(unittest.TestCase):
                          ("optimal", "infeasible", "CLARABEL", ["DCX"]))
         self.assertIs(cp.error.SolverError, cp.SolverError)
         self.assertEqual(cp.settings.UNBOUNDED, "unbounded")
+        self.assertIs(cp.expressions.constants.parameter.Parameter, cp.Parameter)
+        self.assertIs(cp.constraints.nonpos.NonPos, cp.NonPos)
         with self.assertRaisesRegex(AttributeError, "no attribute 'nothing'"):
             cp.nothing
 

@@ -107,6 +107,8 @@ class Outside(unittest.TestCase):
         ):
             with self.assertRaises(error):
                 self.problem.verify(values)
+        with self.assertRaisesRegex(ValueError, "two values of x: by itself, and by its name"):
+            self.problem.verify({"x": [1] * 4, self.x: [2] * 4})
         with self.assertRaises(KeyError):
             self.problem.verify({"x": [1] * 4}, {self.x >= 1: 1})
         with self.assertRaises(ValueError):

@@ -20,6 +20,7 @@ from .folds import (
 from .norms import mixed_norm, norm, norm1, norm2, norm_inf, pnorm
 from .places import (
     bmat,
+    broadcast_to,
     concatenate,
     diag,
     diff,
@@ -40,8 +41,8 @@ from .places import (
 from .products import conv, convolve, kron, matmul, outer, scalar_product, vdot
 
 __all__ = [
-    "abs", "bmat", "concatenate", "conv", "convolve", "cummax", "cumsum", "cvar", "diag", "diff", "dotsort",
-    "expand_dims", "hstack",
+    "abs", "bmat", "broadcast_to", "concatenate", "conv", "convolve", "cummax", "cumsum", "cvar", "diag", "diff",
+    "dotsort", "expand_dims", "hstack",
     "kron", "matmul", "max", "maximum", "mean", "min", "minimum", "mixed_norm", "multiply", "neg", "norm", "norm1",
     "norm2", "norm_inf",
     "outer", "permute_dims", "pnorm", "pos", "ptp", "reshape", "scalar_product", "scalene", "squeeze", "stack", "sum",

@@ -10,7 +10,7 @@ from typing import Any
 from .. import operators, shapes, sites
 from ..arrays import filled
 from ..errors import UnsupportedError
-from ..expressions import Axis, Constant, Expression, Operand, as_expression, node
+from ..expressions import Axis, Constant, Expression, Operand, as_expression, node, numbers_of
 from ..numbers import exact
 
 
@@ -38,8 +38,8 @@ def folded(kind: str, expr: Operand, axis: Axis, keepdims: bool, nothing: int | 
 
 
 def sum(expr: Operand, axis: Axis = None, keepdims: bool = False) -> Expression:
-    """The sum of all entries, or along an axis, 0 of none; of a list of expressions their sum by `+`. Shapes and
-    errors are those of `folded`."""
+    """The sum of all entries, or along an axis, 0 of none; of a list of expressions their sum by `+`, whatever the
+    axis, as CVXPY has it. Shapes and errors are those of `folded`."""
     if isinstance(expr, list):
         return builtins.sum(expr)
     return folded("sum", expr, axis, keepdims, 0)
@@ -87,9 +87,10 @@ def sum_smallest(x: Operand, k: Operand) -> Expression:
 def _share(kind: str, x, k) -> Expression:
     x = as_expression(x)
     if isinstance(k, Expression):
-        if k.kind != "constant" or not k.is_scalar():
+        numbers = numbers_of(k) if k.is_scalar() else None
+        if numbers is None:
             raise UnsupportedError("of how many entries a sum is has to be a number", sites.here())
-        k = k.array.entries[0]
+        k = numbers.entries[0]
     k = exact(k)
     if k <= 0:
         raise ValueError("Second argument must be a positive integer, or a fraction above 0.")
@@ -125,11 +126,12 @@ def dotsort(X: Operand, W: Operand) -> Expression:
     """The scalar product of the entries of X and the numbers of W, both sorted, one number. ValueError where W has more
     entries, UnsupportedError where it isn't numbers."""
     X, W = as_expression(X), as_expression(W)
-    if W.kind != "constant":
+    numbers = numbers_of(W)
+    if numbers is None:
         raise UnsupportedError("the weights of dotsort have to be numbers", sites.here())
     if W.size > X.size:
         raise ValueError("The size of W must be less or equal to the size of X.")
-    weights = sorted(list(W.array.entries) + [Fraction(0)] * (X.size - W.size), reverse=True)
+    weights = sorted(list(numbers.entries) + [Fraction(0)] * (X.size - W.size), reverse=True)
     parts = [operators.scaled(before - after, sum_largest(X, k))
              for k, (before, after) in enumerate(zip(weights, weights[1:]), 1) if before != after]
     if weights[-1]:

@@ -76,7 +76,8 @@ def norm2(x: Operand, axis: Axis = None, keepdims: bool = False) -> Expression:
 
 
 def pnorm(x: Operand, p: Any = 2, axis: Axis = None, keepdims: bool = False, max_denom: int = 1024) -> Expression:
-    """The norm of order p of all entries, or along an axis. UnsupportedError unless p is 1 or infinity."""
+    """The norm of order p of all entries, or along an axis; `max_denom`, by which CVXPY rounds other orders, has no
+    meaning here. UnsupportedError unless p is 1 or infinity."""
     x = as_expression(x)
     if (_is_number(p) and p == 1) or (x.is_scalar() and axis is None and _is_order(p)):
         return norm1(x, axis, keepdims)

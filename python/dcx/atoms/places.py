@@ -94,6 +94,16 @@ def expand_dims(expr: Operand, axis: int) -> Expression:
     return operators.by_rows(expr, expr.shape[:axis] + (1,) + expr.shape[axis:])
 
 
+def broadcast_to(expr: Operand, shape: Union[int, Sequence[int]]) -> Expression:
+    """The entries repeated to a shape, as NumPy broadcasts them. ValueError where they don't fit, or the shape is none.
+    """
+    expr = as_expression(expr)
+    shape = shapes.declared(shape)
+    if shapes.broadcast(expr.shape, shape) != shape:
+        raise ValueError(f"Cannot broadcast the shape {expr.shape} to {shape}")
+    return operators.added(expr, Constant(filled(shape, 0)))
+
+
 # ---- stacks
 
 

@@ -1,12 +1,13 @@
 """Calls that are products: of matrices, of vectors, of Kronecker, and convolutions."""
 from __future__ import annotations
 
+import builtins
 from fractions import Fraction
 
 from .. import operators, shapes, sites
-from ..arrays import Array, Sparse
+from ..arrays import Array, Sparse, filled
 from ..errors import UnsupportedError
-from ..expressions import Constant, Expression, Operand, as_expression
+from ..expressions import Constant, Expression, Operand, as_expression, numbers_of
 from .places import hstack, reshape, vec, vstack
 
 
@@ -45,8 +46,8 @@ def outer(x: Operand, y: Operand) -> Expression:
 
 
 def kron(a: Operand, b: Operand) -> Expression:
-    """Each entry of a times all of b, in blocks; one of the two has to be numbers. UnsupportedError where neither is.
-    """
+    """Each entry of a times all of b, in blocks: each side of the result is the product of theirs. UnsupportedError
+    where both have variables."""
     a, b = as_expression(a), as_expression(b)
     if a.ndim == 0 or b.ndim == 0:
         return operators.multiplied(a, b)
@@ -93,21 +94,25 @@ def _tiled(b: Expression, times: tuple) -> Expression:
 
 
 def convolve(a: Operand, b: Operand) -> Expression:
-    """The discrete convolution of two vectors, one of them numbers, with a.size + b.size - 1 entries.
+    """The discrete convolution of two vectors, with a.size + b.size - 1 entries.
 
-    ValueError of what isn't a vector; UnsupportedError where neither is numbers.
+    ValueError of what isn't a vector; UnsupportedError where both have variables.
     """
     a, b = as_expression(a), as_expression(b)
     if not (a.is_vector() and b.is_vector() and a.ndim and b.ndim):
         raise ValueError("The arguments to convolve must resolve to vectors.")
     a, b = vec(a), vec(b)
-    if a.kind != "constant":
-        if b.kind != "constant":
-            raise UnsupportedError("one side of a convolution has to be numbers", sites.here())
+    if not a.is_constant() or numbers_of(a) is None and numbers_of(b) is not None:
         a, b = b, a
-    numbers = a.array.dense().entries
-    size = a.size + b.size - 1
-    held = [(place, number) for place, number in reversed(list(enumerate(numbers))) if number]
+    if not a.is_constant():
+        raise UnsupportedError("a product of two expressions with variables isn't convex: one side of a convolution "
+                               "has to be without", sites.here())
+    numbers, size = numbers_of(a), a.size + b.size - 1
+    if numbers is None:
+        zeros = [Constant(filled((count,), 0)) for count in range(a.size)]
+        terms = [a[place] * hstack([zeros[place], b, zeros[-1 - place]]) for place in range(a.size)]
+        return builtins.sum(terms[1:], terms[0])
+    held = [(place, number) for place, number in reversed(list(enumerate(numbers.entries))) if number]
     rows = ([(row - place, number) for place, number in held if 0 <= row - place < b.size] for row in range(size))
     return operators.matrix_multiplied(Constant(Sparse((size, b.size), rows)), b)
 

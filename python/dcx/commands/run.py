@@ -79,7 +79,7 @@ def round_floats_as_told() -> None:
 
 
 class OneModule(MetaPathFinder):
-    """Refuses what lies below the module `cvxpy`, which is one module here."""
+    """Refuses what lies below the module `cvxpy` beyond those of `stand_in`."""
 
     @staticmethod
     def find_spec(name: str, path: object = None, target: object = None) -> None:
@@ -88,13 +88,13 @@ class OneModule(MetaPathFinder):
 
 
 def stand_in() -> None:
-    """Lets `import cvxpy` and `from cvxpy import ..` find the recorder, and of what lies below it `error` and
-    `settings`."""
+    """Lets `import cvxpy` and `from cvxpy import ..` find the recorder, and of what lies below it `error`, `settings`
+    and the modules of classes."""
     recorder = import_module("dcx.cvxpy")
     sys.modules["cvxpy"] = recorder
     recorder.__path__ = []
-    for name in ("error", "settings"):
-        sys.modules[f"cvxpy.{name}"] = getattr(recorder, name)
+    below = {"error": recorder.error, "settings": recorder.settings, **import_module("dcx.below").MODULES}
+    sys.modules.update({f"cvxpy.{name}": module for name, module in below.items()})
     if OneModule not in sys.meta_path:
         sys.meta_path.insert(0, OneModule)
 

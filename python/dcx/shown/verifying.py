@@ -70,9 +70,9 @@ def verify(
     seconds the exact solver may take, 120 by itself.
 
     Raises `TypeError` where values or multipliers are no dictionary, `KeyError` where a key is no variable or
-    constraint of the problem or a variable has no value, `ValueError` where a value has another shape or isn't finite
-    or a limit is none, `UnsupportedError` of a problem in whole numbers, `SolverError` where the search fails or takes
-    too long, `CertificateError` where the program says no, and else as `Problem.solve`.
+    constraint of the problem or a variable has no value, `ValueError` where a value has another shape or isn't finite,
+    a variable has two, or a limit is none, `UnsupportedError` of a problem in whole numbers, `SolverError` where the
+    search fails or takes too long, `CertificateError` where the program says no, and else as `Problem.solve`.
     """
     for given, what in ((values, "values by variable or name"), (duals, "multipliers by constraint")):
         if not isinstance(given, Mapping) and (given is values or given is not None):
@@ -109,6 +109,8 @@ def _values(script: Any, values: Mapping[Any, Any]) -> dict[str, list[Fraction]]
             raise KeyError(f"{key!r} is no variable of the problem")
         if variable in script.idle:
             continue
+        if script.names[variable] in found:
+            raise ValueError(f"there are two values of {variable.name()}: by itself, and by its name")
         if value is None:
             raise KeyError(f"the variable {variable.name()} has no value")
         found[script.names[variable]] = list(variable._shaped(value).dense().entries)

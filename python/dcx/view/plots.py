@@ -11,7 +11,6 @@ from .markup import Markup, Part, el
 
 WIDTH, HEIGHT = 720, 320
 LEFT, RIGHT, TOP, BOTTOM = 84, 20, 28, 56
-LARGEST = Fraction(10) ** 300
 MANY = 200  # points: where there are more they are small, and the page's script writes what is told of each
 
 

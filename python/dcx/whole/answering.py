@@ -70,8 +70,8 @@ def shown(
     except Unfit as error:
         raise SolverError(f"there is no search for whole numbers in this script: {error}") from None
     except Refused as refused:
-        told = refused.text("script").strip()
-        raise SolverError(f"with parameters for bounds the script passes what the language holds: {told}") from None
+        why = refused.text("script").strip()
+        raise SolverError(f"with parameters for bounds the script passes what the language holds: {why}") from None
     search = Search(rows, step_of(script, settings), seconds, most, told)
     try:
         search.run()

@@ -11,8 +11,6 @@ from ..exact.commands import Accepted, laid_over
 from ..exact.settings import parse_settings
 from ..exact.verify import Values, listed
 
-_ZERO = Fraction(0)
-
 
 def step_of(script: str, settings: str) -> Optional[Fraction]:
     """The step of a script's objective at a line of settings; None where a variable that may have fractions is part
