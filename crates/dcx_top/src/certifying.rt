@@ -61,8 +61,7 @@ fn read_at<L: Library>(
 ) -> Result<Certified, Run>
     requires { length settings.items < 2 ^ 32 }
     ensures reads { IfOk result (λ f. (f.problem ≡ problem) × (f.settings.items ≡ settings.items) × HasTextOf (L.told library.old) certificate.now f.problem f.settings.items f.sections) }
-    ensures ends { IfErr result (λ r. (r ≡ Run.Memory) ⊎ ReadsCertificate (L.told library.old) (Rose (L.faults library.old) (L.faults library.new)) certificate.now problem
-        (length settings.items) (Err r)) }
+    ensures ends { IfErr result (λ r. ReadsCertificate (L.told library.old) (Rose (L.faults library.old) (L.faults library.new)) certificate.now problem (length settings.items) (Err r)) }
     ensures same { L.told library.new ≡ L.told library.old }
     ensures never_falls { L.faults library.old ≤ L.faults library.new }
 {
