@@ -144,7 +144,7 @@ use Rattle.dcx_script_laws.specs.Renamed.{
   lines_renamed,
 }
 use Rattle.dcx_report.proofs.OneLine.{IsLine}
-use Rattle.dcx_report_laws.proofs.Tokens.{IsLineIfName}
+use Rattle.dcx_run_laws.proofs.Tokens.{IsLineIfName}
 
 -- ---- terminals
 -- a name that the grammar sees has no line feed

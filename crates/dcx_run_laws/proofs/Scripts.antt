@@ -16,9 +16,9 @@ use Rattle.dcx_script_laws.specs.Renamed.{lines_renamed, entries_renamed, parame
 use Rattle.dcx_script_laws.specs.Names.{IsRenaming}
 use Rattle.dcx_script_laws.proofs.Renamed.Works.{works_renamed}
 use Rattle.dcx_report.proofs.OneLine.{IsLine}
-use Rattle.dcx_report_laws.proofs.Tokens.{names_are_lines}
-use Rattle.dcx_report_laws.proofs.Settings.{AreLines}
-use Rattle.dcx_report_laws.proofs.Trees.{AreFine, terminals_fine, lines_same}
+use Rattle.dcx_run_laws.proofs.Tokens.{names_are_lines}
+use Rattle.dcx_run_laws.proofs.Settings.{AreLines}
+use Rattle.dcx_run_laws.proofs.Trees.{AreFine, terminals_fine, lines_same}
 
 -- ---- other names
 -- a line feed is among them

@@ -24,8 +24,8 @@ use Rattle.dcx_outcomes.proofs.Finds.{found_are_right}
 use Rattle.dcx_outcomes.proofs.Warm.{IsWarmOutcome, warm_all}
 use Rattle.dcx_report.specs.SameText.{IsOnOneLine, SaysOneLine, IsEndOf}
 use Rattle.dcx_report.proofs.OneLine.{IsLine}
-use Rattle.dcx_report_laws.proofs.Settings.{AreLines}
-use Rattle.dcx_report_laws.proofs.Layouts.{layout_of, answer_layout}
+use Rattle.dcx_run_laws.proofs.Settings.{AreLines}
+use Rattle.dcx_run_laws.proofs.Layouts.{layout_of, answer_layout}
 
 at_place : {X : Type 0} (P : X → Type 0) (xs : List X) (k : ℕ) (x : X) → slice_get xs k ≡ Some x → AllByRecursion P xs → P x
 at_place P [] k x e h = absurd (none-some x e)

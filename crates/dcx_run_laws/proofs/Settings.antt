@@ -18,7 +18,7 @@ use Rattle.dcx_settings.specs.Meaning.{AreItemsOf, IsLineOf, AreLinesOf}
 use Rattle.dcx_settings.specs.File.{SpellSettings}
 use Rattle.dcx_overlay.specs.Settings.{LaidOver, AreLaidOver}
 use Rattle.dcx_report.proofs.OneLine.{IsLine}
-use Rattle.dcx_report_laws.proofs.Tokens.{IsLineIfName, names_are_lines}
+use Rattle.dcx_run_laws.proofs.Tokens.{IsLineIfName, names_are_lines}
 
 -- ---- terminals
 -- a name that the grammar sees has no line feed

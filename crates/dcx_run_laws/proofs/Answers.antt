@@ -26,12 +26,12 @@ use Rattle.dcx_top.specs.Runs.{IsSolvedRun}
 use Rattle.dcx_top.specs.Whole.{Takes}
 use Rattle.dcx_top.proofs.OneAsked.{asked_once}
 use Rattle.dcx_top.proofs.Refusals.{one_problem}
-use Rattle.dcx_report_laws.specs.Answers.{Solving, told_by, IsCaused, IsOver, HaveSameReport, HaveSameAnswers, ReportsTellAnswers}
-use Rattle.dcx_report_laws.proofs.Scripts.{HasLines, work_lines}
-use Rattle.dcx_report_laws.proofs.Settings.{AreLines, all_laid_lines, file_lines}
-use Rattle.dcx_report_laws.proofs.Layouts.{layout_of}
-use Rattle.dcx_report_laws.proofs.Ends.{found_ends}
-use Rattle.dcx_report_laws.proofs.Words.{same_answers}
+use Rattle.dcx_run_laws.specs.Answers.{Solving, told_by, IsCaused, IsOver, HaveSameReport, HaveSameAnswers, ReportsTellAnswers}
+use Rattle.dcx_run_laws.proofs.Scripts.{HasLines, work_lines}
+use Rattle.dcx_run_laws.proofs.Settings.{AreLines, all_laid_lines, file_lines}
+use Rattle.dcx_run_laws.proofs.Layouts.{layout_of}
+use Rattle.dcx_run_laws.proofs.Ends.{found_ends}
+use Rattle.dcx_run_laws.proofs.Words.{same_answers}
 
 -- ---- one run
 -- what is told is what was found, of the problem's sense

@@ -1,4 +1,4 @@
--- The lemmas by which names have no line feed, and reports tell answers.
+-- The lemmas by which names have no line feed, reports tell answers, and certificates that are written are accepted.
 pub mod Tokens
 pub mod Trees
 pub mod Settings
@@ -8,3 +8,4 @@ pub mod Ends
 pub mod Names
 pub mod Words
 pub mod Answers
+pub mod Written

@@ -10,11 +10,11 @@ use Rattle.dcx_read.specs.Parses.{IsReading}
 use Rattle.dcx_elab.specs.declared.work.Work.{Work}
 use Rattle.dcx_elab.specs.Meaning.{Elaborates}
 use Rattle.dcx_report.specs.SameText.{IsOnOneLine}
-use Rattle.dcx_report_laws.specs.Names.{IsNamedOnOneLine, HasNamesOnOneLine, NamesAreOnOneLine}
+use Rattle.dcx_run_laws.specs.Names.{IsNamedOnOneLine, HasNamesOnOneLine, NamesAreOnOneLine}
 use Rattle.dcx_report.proofs.OneLine.{IsLine}
-use Rattle.dcx_report_laws.proofs.Scripts.{work_lines}
-use Rattle.dcx_report_laws.proofs.Settings.{AreNamedOnLines, file_lines}
-use Rattle.dcx_report_laws.proofs.Ends.{on_one_line}
+use Rattle.dcx_run_laws.proofs.Scripts.{work_lines}
+use Rattle.dcx_run_laws.proofs.Settings.{AreNamedOnLines, file_lines}
+use Rattle.dcx_run_laws.proofs.Ends.{on_one_line}
 
 -- what holds of each, one way or the other
 all_from : {X : Type 0} (P Q : X → Type 0) → ((x : X) → P x → Q x) → (xs : List X) → AllByRecursion P xs → All Q xs
