@@ -1,5 +1,5 @@
 -- A right answer has the names and the shapes of its problem.
-use Rattle.std.proofs.Common.{◌≡◌, ℕ, List, [], ◌∷◌, map, length, Option, Some, None, option_map, refl, sym, ap, ap₂, subst, ◌∙◌}
+use Rattle.std.proofs.Common.{◌≡◌, ℕ, arith, List, [], ◌∷◌, map, length, Option, Some, None, Ok, option_map, refl, sym, ap, ap₂, subst, ◌∙◌}
 use Rattle.std.specs.Prelude.{slice_get}
 use Rattle.std.specs.List.{IsDistinct}
 use Rattle.std.specs.Cmp.Lexicographic.{nat_list_eq_equiv}
@@ -18,10 +18,15 @@ use Rattle.dcx_tree.specs.declared.constraint.Constraint.{Constraint}
 use Rattle.dcx_tree.specs.declared.problem.Problem.{Problem}
 use Rattle.dcx_answer.specs.declared.answer.Answer.{Answer}
 use Rattle.dcx_answer.specs.declared.answer.Answer.TheVariants.{Optimal, Infeasible, Unbounded}
+use Rattle.dcx_answer.specs.declared.whole_answer.WholeAnswer.{WholeAnswer}
+use Rattle.dcx_answer.specs.declared.whole_answer.WholeAnswer.TheVariants as whole
 use Rattle.dcx_right.specs.Answers.{IsPointFor, SpeaksOf}
+use Rattle.dcx_right.specs.WholeAnswers.{SpeaksWhole}
+use Rattle.dcx_outcomes.specs.Asking.{IsAnswered}
+use Rattle.dcx_outcomes.specs.Wholes.{WholeGives}
 use Rattle.dcx_outcomes.proofs.Same.{variables_distinct}
 use Rattle.dcx_lines.specs.Shown.{variables_of, constraints_of}
-use Rattle.dcx_report.specs.SameText.{Layout, IsAnswerOf}
+use Rattle.dcx_report.specs.SameText.{Layout, IsAnswerOf, IsWholeAnswerOf}
 
 -- the name and the shape of a variable
 abbrev shown : Variable → List ℕ × Shape
@@ -80,3 +85,8 @@ pub answer_layout : (p : Problem) (a : Answer) → SpeaksOf p a → IsAnswerOf (
 answer_layout p (Optimal value point duals) (at, are) = (point_layout p point at, duals_layout duals p.constraints are)
 answer_layout p (Infeasible duals gap) are = duals_layout duals p.constraints are
 answer_layout p (Unbounded point ray bound slope) (at, along) = (point_layout p point at, point_layout p ray along)
+
+-- so has one in whole numbers, with no more nodes than a run may have
+pub whole_layout : (p : Problem) (limit : ℕ) (s : Pairs) (a : WholeAnswer) → SpeaksWhole p a → IsAnswered (WholeGives limit) p s (Ok a) → IsWholeAnswerOf (layout_of p) a
+whole_layout p limit s (whole.Optimal value point tree nodes) at h = let few = h.answers.0 in (point_layout p point at, omega (arith, few))
+whole_layout p limit s (whole.Infeasible tree nodes) at h = let few = h.answers.0 in omega (arith, few)

@@ -1,8 +1,8 @@
 //! Runs with the same report.
 ghost use Rattle.dcx_report_laws.specs.Answers.{ReportsTellAnswers};
 
-/// Two runs of `solve` or `resolve` over one problem without variables that are to be whole have the same answers where their reports are the
-/// same; and so have two runs of the same words over the same files, whatever their problem is.
+/// Two runs of `solve` or `resolve` over one problem have the same answers where their reports are the same, whatever their words, settings and
+/// files are; and so have two runs of the same words over the same files. The tree of an answer in whole numbers isn't told, and may differ.
 pub fn reports_tell_answers()
     ensures { ReportsTellAnswers }
 {}
