@@ -19,6 +19,8 @@ use Rattle.dcx_tree.specs.Meaning.{names_in, setting_of, Fits}
 use Rattle.dcx_fit.specs.Fit.{FitsParameters}
 use Rattle.dcx_fit.proofs.Misfits.{misfit_unfit}
 use Rattle.dcx_answer.specs.declared.cert_fault.CertFault.{CertFault}
+use Rattle.dcx_cert_sections.specs.Shown.{AreParams}
+use Rattle.dcx_cert_outline.specs.Drawn.{problem_outline}
 use Rattle.dcx_cert_values.specs.Forming.{divisor_in, dividing_if}
 use Rattle.dcx_cert_values.proofs.Fixed.{divisor_found}
 use Rattle.dcx_cert_check.specs.SingleChecks.{setting_fits, setting_is}
@@ -26,6 +28,7 @@ use Rattle.dcx_cert_check.proofs.SingleSettled.{checks_settled}
 use Rattle.dcx_cert_check.proofs.Sound.{checks_sound}
 use Rattle.dcx_cert_check.specs.Checks.{setting_checks}
 use Rattle.dcx_cert_build.specs.Built.{value_if, values_in}
+use Rattle.dcx_cert_build.proofs.Shown.{values_shown}
 use Rattle.dcx_cert_complete.specs.Bounded.{IsWide}
 use Rattle.dcx_cert_complete.proofs.Checked.{divisor_nonzero, unformed_wide}
 
@@ -89,9 +92,13 @@ module _ (setting : Pairs) where
       by (Some x) e k at rest = here x e (same_name q.name r.name) refl k at rest
 
 module _ (p : Problem) (setting : Pairs) where
-  told_passes : (setting_is p (Some (values_in p setting)) setting).passes
+  pub told_passes : (setting_is p (Some (values_in p setting)) setting).passes
   told_passes = (checks_sound.told p (values_in p setting) setting).1 (λ i d b j l.
       ap (λ (o : Option Array). number_at (unwrap_or (option_map (λ (x : Array). x.entries) o) []) j) (told_at setting p.parameters (get_or p.parameters i d) i (slice_get-get_or p.parameters i d b)))
+
+  -- they have the names and the shapes of the parameters
+  pub told_shown : FitsParameters p.parameters setting → AreParams (problem_outline p) (Some (values_in p setting))
+  told_shown met = values_shown p setting (λ i d b. (met.met i d b).shaped)
 
   pub setting_wide : FitsParameters p.parameters setting → Fits p (setting_of p setting) → (f : CertFault) → (setting_checks p setting (Some (values_in p setting))).fails f → IsWide f
   setting_wide met fits f (inl h) = fit_wide p setting fits met f h

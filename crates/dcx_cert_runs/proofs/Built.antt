@@ -15,10 +15,6 @@ use Rattle.dcx_lp_answer.specs.declared.answer.LpAnswer.{LpAnswer}
 use Rattle.dcx_cert_sections.specs.declared.cert.Cert.{Cert}
 use Rattle.dcx_cert_sections.specs.declared.section.Section.{Section}
 use Rattle.dcx_cert_sections.specs.declared.section.Section.TheVariants as sections
-use Rattle.dcx_cert_sections.specs.declared.section.Format.TheVariants.{Two}
-use Rattle.dcx_cert_sections.specs.Formats.{IsOfFormat}
-use Rattle.dcx_cert_sections.specs.Shown.{IsCertOf}
-use Rattle.dcx_cert_outline.specs.Drawn.{problem_outline}
 use Rattle.dcx_graph.specs.declared.reading.AnswerStop.{AnswerStop}
 use Rattle.dcx_graph.specs.declared.reading.AnswerStop.TheVariants as reads
 use Rattle.dcx_graph.specs.Program.{Program}
@@ -39,7 +35,7 @@ use Rattle.dcx_cert_build.proofs.Laid.{programs_are_laid_out}
 use Rattle.dcx_cert_runs.specs.Sections.{IsCertAt, IsStoppedAt, StopsSomewhere, HasNoCert, stopped, passes, IsSectionAt, IsTold, AreSectionsAt}
 
 -- the rows of a session's program are laid out as the problem has them
-laid_out : (p : Problem) (setting : Pairs) (q : Program Frac) → SessionGives p setting (Ok q) → IsLaidOut p q
+pub laid_out : (p : Problem) (setting : Pairs) (q : Program Frac) → SessionGives p setting (Ok q) → IsLaidOut p q
 laid_out p setting q (mapped map m f) = programs_are_laid_out.fixed p setting map q (programs_are_laid_out.affine p _ map m.reduces) f
 laid_out p setting q (anew n h) = programs_are_laid_out.numbers p setting q h
 
@@ -78,15 +74,13 @@ module _ (p : Problem) (setting : Pairs) (limit : ℕ) (cached : Bool) (a : Answ
       (subst (λ (z : LpAnswer). IsRead p l.reduced.program.kinds z a) (sym of) found.answer.read)
 
   -- a certificate that is built of the answer
-  pub cert_at : (cert : Cert) → IsBuilt p setting reduced.program.origins rows a cert → IsCertOf (problem_outline p) cert → IsOfFormat Two cert → IsCertAt p limit setting cert
-  cert_at cert built of_problem format = record {
+  pub cert_at : (cert : Cert) → IsBuilt p setting reduced.program.origins rows a cert → IsCertAt p limit setting cert
+  cert_at cert built = record {
     program = l.reduced.program;
     solved = l.solved;
     answer = a;
     answered = found.answer;
     built = subst (λ (z : Reduction Frac). IsBuilt p setting z.program.origins l.solved.answer a cert) from (subst (λ (z : LpAnswer). IsBuilt p setting reduced.program.origins z a cert) of built);
-    of_problem = of_problem;
-    format = format;
   }
 
   -- a weight of it passes

@@ -15,18 +15,21 @@ use Rattle.dcx_cert_sections.specs.declared.section.Section.{Section}
 use Rattle.dcx_cert_sections.specs.declared.section.Section.TheVariants as sections
 use Rattle.dcx_cert_sections.specs.declared.section.Format.{Format}
 use Rattle.dcx_cert_sections.specs.declared.section.Format.TheVariants.{Two}
-use Rattle.dcx_cert_sections.specs.Formats.{IsSectionOfFormat, AreOfFormat}
-use Rattle.dcx_cert_sections.specs.Shown.{IsSectionOf}
+use Rattle.dcx_cert_sections.specs.Formats.{IsOfFormat, IsSectionOfFormat, AreOfFormat}
+use Rattle.dcx_cert_sections.specs.Shown.{IsCertOf, IsSectionOf}
 use Rattle.dcx_cert_outline.specs.Drawn.{problem_outline}
 use Rattle.dcx_graph.specs.declared.origin.Origin.{Origin}
 use Rattle.dcx_graph.specs.Answers.{IsRead}
 use Rattle.dcx_right.specs.Answers.{IsRightFor}
-use Rattle.dcx_cache.proofs.Answered.{answers_are_right}
+use Rattle.dcx_cache.proofs.Answered.{is_answered, answers_are_right}
+use Rattle.dcx_cache.proofs.Arrays.{have_arrays}
 use Rattle.dcx_cert_build.specs.Built.{IsBuilt}
+use Rattle.dcx_cert_build.proofs.OfProblem.{rows_noted, cert_of}
 use Rattle.dcx_cert_check.specs.Shown.{IsShown}
-use Rattle.dcx_cert_runs.specs.Sections.{IsSectionAt}
+use Rattle.dcx_cert_runs.specs.Sections.{IsCertAt, IsSectionAt}
 use Rattle.dcx_cert_runs.specs.Checking.{IsSectionShown}
 use Rattle.dcx_cert_runs.specs.Laws.{SectionsAreShown, CertificatesAreOf}
+use Rattle.dcx_cert_runs.proofs.Built.{laid_out}
 use Rattle.dcx_cert_runs.proofs.Lists.{each_beside}
 
 -- ---- what is shown
@@ -55,18 +58,32 @@ sections_are_shown p limit settings list ok h = record {
 }
 
 -- ---- of the problem
-section_of : (p : Problem) (limit : ℕ) (s : Pairs) (x : Section) → IsSectionAt p limit s x → IsSectionOf (problem_outline p) x
-section_of p limit s (sections.Cert cert) h = h.of_problem
-section_of p limit s sections.None h = tt
+-- what is read of the answer has the problem's names and shapes, and a weight stands for each row of the graphs, as the session laid them out
+of_problem : (p : Problem) (limit : ℕ) (s : Pairs) (cert : Cert) → IsAccepted p → IsCertAt p limit s cert → IsCertOf (problem_outline p) cert
+of_problem p limit s cert ok h =
+    let fits = h.answered.fits in
+    let q = h.program in
+    let answered = is_answered p s ok fits limit q h.solved h.answered.program h.answered.is_solved in
+    cert_of p s (have_arrays p s fits) q (laid_out p s q h.answered.program) h.solved.answer (rows_noted p (setting_of p s) q h.solved.answer answered) q.kinds h.answer cert h.answered.read h.built
+
+section_of : (p : Problem) (limit : ℕ) (s : Pairs) (x : Section) → IsAccepted p → IsSectionAt p limit s x → IsSectionOf (problem_outline p) x
+section_of p limit s (sections.Cert cert) ok h = of_problem p limit s cert ok h
+section_of p limit s sections.None ok h = tt
+
+-- it tells the setting's values
+format : (p : Problem) (s : Pairs) (from : List Origin) (lp : LpAnswer) (a : Answer) (cert : Cert) → IsBuilt p s from lp a cert → IsOfFormat Two cert
+format p s from lp (Optimal number point duals) cert (weights, h, is) = subst (IsOfFormat Two) (sym is) tt
+format p s from lp (Infeasible duals gap) cert (weights, h, is) = subst (IsOfFormat Two) (sym is) tt
+format p s from lp (Unbounded point ray bound slope) cert is = subst (IsOfFormat Two) (sym is) (tt, tt)
 
 section_format : (p : Problem) (limit : ℕ) (s : Pairs) (x : Section) → IsSectionAt p limit s x → IsSectionOfFormat Two x
-section_format p limit s (sections.Cert cert) h = h.format
+section_format p limit s (sections.Cert cert) h = format p s h.program.origins h.solved.answer h.answer cert h.built
 section_format p limit s sections.None h = tt
 
 pub certificates_are_of : CertificatesAreOf
 certificates_are_of p limit settings c ok h = record {
   counted = h.sections.count;
-  shown = each_beside (IsSectionOf (problem_outline p)) settings c.list [] sections.None h.sections.count (λ k s x at here. section_of p limit s x (h.sections.each k s x at here));
+  shown = each_beside (IsSectionOf (problem_outline p)) settings c.list [] sections.None h.sections.count (λ k s x at here. section_of p limit s x ok (h.sections.each k s x at here));
   format = subst (λ (f : Format). AreOfFormat f c.list) (sym h.format)
       (each_beside (IsSectionOfFormat Two) settings c.list [] sections.None h.sections.count (λ k s x at here. section_format p limit s x (h.sections.each k s x at here)));
 }

@@ -12,24 +12,18 @@ use Rattle.dcx_cert_sections.specs.declared.section.Section.{Section}
 use Rattle.dcx_cert_sections.specs.declared.section.Section.TheVariants as sections
 use Rattle.dcx_cert_sections.specs.declared.section.Sections.{Sections}
 use Rattle.dcx_cert_sections.specs.declared.section.Format.TheVariants.{Two}
-use Rattle.dcx_cert_sections.specs.Formats.{IsOfFormat}
-use Rattle.dcx_cert_sections.specs.Shown.{IsCertOf}
-use Rattle.dcx_cert_outline.specs.Drawn.{problem_outline}
 use Rattle.dcx_lp_solve.specs.declared.solving.Solved.{Solved}
 use Rattle.dcx_graph.specs.Program.{Program}
 use Rattle.dcx_cache.specs.Answers.{IsAnswerOf, Stops}
 use Rattle.dcx_cert_build.specs.Built.{IsBuilt, PassesAt}
 
--- the setting is answered with at most so many pivots, and this is the certificate of the answer: it has the names, shapes, counts and
--- order of the problem, and tells the setting's values
+-- the setting is answered with at most so many pivots, and this is the certificate that is built of the answer
 pub record IsCertAt (p : Problem) (limit : ℕ) (setting : Pairs) (cert : Cert) : Type 0 where
   pub program : Program Frac
   pub solved : Solved
   pub answer : Answer
   pub answered : IsAnswerOf p setting limit program solved answer
   pub built : IsBuilt p setting program.origins solved.answer answer cert
-  pub of_problem : IsCertOf (problem_outline p) cert
-  pub format : IsOfFormat Two cert
 
 -- the setting is stopped, and not for want of memory
 pub record IsStoppedAt (p : Problem) (limit : ℕ) (setting : Pairs) : Type 0 where

@@ -1,11 +1,11 @@
--- Bytes that are appended in two steps, and the pieces that were handed for them.
-use Rattle.std.proofs.Common.{◌≡◌, ℕ, ◌+◌, ◌-◌, List, [], ◌∷◌, ◌++◌, length, take, drop, refl, ◌∙◌, ap, sym, append_assoc, append-nil, None, Some, Ok, Err}
+-- Bytes that are appended in two steps, the pieces that were handed for them, and how a text ends.
+use Rattle.std.proofs.Common.{◌≡◌, ℕ, ◌+◌, ◌-◌, ◌<◌, ◌≤◌, List, [], ◌∷◌, ◌++◌, length, take, drop, refl, ◌∙◌, ap, sym, subst, append_assoc, append-nil, None, Some, Result, Ok, Err, OnErr, arith}
 use Rattle.std.proofs.Math.Seq.{take-add}
-use Rattle.std.proofs.lemmas.List.{take_rest}
+use Rattle.std.proofs.lemmas.List.{take_rest, take_all}
 use Rattle.std.specs.declared.option.Option.{Option}
-use Rattle.std.specs.Io.KnownBytes.{Appends}
+use Rattle.std.specs.Io.KnownBytes.{Appends, Keeps}
 use Rattle.dcx_host.specs.declared.sink.SinkFault.{SinkFault}
-use Rattle.dcx_host.specs.Pieces.{Handed, WriteHands, Hands, AreRests, HandsRests}
+use Rattle.dcx_host.specs.Pieces.{Handed, WriteHands, Hands, AreRests, HandsRests, WritesWhole, WritesFront}
 
 pub Appends_none : (a : Option (List ℕ)) → Appends a a []
 Appends_none None = tt
@@ -17,6 +17,12 @@ Appends_trans (Some old) None c xs ys zs h k e = absurd h
 Appends_trans (Some old) (Some mid) None xs ys zs h k e = absurd k
 Appends_trans (Some old) (Some mid) (Some new) xs ys zs h k e =
     k ∙ ap (λ v. v ++ ys) h ∙ append_assoc old xs ys ∙ ap (λ v. old ++ v) e
+
+Appends_kept : (a b c : Option (List ℕ)) (xs : List ℕ) → Appends a b xs → Keeps b c → Appends a c xs
+Appends_kept None b c xs h k = tt
+Appends_kept (Some old) None c xs h k = absurd h
+Appends_kept (Some old) (Some mid) None xs h k = absurd k
+Appends_kept (Some old) (Some mid) (Some new) xs h k = k ∙ h
 
 -- all that is left
 whole_rest : (d : ℕ) (s : List ℕ) → take (length s - d) (drop d s) ≡ drop d s
@@ -64,5 +70,25 @@ hands_more a b c text done n (pieces, h, r) k =
     (pieces ++ record { piece = rest; taken = n } ∷ [], Hands_more a b c pieces n rest h k, rests_more text 0 done n pieces rest r (whole_rest done text))
 
 pub hands_kept : (a b c : Option (List Handed)) (text piece : List ℕ) (done : ℕ) (e : SinkFault) → HandsRests a b text done → WriteHands {E = SinkFault} b c (Err e) piece
-    → (n : ℕ) × HandsRests a c text n
-hands_kept a b c text piece done e (pieces, h, r) k = (done, (pieces, Hands_kept a b c pieces e piece h k, r))
+    → HandsRests a c text done
+hands_kept a b c text piece done e (pieces, h, r) k = (pieces, Hands_kept a b c pieces e piece h k, r)
+
+-- ---- the ends of a text
+-- once no byte is left, the whole
+pub writes_whole : (old new : Option (List ℕ)) (before now : Option (List Handed)) (text : List ℕ) (done : ℕ) → done ≤ length text → length text ≤ done
+    → Appends old new (take done text) → HandsRests before now text done → WritesWhole old new before now text
+writes_whole old new before now text done within over front rests =
+    let all : done ≡ length text = omega (arith, within, over) in
+    (subst (Appends old new) (take_all done text over) front, subst (HandsRests before now text) all rests)
+
+-- what holds at each fault
+on_err : {T E P : Type 0} (r : Result T E) → P → OnErr r P
+on_err (Ok x) h = tt
+on_err (Err e) h = h
+
+-- after a write that took nothing, a front
+pub writes_front : (r : Result (Unit {0}) SinkFault) (old mid new : Option (List ℕ)) (before then now : Option (List Handed)) (text piece : List ℕ) (done : ℕ) (e : SinkFault)
+    → done < length text → Appends old mid (take done text) → Keeps mid new → HandsRests before then text done → WriteHands {E = SinkFault} then now (Err e) piece
+    → OnErr r (WritesFront old new before now text)
+writes_front r old mid new before then now text piece done e below front kept rests k =
+    on_err r (done, below, Appends_kept old mid new (take done text) front kept, hands_kept before then now text piece done e rests k)

@@ -4,7 +4,8 @@
 //! |---|---|
 //! | a fetch gives the bytes that the name has, and no more than were asked for; each fault has its cause | `Library` |
 //! | a write appends a front of the piece and says how much, or nothing | `Sink` |
-//! | a text is written whole, or a front of it; each write is handed all that is left | `write_all`, by what a sink may tell of the pieces that it was handed, as one in `dcx_unit_tests` does: `handed` of `Sink`, `specs/Pieces.antt` |
+//! | a text is written whole, or a front of it | `write_all` |
+//! | each write is handed all that is left; what they take adds up to what is written | `write_all`, by the pieces that a sink may tell, as one in `dcx_unit_tests` does: `specs/Pieces.antt` |
 //! | a fault of reading or writing is counted in the call that answers it | `Library`, `Sink`, `Rose` of `specs/Faults.antt` |
 //! | a library and a sink in memory tell what they hold | `told` and `written` of `MemoryLibrary`, `MemorySink`, `SteadyLibrary`, `SteadySink` |
 //! | `SteadyLibrary` and `SteadySink` never answer `Failed` | `failed` of `Library` and `Sink`, by their `faults`, which is 0 |

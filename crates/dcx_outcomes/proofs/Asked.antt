@@ -19,7 +19,7 @@ use Rattle.dcx_cache.specs.Programs.{SessionGives, IsUnformed, ProgramStops}
 use Rattle.dcx_cache.specs.Stops.{program_stop}
 use Rattle.dcx_cache.proofs.InTurn.{each_in_turn}
 use Rattle.dcx_cache.proofs.OneEnd.{one_program, program_apart, same_program, unfit}
-use Rattle.dcx_outcomes.specs.Asking.{EndsAt, node_place, IsAskedOutcome, AreAskedOutcomes, IsRightAt, FindsRight, IsSameEnd, AreOneEnd}
+use Rattle.dcx_outcomes.specs.Asking.{EndsAt, node_place, IsAskedOutcome, AreAskedOutcomes, IsRightAt, FindsRight, WantsMemory, IsSameEnd, AreOneEnd}
 use Rattle.dcx_outcomes.specs.Outcomes.{stop_place}
 use Rattle.dcx_outcomes.proofs.Zips.{zip_weaker, zip_both}
 
@@ -98,7 +98,7 @@ same_place p Same (Err s) (Ok (Err t)) h = absurd h
 same_place p Same (Err s) (Err t) h = ap (stop_place p) h
 
 -- what has the same numbers is the same
-pub same_end : {F E : Type 0} (x y : Result (Result F E) Stop) → IsSameEnd (λ (a b : F). a ≡ b) x y → x ≡ y
+same_end : {F E : Type 0} (x y : Result (Result F E) Stop) → IsSameEnd (λ (a b : F). a ≡ b) x y → x ≡ y
 same_end (Ok (Ok a)) (Ok (Ok b)) h = ap (λ z. Ok (Ok z)) h
 same_end (Ok (Ok a)) (Ok (Err t)) h = absurd h
 same_end (Ok (Ok a)) (Err t) h = absurd h
@@ -108,6 +108,14 @@ same_end (Ok (Err s)) (Err t) h = absurd h
 same_end (Err s) (Ok (Ok b)) h = absurd h
 same_end (Err s) (Ok (Err t)) h = absurd h
 same_end (Err s) (Err t) h = ap Err h
+
+-- outcomes with one end are the same, where an outcome is its end and its place
+pub alike : {F E O : Type 0} (end : O → Result (Result F E) Stop) (place : O → Option Place) (memory : E) → ((o q : O) → end o ≡ end q → place o ≡ place q → o ≡ q) →
+    (o q : O) (x y : Result (Result F E) Stop) → end o ≡ x → end q ≡ y → AreOneEnd memory (λ (a b : F). a ≡ b) x y → (IsSameEnd (λ (a b : F). a ≡ b) x y → place o ≡ place q) →
+    ¬ WantsMemory memory (end o) → ¬ WantsMemory memory (end q) → o ≡ q
+alike end place memory made o q x y t u one places n m =
+    let same = one (subst (λ e. ¬ WantsMemory memory e) t n) (subst (λ e. ¬ WantsMemory memory e) u m) in
+    made o q (t ∙ same_end x y same ∙ sym u) (places same)
 
 -- settings have one list of outcomes, where a program has one answer; `Alike` says what two outcomes with one end are
 pub are_one : {F E O : Type 0} (Gives : Problem → Pairs → Program Frac → Result F E → Type 0) (Tells : O → Result (Result F E) Stop → Type 0) (place : O → Option Place) (p : Problem)

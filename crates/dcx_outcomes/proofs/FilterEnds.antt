@@ -31,10 +31,10 @@ use Rattle.dcx_cache.proofs.Answered.{sound}
 use Rattle.dcx_iis.proofs.Right.{found_is_right}
 use Rattle.dcx_iis.proofs.Ends.{found_or_stopped, stops_are_one}
 use Rattle.dcx_iis.proofs.OneFound.{found_is_one}
-use Rattle.dcx_outcomes.specs.Asking.{IsRightAt, FindsRight, WantsMemory, IsSameEnd, AreOneEnd}
+use Rattle.dcx_outcomes.specs.Asking.{IsRightAt, FindsRight, AreOneEnd}
 use Rattle.dcx_outcomes.specs.Filters.{FilterGives, filter_end}
 use Rattle.dcx_outcomes.specs.FilterLaws.{HadMemory, FiltersAreRight, FiltersAreOne}
-use Rattle.dcx_outcomes.proofs.Asked.{are_right, same_end, are_one}
+use Rattle.dcx_outcomes.proofs.Asked.{are_right, alike, are_one}
 use Rattle.dcx_outcomes.proofs.Same.{same_point, same_multipliers}
 
 -- ---- what is found
@@ -100,22 +100,14 @@ same_told (the.Stop s) (the.Filtered b) e = absurd cc
 same_told (the.Stop s) (the.Filter t) e = absurd cc
 same_told (the.Stop s) (the.Stop t) e = let same : s ≡ t = cc in ap the.Stop same
 
-same_outcome : (o q : FilterOutcome) → IsSameEnd (λ (a b : Filtered). a ≡ b) (filter_end o.end) (filter_end q.end) → o.place ≡ q.place → o ≡ q
+same_outcome : (o q : FilterOutcome) → filter_end o.end ≡ filter_end q.end → o.place ≡ q.place → o ≡ q
 same_outcome o q h f =
-    let e : o.end ≡ q.end = same_told o.end q.end (same_end (filter_end o.end) (filter_end q.end) h) in
+    let e : o.end ≡ q.end = same_told o.end q.end h in
     λ i. record {
       end = e i;
       place = f i;
       placed = is_prop→PathP (λ j. is_some (f j) ≡ filter_names_node (e j)) (λ j. hlevel props) o.placed q.placed i;
     }
-
--- outcomes with one end are the same
-alike : (o q : FilterOutcome) (x y : Result (Result Filtered FilterStop) Stop) → filter_end o.end ≡ x → filter_end q.end ≡ y
-    → AreOneEnd filter.Memory (λ (a b : Filtered). a ≡ b) x y → (IsSameEnd (λ (a b : Filtered). a ≡ b) x y → o.place ≡ q.place)
-    → HadMemory o → HadMemory q → o ≡ q
-alike o q x y t u one places n m =
-    let same = one (subst (λ e. ¬ WantsMemory filter.Memory e) t n) (subst (λ e. ¬ WantsMemory filter.Memory e) u m) in
-    same_outcome o q (subst (λ e. IsSameEnd (λ (a b : Filtered). a ≡ b) e (filter_end q.end)) (sym t) (subst (IsSameEnd (λ (a b : Filtered). a ≡ b) x) (sym u) same)) (places same)
 
 pub filters_are_right : FiltersAreRight
 filters_are_right p limit settings outcomes ok h =
@@ -127,4 +119,4 @@ pub filters_are_one : FiltersAreOne
 filters_are_one p limit settings os qs ok h k =
     are_one (FilterGives limit) (λ (o : FilterOutcome) (e : Result (Result Filtered FilterStop) Stop). filter_end o.end ≡ e) (λ (o : FilterOutcome). o.place) p filter.Memory
     (λ (a b : Filtered). a ≡ b) (λ (o q : FilterOutcome). HadMemory o → HadMemory q → o ≡ q)
-    (one_answer p limit ok) alike settings os qs h k
+    (one_answer p limit ok) (alike (λ (o : FilterOutcome). filter_end o.end) (λ (o : FilterOutcome). o.place) filter.Memory same_outcome) settings os qs h k

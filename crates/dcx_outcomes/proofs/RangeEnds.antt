@@ -35,10 +35,10 @@ use Rattle.dcx_range.specs.Laws.{AreOneRange}
 use Rattle.dcx_range.proofs.Named.{tells_once, name_is}
 use Rattle.dcx_range.proofs.Right.{ranges_are_right as right_told}
 use Rattle.dcx_range.proofs.OneRange.{ranges_are_one as one_range}
-use Rattle.dcx_outcomes.specs.Asking.{IsRightAt, FindsRight, WantsMemory, IsSameEnd, AreOneEnd}
+use Rattle.dcx_outcomes.specs.Asking.{IsRightAt, FindsRight, AreOneEnd}
 use Rattle.dcx_outcomes.specs.Ranges.{IsKeptProgram, HasRange, LacksRange, TellsRange, TellsOf, range_end}
 use Rattle.dcx_outcomes.specs.RangeLaws.{RangeIsTold, HadMemory, RangesAreRight, RangesAreOne}
-use Rattle.dcx_outcomes.proofs.Asked.{are_right, same_end, are_one, right_there}
+use Rattle.dcx_outcomes.proofs.Asked.{are_right, alike, are_one, right_there}
 
 -- ---- the program with affine coefficients
 pub one_map : (p : Problem) (q r : Program ParamForm) → IsMapOf p q → IsMapOf p r → q ≡ r
@@ -149,25 +149,17 @@ same_told (the.Stop s) (the.Ranged b) e = absurd cc
 same_told (the.Stop s) (the.Range t) e = absurd cc
 same_told (the.Stop s) (the.Stop t) e = let same : s ≡ t = cc in ap the.Stop same
 
-same_outcome : (o q : RangeOutcome) → IsSameEnd (λ (a b : Ranged). a ≡ b) (range_end o.end) (range_end q.end) → o.place ≡ q.place → o ≡ q
+same_outcome : (o q : RangeOutcome) → range_end o.end ≡ range_end q.end → o.place ≡ q.place → o ≡ q
 same_outcome o q h f =
-    let e : o.end ≡ q.end = same_told o.end q.end (same_end (range_end o.end) (range_end q.end) h) in
+    let e : o.end ≡ q.end = same_told o.end q.end h in
     λ i. record {
       end = e i;
       place = f i;
       placed = is_prop→PathP (λ j. is_some (f j) ≡ range_names_node (e j)) (λ j. hlevel props) o.placed q.placed i;
     }
 
--- outcomes with one end are the same
-alike : (o q : RangeOutcome) (x y : Result (Result Ranged RangeStop) Stop) → range_end o.end ≡ x → range_end q.end ≡ y → AreOneEnd range.Memory (λ (a b : Ranged). a ≡ b) x y
-    → (IsSameEnd (λ (a b : Ranged). a ≡ b) x y → o.place ≡ q.place)
-    → HadMemory o → HadMemory q → o ≡ q
-alike o q x y t u one places n m =
-    let same = one (subst (λ e. ¬ WantsMemory range.Memory e) t n) (subst (λ e. ¬ WantsMemory range.Memory e) u m) in
-    same_outcome o q (subst (λ e. IsSameEnd (λ (a b : Ranged). a ≡ b) e (range_end q.end)) (sym t) (subst (IsSameEnd (λ (a b : Ranged). a ≡ b) x) (sym u) same)) (places same)
-
 pub ranges_are_one : RangesAreOne
 ranges_are_one p name limit settings os qs h k =
     are_one (TellsOf name limit) (λ (o : RangeOutcome) (e : Result (Result Ranged RangeStop) Stop). range_end o.end ≡ e) (λ (o : RangeOutcome). o.place) p range.Memory
     (λ (a b : Ranged). a ≡ b) (λ (o q : RangeOutcome). HadMemory o → HadMemory q → o ≡ q)
-    (λ s q x y fits given. one_answer p name limit s q x y) alike settings os qs h k
+    (λ s q x y fits given. one_answer p name limit s q x y) (alike (λ (o : RangeOutcome). range_end o.end) (λ (o : RangeOutcome). o.place) range.Memory same_outcome) settings os qs h k

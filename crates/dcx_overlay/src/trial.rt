@@ -16,7 +16,7 @@ fn whole(number: u32) -> Frac
 {
     match Frac::of(number as i128, 1) {
         Some(fraction) => fraction,
-        None => Frac::zero(),
+        None => unreachable!(),
     }
 }
 

@@ -1,8 +1,8 @@
 -- What the text of an answer tells, where the problem is known.
-use Rattle.std.proofs.Common.{◌≡◌, ℕ, neg_ℤ, List, ◌∷◌, ◌++◌, sym, ap, ◌∙◌, arith, append_assoc}
+use Rattle.std.proofs.Common.{◌≡◌, ℕ, ◌<◌, ◌^◌, neg_ℤ, List, [], ◌∷◌, ◌++◌, get_or, refl, sym, ap, ◌∙◌, arith, append_assoc}
 use Rattle.std.proofs.Math.IntN.{neg_ℤ-neg_ℤ}
 use Rattle.std.proofs.lemmas.List.{append_cancel_left}
-use Rattle.std.specs.Prelude.{codes}
+use Rattle.std.specs.Prelude.{codes, decimal}
 use Rattle.dcx_frac.specs.declared.fraction.Frac.{Frac}
 use Rattle.dcx_frac.specs.Frac.{num_of, den_of}
 use Rattle.dcx_frac.proofs.Parts.{frac_from_parts}
@@ -10,10 +10,16 @@ use Rattle.dcx_tree.specs.declared.constraint.Sense.{Sense}
 use Rattle.dcx_tree.specs.declared.constraint.Sense.TheVariants.{Minimize, Maximize}
 use Rattle.dcx_answer.specs.declared.answer.Answer.{Answer}
 use Rattle.dcx_answer.specs.declared.answer.Answer.TheVariants.{Optimal, Infeasible, Unbounded}
+use Rattle.dcx_answer.specs.declared.whole_answer.WholeAnswer.{WholeAnswer}
+use Rattle.dcx_answer.specs.declared.whole_answer.WholeAnswer.TheVariants as whole
 use Rattle.dcx_report.specs.Negated.{negated}
 use Rattle.dcx_lines.specs.Lines.{number_line, dual_lines}
 use Rattle.dcx_report.specs.AnswerText.{user_number, answer_text, var_lines, ray_lines}
-use Rattle.dcx_report.specs.SameText.{Layout, IsAnswerOf}
+use Rattle.dcx_report.specs.WholeText.{nodes_line, whole_text}
+use Rattle.dcx_report.specs.SameText.{Layout, IsAnswerOf, IsWholeAnswerOf, whole_optimum, no_whole_point, without_tree}
+use Rattle.dcx_lines.specs.Reading.{BeginsWithout}
+use Rattle.dcx_lines.proofs.Digits.{IsDigit, decimal_digits, decimal_injective_wide}
+use Rattle.dcx_lines.proofs.FracText.{same_before}
 use Rattle.dcx_lines.proofs.Reading.{number_read, points_read, duals_read}
 
 negated_injective : (f g : Frac) → negated f ≡ negated g → f ≡ g
@@ -79,3 +85,46 @@ answer_read layout sense (Unbounded p y b m) (Unbounded q z c n) r s h l e =
     let same_point : p ≡ q = values.0 in
     let same_ray : y ≡ z = changes.0 in
     (λ i. Unbounded (same_point i) (same_ray i) (same_bound i) (same_slope i), changes.1)
+
+-- ---- in whole numbers
+-- a line feed ends a number
+feed_ends : (xs : List ℕ) → BeginsWithout IsDigit (10 ∷ xs)
+feed_ends xs = record { byte = 10; tail = xs; is = refl; without = λ h. omega (arith, h.low) }
+
+-- the line of a number of nodes, and what stands behind it
+nodes_read : (n m : ℕ) (r s : List ℕ) → n < 2 ^ 32 → m < 2 ^ 32 → nodes_line n ++ r ≡ nodes_line m ++ s → (n ≡ m) × (r ≡ s)
+unfolding nodes_line
+nodes_read n m r s small fits e =
+    let line = λ (k : ℕ) (t : List ℕ).
+    let regrouped : ((codes "nodes " ++ decimal k) ++ 10 ∷ []) ++ t ≡ codes "nodes " ++ (decimal k ++ 10 ∷ t) = simp append_assoc in
+    regrouped in
+    let rest = append_cancel_left (codes "nodes ") _ _ (sym (line n r) ∙ e ∙ line m s) in
+    let parts = same_before IsDigit (decimal n) (decimal m) (10 ∷ r) (10 ∷ s) (decimal_digits n) (decimal_digits m) (feed_ends r) (feed_ends s) rest in
+    let behind : 10 ∷ r ≡ 10 ∷ s = parts.1 in
+    (decimal_injective_wide n m (omega (arith, small)) (omega (arith, fits)) parts.0, (cc))
+
+-- an optimum and that there is none differ at this byte
+apart : (r s : List ℕ) → codes " whole optimal\n" ++ r ≡ codes " whole infeasible\n" ++ s → ⊥
+apart r s e = let at : 111 ≡ 105 = ap (λ (l : List ℕ). get_or l 7 0) e in omega (arith, at)
+
+-- the text of an answer in whole numbers tells all of it but its tree
+pub whole_read : (layout : Layout) (sense : Sense) (a b : WholeAnswer) (r s : List ℕ) → IsWholeAnswerOf layout a → IsWholeAnswerOf layout b → whole_text sense a ++ r ≡ whole_text sense b ++ s
+    → (without_tree a ≡ without_tree b) × (r ≡ s)
+unfolding whole_text var_lines
+whole_read layout sense (whole.Optimal v p t n) (whole.Optimal w q u m) r s h k e =
+    let number = number_read (codes "value") (user_number sense v) (user_number sense w) _ _
+    (append_cancel_left (codes " whole optimal\n") _ _ (sym (grouped (codes " whole optimal\n") _ _ (nodes_line n) r) ∙ e ∙ grouped (codes " whole optimal\n") _ _ (nodes_line m) s)) in
+    let values = points_read (codes "var") p q _ _ (h.0 ∙ sym k.0) number.1 in
+    let count = nodes_read n m r s h.1 k.1 values.1 in
+    let same_value : v ≡ w = user_number_injective sense v w number.0 in
+    let same_point : p ≡ q = values.0 in
+    let same_nodes : n ≡ m = count.0 in
+    (λ i. whole_optimum (same_value i) (same_point i) (same_nodes i), count.1)
+whole_read layout sense (whole.Optimal v p t n) (whole.Infeasible u m) r s h k e = absurd (apart _ _ e)
+whole_read layout sense (whole.Infeasible t n) (whole.Optimal w q u m) r s h k e = absurd (apart _ _ (sym e))
+whole_read layout sense (whole.Infeasible t n) (whole.Infeasible u m) r s h k e =
+    let line = λ (k : ℕ) (z : List ℕ).
+    let regrouped : (codes " whole infeasible\n" ++ nodes_line k) ++ z ≡ codes " whole infeasible\n" ++ (nodes_line k ++ z) = simp append_assoc in
+    regrouped in
+    let count = nodes_read n m r s h k (append_cancel_left (codes " whole infeasible\n") _ _ (sym (line n r) ∙ e ∙ line m s)) in
+    (ap no_whole_point count.0, count.1)

@@ -1,5 +1,5 @@
 -- What a stop says stands on one line.
-use Rattle.std.proofs.Common.{◌≡◌, ◌≢◌, ℕ, Bool, true, false, not, ◌&&◌, eqb, eq-eqb, List, [], ◌∷◌, ◌++◌, None, Some, refl, sym, ◌∙◌, arith}
+use Rattle.std.proofs.Common.{◌≡◌, ◌≢◌, ℕ, Bool, true, false, not, ◌&&◌, eqb, eq-eqb, List, [], ◌∷◌, ◌++◌, None, Some, refl, sym, ◌∙◌, arith, append_assoc}
 use Rattle.std.specs.Prelude.{codes, decimal, IsTrue}
 use Rattle.std.specs.List.{AllByRecursion, list_all}
 use Rattle.std.specs.declared.option.Option.{Option}
@@ -19,10 +19,13 @@ use Rattle.dcx_answer.specs.declared.site.Site.{Site}
 use Rattle.dcx_answer.specs.declared.site.Site.TheVariants.{Node, Row, Map, Pivot, Answer}
 use Rattle.dcx_answer.specs.declared.stop.Stop.{Stop}
 use Rattle.dcx_answer.specs.declared.stop.Stop.TheVariants.{UnknownParam, MissingParam, ParamShape, ParamSign, TooLarge, ZeroDivisor, Wide, PivotLimit, Memory}
+use Rattle.dcx_answer.specs.declared.whole_answer.BranchStop.{BranchStop}
+use Rattle.dcx_answer.specs.declared.whole_answer.BranchStop.TheVariants as branch
 use Rattle.dcx_lines.specs.Pieces.{sides_text, shape_text, entry_text}
 use Rattle.dcx_report.specs.Pieces.{place_text, op_text, passes_text}
-use Rattle.dcx_report.specs.StopText.{entry_at_text, site_text, stop_name, stop_details}
-use Rattle.dcx_report.specs.SameText.{IsOnOneLine, SaysOneLine}
+use Rattle.dcx_report.specs.StopText.{entry_at_text, site_text, stop_name, stop_details, stopped_text}
+use Rattle.dcx_report.specs.WholeText.{node_text, limit_text, branch_stop_text}
+use Rattle.dcx_report.specs.SameText.{IsOnOneLine, SaysOneLine, BranchSaysOneLine}
 use Rattle.dcx_lines.proofs.Digits.{IsDigit, bytes_weaker, bytes_append, decimal_digits}
 use Rattle.dcx_lines.specs.Reading.{IsInk}
 use Rattle.dcx_lines.proofs.FracText.{frac_ink}
@@ -144,6 +147,31 @@ details_line place (TooLarge rows columns) h =
     followed (codes " rows " ++ decimal rows) (codes " columns ") (decimal columns) (labelled (codes " rows ") (decimal rows) refl (number rows)) refl (number columns)
 details_line place Memory h = tt
 
--- the name of a stop and what it carries stand on one line
-pub stop_line : (place : Option Place) (stop : Stop) → SaysOneLine stop → IsLine (stop_name stop ++ stop_details place stop)
-stop_line place stop h = joined (stop_name stop) (stop_details place stop) (name_line stop) (details_line place stop h)
+-- ---- a text of a stop
+-- a word, and one line behind it
+pub record IsStopLine (text : List ℕ) : Type 0 where
+  pub said : List ℕ
+  pub line : IsLine said
+  pub is : text ≡ codes " stopped " ++ (said ++ 10 ∷ [])
+
+pub stopped_line : (place : Option Place) (stop : Stop) → SaysOneLine stop → IsStopLine (stopped_text place stop)
+unfolding stopped_text
+stopped_line place stop h =
+    record { said = stop_name stop ++ stop_details place stop; line = joined (stop_name stop) (stop_details place stop) (name_line stop) (details_line place stop h); is = simp append_assoc }
+
+grouped : (word front name details end : List ℕ) → (((word ++ front) ++ name) ++ details) ++ end ≡ word ++ ((front ++ (name ++ details)) ++ end)
+grouped word front name details end = simp append_assoc
+
+pub branch_line : (stop : BranchStop) → BranchSaysOneLine stop → IsStopLine (branch_stop_text stop)
+unfolding branch_stop_text limit_text node_text
+branch_line branch.RelaxationUnbounded h = record { said = codes "30 RelaxationUnbounded"; line = literal (codes "30 RelaxationUnbounded") refl; is = refl }
+branch_line (branch.NodeLimit limit) h = record { said = codes "32 NodeLimit " ++ decimal limit; line = labelled (codes "32 NodeLimit ") (decimal limit) refl (number limit); is = refl }
+branch_line (branch.Node node stop) h =
+    let front = codes "33 Branch node " ++ decimal node ++ codes " " in
+    let known : IsLine front = joined (codes "33 Branch node " ++ decimal node) (codes " ") (labelled (codes "33 Branch node ") (decimal node) refl (number node)) (literal (codes " ") refl) in
+    record {
+      said = front ++ (stop_name stop ++ stop_details None stop);
+      line = joined front (stop_name stop ++ stop_details None stop) known (joined (stop_name stop) (stop_details None stop) (name_line stop) (details_line None stop h));
+      is = grouped (codes " stopped ") front (stop_name stop) (stop_details None stop) (codes "\n");
+    }
+branch_line branch.Memory h = stopped_line None Memory tt

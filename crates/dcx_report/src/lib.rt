@@ -13,7 +13,7 @@
 //! | of a parameter it is told from where to where it may move, and the line that the user's objective goes along | `range_lines` of `specs/RangeText.antt` |
 //! | a whole answer is told with the number of nodes of its run | `whole_text` of `specs/WholeText.antt` |
 //! | a last line counts the outcomes that were found warm, where that was wanted | `warm_line` of `specs/OutcomeText.antt` |
-//! | two runs over one problem without marked variables with the same report have the same answers | `laws::same_text_same_answers` |
+//! | two runs over one problem with the same report have the same answers | `laws::same_text_same_answers` |
 #![tactic(auto)]
 
 mod answer_lines;

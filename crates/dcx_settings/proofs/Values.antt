@@ -8,7 +8,7 @@ use Rattle.dcx_shape.specs.Shape.{sides_of}
 use Rattle.dcx_tokens.specs.declared.token.Token.{Token}
 use Rattle.dcx_settings.specs.Terminal.{Terminal, comma, open_square, close_square, terminals}
 use Rattle.dcx_settings.specs.Grammar.{Value, one, row, matrix, Item, Line}
-use Rattle.dcx_settings.specs.Machine.{at, start, alone, in_row, no_matrix, rows_before, assigned, bracket, ended, value_read}
+use Rattle.dcx_settings.specs.Machine.{Phase, at, start, alone, in_row, no_matrix, rows_before, assigned, bracket, ended, value_read}
 use Rattle.dcx_settings.specs.declared.stop.Stop.{Stop}
 use Rattle.dcx_settings.specs.declared.stop.Stop.TheVariants.{Memory, At}
 use Rattle.dcx_settings.specs.Steps.{read, read_by, Lacks, number_from, IsNumberRead, StopsAt, IsRowRead, RowStopsAt, IsStopAt, AreRowsRead, RowsStopAt, IsValueRead, ValueStopsAt, matrix_begun}
@@ -82,30 +82,18 @@ scalar_stops text us Memory l h = tt
 scalar_stops text us (At there) l h = λ lines is n. read_alone lines is n us l ∙ h lines is n alone
 
 -- ---- behind a bracket
-pub bracket_read : (us vs rest : List Terminal) (shape : Shape) (fs : List Frac) → us ≡ open_square ∷ vs → IsValueRead bracket vs shape fs rest → IsValueRead assigned us shape fs rest
-bracket_read us vs rest shape fs e h = record {
-  value = h.value;
-  good = h.good;
-  sides = h.sides;
-  numbers_are = h.numbers_are;
-  reads = λ lines is n. ap
-      (λ ts. read ts (at lines (assigned is n))) e ∙ h.reads lines is n;
-}
+-- a bracket leads from one phase to another
+module _ (from to : List Item → List ℕ → Phase)
+    (leads : (lines : List Line) (is : List Item) (n : List ℕ) (ts : List Terminal) → read (open_square ∷ ts) (at lines (from is n)) ≡ read ts (at lines (to is n))) where
+  pub bracket_read : (us vs rest : List Terminal) (shape : Shape) (fs : List Frac) → us ≡ open_square ∷ vs → IsValueRead to vs shape fs rest → IsValueRead from us shape fs rest
+  bracket_read us vs rest shape fs e h = record {
+    value = h.value;
+    good = h.good;
+    sides = h.sides;
+    numbers_are = h.numbers_are;
+    reads = λ lines is n. ap (λ ts. read ts (at lines (from is n))) e ∙ leads lines is n vs ∙ h.reads lines is n;
+  }
 
-pub bracket_stops : (text : List ℕ) (us vs : List Terminal) (s : Stop) → us ≡ open_square ∷ vs → ValueStopsAt bracket text vs s → ValueStopsAt assigned text us s
-bracket_stops text us vs Memory e h = tt
-bracket_stops text us vs (At there) e h = λ lines is n. ap (λ ts. read ts (at lines (assigned is n))) e ∙ h lines is n
-
-pub brackets_read : (us vs rest : List Terminal) (shape : Shape) (fs : List Frac) → us ≡ open_square ∷ vs → IsValueRead matrix_begun vs shape fs rest → IsValueRead bracket us shape fs rest
-brackets_read us vs rest shape fs e h = record {
-  value = h.value;
-  good = h.good;
-  sides = h.sides;
-  numbers_are = h.numbers_are;
-  reads = λ lines is n. ap
-      (λ ts. read ts (at lines (bracket is n))) e ∙ h.reads lines is n;
-}
-
-pub brackets_stop : (text : List ℕ) (us vs : List Terminal) (s : Stop) → us ≡ open_square ∷ vs → ValueStopsAt matrix_begun text vs s → ValueStopsAt bracket text us s
-brackets_stop text us vs Memory e h = tt
-brackets_stop text us vs (At there) e h = λ lines is n. ap (λ ts. read ts (at lines (bracket is n))) e ∙ h lines is n
+  pub bracket_stops : (text : List ℕ) (us vs : List Terminal) (s : Stop) → us ≡ open_square ∷ vs → ValueStopsAt to text vs s → ValueStopsAt from text us s
+  bracket_stops text us vs Memory e h = tt
+  bracket_stops text us vs (At there) e h = λ lines is n. ap (λ ts. read ts (at lines (from is n))) e ∙ leads lines is n vs ∙ h lines is n

@@ -89,11 +89,11 @@ module _ (words : List (List ℕ)) (files : Files) where
         (h.none ∙ sym k.none, h.fault ∙ ap faults.Form line ∙ sym k.fault)
 
   module _ (c d : Command) (x y : Sections) (f : ReadsSections words (Some files) c x) (g : ReadsSections words (Some files) d y) where
-    one_sections : x ≡ y
+    pub one_sections : x ≡ y
     one_sections = same_sections c d f.files g.files x y f.has g.has
 
     -- what holds of sections that are read
-    read_so : (P : Work → List Pairs → Sections → Type 0) → P f.files.asked.work f.files.asked.settings x → P g.files.asked.work g.files.asked.settings y
+    pub read_so : (P : Work → List Pairs → Sections → Type 0) → P f.files.asked.work f.files.asked.settings x → P g.files.asked.work g.files.asked.settings y
     read_so P h = subst (λ (z : Sections). P g.files.asked.work g.files.asked.settings z) one_sections (moved c d f.files g.files (λ w ss. P w ss x) h)
 
     failed_once : (m n : ℕ) (p q : CertFault) → IsFirstRefused f.files.asked.work.problem f.files.asked.settings x.list m p
@@ -101,7 +101,8 @@ module _ (words : List (List ℕ)) (files : Files) where
     failed_once m n p q h k =
         (refusals_are_one g.files.asked.work.problem g.files.asked.settings y.list).one m n p q (read_so (λ a ss z. IsFirstRefused a.problem ss z.list m p) h) k
 
-    passed_or_failed : (n : ℕ) (q : CertFault) → ArePassed f.files.asked.work.problem f.files.asked.settings x.list → IsFirstRefused g.files.asked.work.problem g.files.asked.settings y.list n q → ⊥
+    pub passed_or_failed : (n : ℕ) (q : CertFault) → ArePassed f.files.asked.work.problem f.files.asked.settings x.list
+        → IsFirstRefused g.files.asked.work.problem g.files.asked.settings y.list n q → ⊥
     passed_or_failed n q h k = (refusals_are_one g.files.asked.work.problem g.files.asked.settings y.list).apart n q (read_so (λ a ss z. ArePassed a.problem ss z.list) h) k
 
     migrated_to_one : (a b : Sections) → IsMigrated f.files.asked.work.problem f.files.asked.settings x a → IsMigrated g.files.asked.work.problem g.files.asked.settings y b → a ≡ b

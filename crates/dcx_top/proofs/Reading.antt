@@ -94,7 +94,7 @@ certificate_rising told risen rose name p count (run.Ranged parameter sense outc
 
 -- ---- what it gives
 -- as many settings as lines
-laid_length : (s : Pairs) (lines : List (List SettingItem)) (ts : List Pairs) → AreLaidOver s lines ts → length ts ≡ length lines
+pub laid_length : (s : Pairs) (lines : List (List SettingItem)) (ts : List Pairs) → AreLaidOver s lines ts → length ts ≡ length lines
 laid_length s [] [] h = refl
 laid_length s [] (t ∷ ts) h = absurd h
 laid_length s (line ∷ lines) [] h = absurd h

@@ -234,18 +234,36 @@ module _ (files : Files) (command : Command) where
       let fault = refused_one c h.fault k.fault (subst (λ x. IsRefused x h.fault) same h.refused) k.refused in
       one_told (read_ending k.fault) r t (subst (λ f. IsRefusedBy Settings (read_ending f) r) fault h.told) k.told
 
+  -- it is refused for the length of its certificate
+  pub record IsForLength (r : Refusal) : Type 0 where
+    pub name : List ℕ
+    pub named : certificate_name command ≡ Some name
+    pub bytes : List ℕ
+    pub there : files name ≡ Some bytes
+    pub more : most_bytes Certificate < length bytes
+    pub refusal : IsTooLong Certificate r
+
+  -- nothing else is refused where the problem is solved, or where a certificate is checked
+  pub for_length : (a : Work) (settings : List Pairs) (r : Refusal) → IsAcceptedWork (Some files) command a → Takes command a.problem → AllowsRange command a.problem
+      → AreSettingsOf (Some files) command a settings → Refuses files command r → IsForLength r
+  for_length a settings r g taken allowed are (in_script b of h) = absurd (in_script_once a r b g of h)
+  for_length a settings r g taken allowed are (in_problem b i refusing h) = absurd (whole_or_free b a r i g h (taken refusing))
+  for_length a settings r g taken allowed are (in_range b name i unmarked is h) = absurd (range_or_lack b a name r i g is h allowed)
+  for_length a settings r g taken allowed are (in_settings d name bytes i unmarked allows is there h) = absurd (settings_or_not a settings name bytes h.fault are is there h.refused)
+  for_length a settings r g taken allowed are (in_length d others name bytes i unmarked asked named there more long) =
+      record { name = name; named = named; bytes = bytes; there = there; more = more; refusal = long }
+
   -- the certificate isn't too long, where there is one
   abbrev pub IsShort : Type 0
   IsShort = (name bytes : List ℕ) → certificate_name command ≡ Some name → files name ≡ Some bytes → length bytes ≤ most_bytes Certificate
 
-  -- nothing is refused where the problem is solved
+  -- then nothing is refused
   pub never_refused : (a : Work) (settings : List Pairs) (r : Refusal) → IsAcceptedWork (Some files) command a → Takes command a.problem → AllowsRange command a.problem
       → AreSettingsOf (Some files) command a settings → IsShort → Refuses files command r → ⊥
-  never_refused a settings r g taken allowed are short (in_script b of h) = in_script_once a r b g of h
-  never_refused a settings r g taken allowed are short (in_problem b i refusing h) = whole_or_free b a r i g h (taken refusing)
-  never_refused a settings r g taken allowed are short (in_range b name i unmarked is h) = range_or_lack b a name r i g is h allowed
-  never_refused a settings r g taken allowed are short (in_settings d name bytes i unmarked allows is there h) = settings_or_not a settings name bytes h.fault are is there h.refused
-  never_refused a settings r g taken allowed are short (in_length d others name bytes i unmarked asked named there more long) = let few = short name bytes named there in omega (arith, few, more)
+  never_refused a settings r g taken allowed are short h =
+      let long = for_length a settings r g taken allowed are h in
+      let few = short long.name long.bytes long.named long.there in
+      omega (arith, few, long.more)
 
 -- nor where it is checked
 pub never_refused_check : (files : Files) (script : List ℕ) (a : Work) (r : Refusal) → IsAcceptedWork (Some files) (check script) a → Refuses files (check script) r → ⊥

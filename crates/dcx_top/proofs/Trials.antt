@@ -1,7 +1,6 @@
 -- A trial reads no file, so that its runs are those of words with no files.
-use Rattle.std.proofs.Common.{◌≡◌, ◌⊎◌, inl, inr, ℕ, List, Option, Some, None, refl, sym, subst, ◌∙◌}
+use Rattle.std.proofs.Common.{◌≡◌, inl, inr, ℕ, List, Some, None, refl, sym, subst, ◌∙◌}
 use Rattle.std.proofs.lemmas.Option.{none-some, same_Some}
-use Rattle.dcx_host.specs.Files.{Files}
 use Rattle.dcx_point.specs.Pairs.{Pairs}
 use Rattle.dcx_elab.specs.declared.work.Work.{Work}
 use Rattle.dcx_tree.specs.declared.problem.Problem.{Problem}

@@ -1,9 +1,8 @@
 -- How a run ends: its status, and what of its report is written.
-use Rattle.std.specs.Prelude.{◌≡◌, ◌≢◌, ◌<◌, ℕ, Bool, ◌⊎◌, List, length, ◌++◌, if◌then◌else◌}
+use Rattle.std.specs.Prelude.{◌≡◌, ◌≢◌, ℕ, Bool, ◌⊎◌, List, if◌then◌else◌}
 use Rattle.std.specs.List.{list_any, list_all}
 use Rattle.std.specs.declared.option.Option.{Option}
-use Rattle.std.specs.Io.KnownBytes.{Appends}
-use Rattle.dcx_host.specs.Pieces.{Handed, HandsRests}
+use Rattle.dcx_host.specs.Pieces.{Handed, WritesWhole, WritesFront}
 use Rattle.dcx_report.specs.ReportText.{text_of}
 use Rattle.dcx_report.specs.Ends.{is_answer, is_filtered, is_ranged, wants_memory, filter_wants_memory, range_wants_memory}
 use Rattle.dcx_report.specs.declared.run.Run.{Run}
@@ -29,9 +28,9 @@ status_of (Ranged parameter sense outcomes) = status_of_all (λ o. is_ranged o.e
 status_of ReadFault = 3
 status_of Memory = 5
 
--- the whole report is written, with the status of the run
-abbrev pub EndsWhole : Option (List ℕ) → Option (List ℕ) → Ended → Type 0
-EndsWhole old new ended = (ended.status ≡ status_of ended.run) × Appends old new (text_of ended.run)
+-- the whole report is written, with the status of the run: the sink's bytes were `old` and are `new`, and its pieces were `before` and are `now`
+abbrev pub EndsWhole : Option (List ℕ) → Option (List ℕ) → Option (List Handed) → Option (List Handed) → Ended → Type 0
+EndsWhole old new before now ended = (ended.status ≡ status_of ended.run) × WritesWhole old new before now (text_of ended.run)
 
 -- the status where not all of the report is written: 4 where a write failed, over every other status but the 5 of a run that wants memory;
 -- and 5 where memory is wanting, for the run or for a write
@@ -39,16 +38,12 @@ abbrev pub IsCutStatus : Type 0 → Ended → Type 0
 IsCutStatus risen ended = (risen × (status_of ended.run ≢ 5) × (ended.status ≡ 4)) ⊎ (ended.status ≡ 5)
 
 -- a front of the report is written, and something is left, since a write failed or memory ran out
-abbrev pub EndsEarly : Option (List ℕ) → Option (List ℕ) → Type 0 → Ended → Type 0
-EndsEarly old new risen ended = IsCutStatus risen ended × ((front rest : List ℕ) × (0 < length rest) × (text_of ended.run ≡ front ++ rest) × Appends old new front)
+abbrev pub EndsEarly : Option (List ℕ) → Option (List ℕ) → Option (List Handed) → Option (List Handed) → Type 0 → Ended → Type 0
+EndsEarly old new before now risen ended = IsCutStatus risen ended × WritesFront old new before now (text_of ended.run)
 
 -- `risen` says that the sink's count of faults rose in this run
-abbrev pub Reports : Option (List ℕ) → Option (List ℕ) → Type 0 → Ended → Type 0
-Reports old new risen ended = EndsWhole old new ended ⊎ EndsEarly old new risen ended
-
--- each write that took something was handed all that was left of the report, from its start on
-abbrev pub IsHandedWhole : Option (List Handed) → Option (List Handed) → Ended → Type 0
-IsHandedWhole old new ended = (n : ℕ) × HandsRests old new (text_of ended.run) n
+abbrev pub Reports : Option (List ℕ) → Option (List ℕ) → Option (List Handed) → Option (List Handed) → Type 0 → Ended → Type 0
+Reports old new before now risen ended = EndsWhole old new before now ended ⊎ EndsEarly old new before now risen ended
 
 -- the run that is told of a run: itself, or, where there is no memory for its report, that memory is wanting; the usage line wants none
 abbrev pub IsToldOf : Run → Run → Type 0

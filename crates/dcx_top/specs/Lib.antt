@@ -1,4 +1,8 @@
 -- What contracts cite: commands, files, runs with their causes, how they end, and which are right; and what the functions on the way give.
+-- `pub use`: what callers need of the libraries below.
+pub use Rattle.dcx_cert_runs.specs.Sections
+pub use Rattle.dcx_cert_runs.specs.Checking
+pub use Rattle.dcx_cert_runs.specs.Migrating
 pub mod Commands
 pub mod Files
 pub mod Reading
@@ -14,4 +18,3 @@ pub mod Migrated
 pub mod Verdicts
 pub mod Ended
 pub mod SameReport
-pub mod ReadBack

@@ -1,5 +1,5 @@
 -- What `certify` and `migrate` refuse of the same files.
-use Rattle.std.specs.Prelude.{◌≡◌, ⊤, ℕ, ◌⊎◌, List, Option, Some}
+use Rattle.std.specs.Prelude.{◌≡◌, ⊤, ℕ, ◌⊎◌, List, Some}
 use Rattle.dcx_host.specs.Faults.{Rose}
 use Rattle.dcx_host.specs.Files.{Files}
 use Rattle.dcx_report.specs.declared.run.Run.{Run}

@@ -1,7 +1,8 @@
 //! A certificate is read for a problem at settings: each section is checked, and all of them are written with the settings' values.
-ghost use Rattle.std.specs.Prelude.{◌≡◌, ◌≤◌, ◌⊎◌, false, ℕ, List, Some, Err, IfOk, IfErr, length};
+ghost use Rattle.std.specs.Prelude.{◌≡◌, ◌<◌, ◌≤◌, ◌^◌, ◌⊎◌, false, ℕ, List, Some, Err, IfOk, IfErr, length};
 ghost use Rattle.dcx_settings.specs.Grammar.{Every};
 ghost use Rattle.dcx_settings.specs.Meaning.{IsFull};
+ghost use Rattle.dcx_settings.specs.File.{most_settings};
 ghost use Rattle.dcx_point.specs.Pairs.{Pairs};
 ghost use Rattle.dcx_overlay.specs.Settings.{AreLaidOver};
 ghost use Rattle.dcx_cert_runs.specs.Migrating.{IsMigrated};
@@ -58,16 +59,13 @@ fn read_at<L: Library>(
     certificate: &str,
     library: &mut L,
 ) -> Result<Certified, Run>
+    requires { length settings.items < 2 ^ 32 }
     ensures reads { IfOk result (λ f. (f.problem ≡ problem) × (f.settings.items ≡ settings.items) × HasTextOf (L.told library.old) certificate.now f.problem f.settings.items f.sections) }
-    ensures ends { IfErr result (λ r. (r ≡ Run.Memory) ⊎ ReadsCertificate (L.told library.old) (Rose (L.faults library.old) (L.faults library.new)) certificate.now problem
-        (length settings.items) (Err r)) }
+    ensures ends { IfErr result (λ r. ReadsCertificate (L.told library.old) (Rose (L.faults library.old) (L.faults library.new)) certificate.now problem (length settings.items) (Err r)) }
     ensures same { L.told library.new ≡ L.told library.old }
     ensures never_falls { L.faults library.old ≤ L.faults library.new }
 {
-    let Ok(count) = u32::try_from(settings.len()) else {
-        drop((problem, settings));
-        return Err(Run::Memory);
-    };
+    let count = settings.len() as u32;
     match read_certificate(alloc, certificate, &problem, count, library) {
         Ok(sections) => Ok(Certified {
             problem,
@@ -89,7 +87,8 @@ fn read_sections<L: Library>(
     certificate: &str,
     library: &mut L,
 ) -> Result<Certified, Run>
-    requires { Every (Every IsFull) lines.now }
+    requires full { Every (Every IsFull) lines.now }
+    requires few { length lines.now ≤ most_settings }
     ensures reads { IfOk result (λ f. (f.problem ≡ accepted.work.problem) × AreLaidOver accepted.work.last lines.now f.settings.items
         × HasTextOf (L.told library.old) certificate.now f.problem f.settings.items f.sections) }
     ensures ends { IfErr result (λ r. (r ≡ Run.Memory) ⊎ ((laid : List Pairs) × AreLaidOver accepted.work.last lines.now laid

@@ -7,8 +7,7 @@
 //! | words and told files have one run, with one outcome at each setting, all of whose numbers are the same | `only` |
 //! | files are refused exactly where they are at fault, and the problem checked or solved exactly where they are not | `verdict` |
 //! | the usage line comes exactly where the words are no plain form | `usage` |
-//! | the report's text or a front of it is written, with its status | `reports` |
-//! | each write is handed all that is left of the report | `rests` |
+//! | the report's text or a front of it is written, with its status, and each write is handed all that is left of it | `reports` |
 //! | a `resolve` with `--warm` answers each setting from the columns that the settings before it left, where that can be, and counts those | `causes` |
 //! | a `range` tells of each setting how far the parameter may move, and the line that the value of the problem goes along meanwhile | `headline`, `causes` |
 //! | a problem with variables that are to be whole is solved by branch and bound: a whole optimum, or that there is no whole point, with the number of nodes of the run | `headline`, `causes` |
@@ -22,7 +21,7 @@ ghost use Rattle.dcx_top.specs.Headline.{IsRightRun};
 ghost use Rattle.dcx_top.specs.OneRun.{IsOnlyRun};
 ghost use Rattle.dcx_top.specs.Verdicts.{IsRightVerdict};
 ghost use Rattle.dcx_report.specs.ReportText.{text_of};
-ghost use Rattle.dcx_top.specs.Ended.{Reports, IsHandedWhole, IsToldOf};
+ghost use Rattle.dcx_top.specs.Ended.{Reports, IsToldOf};
 
 use crate::certifying::{certify, migrate};
 use crate::checking::check;
@@ -110,8 +109,7 @@ fn answer<L: Library, S: Ledger>(
 fn written<K: Sink>(run: Run, report: &[u8], sink: &mut K) -> Ended
     requires { report.now ≡ text_of run }
     ensures run { result.run ≡ run }
-    ensures reports { Reports (K.written sink.old) (K.written sink.new) (Rose (K.faults sink.old) (K.faults sink.new)) result }
-    ensures rests { IsHandedWhole (K.handed sink.old) (K.handed sink.new) result }
+    ensures reports { Reports (K.written sink.old) (K.written sink.new) (K.handed sink.old) (K.handed sink.new) (Rose (K.faults sink.old) (K.faults sink.new)) result }
 {
     match write_all(report, sink) {
         Ok(()) => Ended {
@@ -136,8 +134,7 @@ fn is_usage(run: &Run) -> bool
 /// Writes what is told of a run for whose report there is no memory, which its values take until they are dropped.
 fn written_in_short<K: Sink>(run: Run, sink: &mut K) -> Ended
     ensures told { IsToldOf run result.run }
-    ensures reports { Reports (K.written sink.old) (K.written sink.new) (Rose (K.faults sink.old) (K.faults sink.new)) result }
-    ensures rests { IsHandedWhole (K.handed sink.old) (K.handed sink.new) result }
+    ensures reports { Reports (K.written sink.old) (K.written sink.new) (K.handed sink.old) (K.handed sink.new) (Rose (K.faults sink.old) (K.faults sink.new)) result }
 {
     if is_usage(&run) {
         return written(run, usage_report(), sink);
@@ -149,8 +146,7 @@ fn written_in_short<K: Sink>(run: Run, sink: &mut K) -> Ended
 /// Writes the report of a run, or what is told of it where there is no memory for that.
 fn reported<K: Sink>(alloc: Global, run: Run, sink: &mut K) -> Ended
     ensures told { IsToldOf run result.run }
-    ensures reports { Reports (K.written sink.old) (K.written sink.new) (Rose (K.faults sink.old) (K.faults sink.new)) result }
-    ensures rests { IsHandedWhole (K.handed sink.old) (K.handed sink.new) result }
+    ensures reports { Reports (K.written sink.old) (K.written sink.new) (K.handed sink.old) (K.handed sink.new) (Rose (K.faults sink.old) (K.faults sink.new)) result }
 {
     match report_text(alloc, &run) {
         Ok(report) => written(run, report.as_slice(), sink),
@@ -162,8 +158,7 @@ fn reported<K: Sink>(alloc: Global, run: Run, sink: &mut K) -> Ended
 pub fn without_words<K: Sink>(sink: &mut K) -> Ended
     ensures run { result.run ≡ Run.Memory }
     ensures status { result.status ≡ 5 }
-    ensures reports { Reports (K.written sink.old) (K.written sink.new) (Rose (K.faults sink.old) (K.faults sink.new)) result }
-    ensures rests { IsHandedWhole (K.handed sink.old) (K.handed sink.new) result }
+    ensures reports { Reports (K.written sink.old) (K.written sink.new) (K.handed sink.old) (K.handed sink.new) (Rose (K.faults sink.old) (K.faults sink.new)) result }
 {
     let run = Run::Memory;
     written(run, memory_report(), sink)
@@ -187,8 +182,7 @@ pub fn run<L: Library, K: Sink, S: Ledger>(
     ensures only { IsOnlyRun (map string_bytes words.now) (L.told library.old) result.run }
     ensures verdict { IsRightVerdict (map string_bytes words.now) (L.told library.old) result.run }
     ensures usage { (result.run ≡ Run.Usage) ↔ (command_of (map string_bytes words.now) ≡ None) }
-    ensures reports { Reports (K.written sink.old) (K.written sink.new) (Rose (K.faults sink.old) (K.faults sink.new)) result }
-    ensures rests { IsHandedWhole (K.handed sink.old) (K.handed sink.new) result }
+    ensures reports { Reports (K.written sink.old) (K.written sink.new) (K.handed sink.old) (K.handed sink.new) (Rose (K.faults sink.old) (K.faults sink.new)) result }
     ensures same { L.told library.new ≡ L.told library.old }
 {
     let run = answer(alloc, words, library, steps);

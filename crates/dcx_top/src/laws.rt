@@ -9,7 +9,6 @@ ghost use Rattle.dcx_top.specs.Runs.{Causes};
 ghost use Rattle.dcx_top.specs.Headline.{IsRightRun};
 ghost use Rattle.dcx_top.specs.OneRun.{IsOnlyRun};
 ghost use Rattle.dcx_top.specs.Migrated.{MigrateRefusesAsCertify};
-ghost use Rattle.dcx_top.specs.ReadBack.{CertificatesAreReadBack};
 ghost use Rattle.dcx_top.specs.SameReport.{SameContentsSameReport};
 ghost use Rattle.dcx_top.specs.Verdicts.{IsRightVerdict};
 
@@ -37,10 +36,4 @@ pub fn migrate_refuses_as_certify()
 /// memory, for itself or at a setting.
 pub fn same_contents_same_report()
     ensures { SameContentsSameReport }
-{}
-
-/// Of the same script and settings file `certify` reads what `certificate` wrote, and tries its sections, where that has at most 67,108,864
-/// bytes; and refuses it for its length where it has more.
-pub fn certificates_are_read_back()
-    ensures { CertificatesAreReadBack }
 {}

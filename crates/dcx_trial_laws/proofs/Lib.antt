@@ -18,3 +18,9 @@ mod Graded
 mod Declared
 mod Objective
 mod Dpp
+pub mod Sized
+mod Does
+mod Room
+mod Residuals
+mod Vectors
+pub mod Carried

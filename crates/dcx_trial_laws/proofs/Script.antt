@@ -1,10 +1,11 @@
 -- The script in pieces, and the lists of numbers in it.
-use Rattle.std.proofs.Common.{◌≡◌, ℕ, zero, suc, ◌+◌, ◌%◌, ◌^◌, ◌<◌, ◌≤◌, Bool, true, false, cond, eqb, List, [], ◌∷◌, ◌++◌, map, flat_map, length, codes}
+use Rattle.std.proofs.Common.{◌≡◌, ℕ, zero, suc, ◌+◌, ◌*◌, ◌%◌, ◌^◌, ◌<◌, ◌≤◌, Bool, true, false, cond, eqb, List, [], ◌∷◌, ◌++◌, map, flat_map, length, codes}
 use Rattle.std.proofs.Common.{decimal, append_assoc, length-append, refl, sym, ap, ◌∙◌, subst, arith, IsAscii}
 use Rattle.std.specs.Prelude.{nat_lt}
 use Rattle.std.specs.List.{list_all, range_with_len}
 use Rattle.std.proofs.lemmas.Bool.Decides.{nat_tests}
-use Rattle.std.proofs.lemmas.Fmt.{IsAscii-decimal}
+use Rattle.std.proofs.lemmas.List.{length-map}
+use Rattle.std.proofs.lemmas.Fmt.{IsAscii-decimal, length-decimal-le}
 use Rattle.std.proofs.lemmas.Str.{IsAscii-append}
 use Rattle.std.proofs.lemmas.Bool.{and_parts}
 use Rattle.dcx_trial.specs.Trial.{places, height_at, heights, numbers_text, trial_text}
@@ -129,9 +130,26 @@ numbers_longer (k ∷ ks) =
     let l = length-append (decimal k) (flat_map (λ j. codes ", " ++ decimal j) ks) in
     omega (arith, m, l)
 
-range_longer : (from n : ℕ) → length (range_with_len from n) ≡ n
+pub range_longer : (from n : ℕ) → length (range_with_len from n) ≡ n
 range_longer from zero = refl
 range_longer from (suc n) = ap suc (range_longer (from + 1) n)
+
+-- and its text is at most 22 characters long for each number
+more_short : (ks : List ℕ) → AllSmall ks → length (flat_map (λ k. codes ", " ++ decimal k) ks) ≤ 22 * length ks
+more_short [] all = omega arith
+more_short (k ∷ ks) all =
+    let digits = length-decimal-le 20 k (omega arith) (omega arith) all.0 in
+    let m = more_short ks all.1 in
+    let l = length-append (codes ", " ++ decimal k) (flat_map (λ j. codes ", " ++ decimal j) ks) in
+    omega (arith, digits, m, l)
+
+numbers_short : (ks : List ℕ) → AllSmall ks → length (numbers_text ks) ≤ 22 * length ks
+numbers_short [] all = omega arith
+numbers_short (k ∷ ks) all =
+    let digits = length-decimal-le 20 k (omega arith) (omega arith) all.0 in
+    let m = more_short ks all.1 in
+    let l = length-append (decimal k) (flat_map (λ j. codes ", " ++ decimal j) ks) in
+    omega (arith, digits, m, l)
 
 pub size_below : (size : ℕ) → size ≤ length (trial_text size)
 size_below size =
@@ -142,6 +160,22 @@ size_below size =
     let n = numbers_longer (places size) in
     let r = range_longer 0 size in
     omega (arith, all, f, l, n, r)
+
+pub script_short : (size : ℕ) → size ≤ 20000 → length (trial_text size) ≤ 206 + 44 * size
+script_short size few =
+    let end = behind_text ++ last_text in
+    let last = numbers_text (heights size) ++ end in
+    let rest = middle_text ++ last in
+    let all = ap (λ (x : List ℕ). length x) (script_parts size) in
+    let f = length-append front_text (numbers_text (places size) ++ rest) in
+    let l = length-append (numbers_text (places size)) rest in
+    let m = length-append middle_text last in
+    let h = length-append (numbers_text (heights size)) end in
+    let p = numbers_short (places size) (places_small 0 size (omega arith)) in
+    let q = numbers_short (heights size) (heights_small 0 size (omega arith)) in
+    let r = range_longer 0 size in
+    let same = length-map (range_with_len 0 size) height_at in
+    omega (arith, all, f, l, m, h, p, q, r, same)
 
 -- ---- ASCII
 abbrev is_small : ℕ → Bool

@@ -7,6 +7,7 @@ use Rattle.dcx_syntax.specs.declared.tree.Script.{Script}
 use Rattle.dcx_syntax.specs.View.{script_view}
 use Rattle.dcx_read.specs.Parses.{IsReading}
 use Rattle.dcx_trial.specs.Trial.{trial_text}
+use Rattle.dcx_trial_laws.specs.Sizes.{IsAsked}
 use Rattle.dcx_trial_laws.specs.Tree.{trial_tree}
 
 -- whatever is read of the script of a size is the tree of that size
@@ -16,3 +17,7 @@ TrialIsRead = (size : ℕ) (script : Script) → IsReading (trial_text size) (Ok
 -- up to the most bytes of a file the script has no fault: nothing but want of memory keeps it from being read
 abbrev pub TrialHasNoFault : Type 0
 TrialHasNoFault = (size : ℕ) (f : ReadFault) → length (trial_text size) ≤ most_bytes → IsReading (trial_text size) (Err f) → f ≡ fault.Memory
+
+-- of each size that is asked for the script is no longer than a file may be
+abbrev pub TrialIsShort : Type 0
+TrialIsShort = (size : ℕ) → IsAsked size → length (trial_text size) ≤ most_bytes

@@ -1,5 +1,5 @@
 //! A sink that keeps each piece that it is handed: a text is handed on to it rest by rest.
-ghost use Rattle.std.specs.Prelude.{◌≡◌, ℕ, ◌++◌, [], ◌∷◌, map, take, Some, OnOk, OnErr, IfOk, IfErr};
+ghost use Rattle.std.specs.Prelude.{◌≡◌, ◌<◌, ℕ, ◌++◌, [], ◌∷◌, length, map, take, Some, OnOk, OnErr, IfOk, IfErr};
 ghost use Rattle.std.specs.List.{flat_map};
 ghost use Rattle.dcx_host.specs.Pieces.{AreRests};
 
@@ -56,10 +56,11 @@ impl Sink for TwoByTwo {
     }
 }
 
-/// Writes a text to a sink without pieces. They are its rests then.
+/// Writes a text to a sink without pieces. They are its rests then, and what was taken of them adds up to the text, or at a fault to a front of it.
 fn hand(text: &[u8], sink: &mut TwoByTwo) -> Result<(), SinkFault>
     requires { sink.old.pieces.items ≡ [] }
-    ensures { (n : ℕ) × AreRests text.now 0 (map (λ k. record { piece = k.piece; taken = k.taken }) sink.new.pieces.items) n }
+    ensures ok { OnOk result (AreRests text.now 0 (map (λ k. record { piece = k.piece; taken = k.taken }) sink.new.pieces.items) (length text.now)) }
+    ensures err { OnErr result ((n : ℕ) × (n < length text.now) × AreRests text.now 0 (map (λ k. record { piece = k.piece; taken = k.taken }) sink.new.pieces.items) n) }
 {
     write_all(text, sink)
 }

@@ -2,8 +2,6 @@
 use Rattle.std.proofs.Common.{sym, subst}
 use Rattle.dcx_tree.specs.declared.problem.Problem.{Problem}
 use Rattle.dcx_tree.specs.Meaning.{setting_of}
-use Rattle.dcx_cert_sections.specs.Shown.{IsCertOf}
-use Rattle.dcx_cert_outline.specs.Drawn.{problem_outline}
 use Rattle.dcx_graph.specs.Fixed.{HaveArrays}
 use Rattle.dcx_graph.specs.Answers.{IsAnswered, IsRead}
 use Rattle.dcx_cert_build.specs.Origins.{IsLaidOut}
@@ -49,7 +47,6 @@ returns-in-Ok-clause-section c limit shows =
     cert_at c.args.session.now.problem c.args.setting.now limit c.args.session.now.cached c.args.answer.now c.args.session.now.last l c.in-Some.reduced.now c.in-Some.rows.now shows
     is from of c.in-Ok.cert
     (subst (λ (z : Problem). IsBuilt z c.args.setting.now c.in-Some.reduced.now.program.origins c.in-Some.rows.now c.args.answer.now c.in-Ok.cert) c.problem.ensures.problem c.in-Ok.ensures.built)
-    (subst (λ (z : Problem). IsCertOf (problem_outline z) c.in-Ok.cert) c.problem.ensures.problem c.in-Ok.ensures.of_problem) c.in-Ok.ensures.format
 
 pub returns-in-Err-clause-section : goal.returns-in-Err-clause-section
 returns-in-Err-clause-section c limit shows =

@@ -1,6 +1,6 @@
 -- Before the first write nothing is written, and each write goes on where those before it ended.
 use Rattle.std.proofs.Common.{ℕ, arith, length-take, length-drop, zero-le, le_refl}
-use Rattle.dcx_host.proofs.Writing.{Appends_none, Appends_trans, fronts, hands_none, hands_more, hands_kept}
+use Rattle.dcx_host.proofs.Writing.{Appends_none, Appends_trans, fronts, hands_none, hands_more, writes_whole, writes_front}
 use Rattle.dcx_host.proofs.write.write_all.Goals as goal
 
 pub loop-done-init : goal.loop-done-init
@@ -14,8 +14,11 @@ loop-done-preserved g c = record {
   later = omega (arith, c.in_ok-done.ensures.never_falls);
 }
 
-pub returns-in_err-done-clause-rests : goal.returns-in_err-done-clause-rests
-returns-in_err-done-clause-rests g c = hands_kept _ _ _ _ _ _ _ c.loop-done.invariant.rests c.in_err-done.ensures.handed
+pub returns-in_err-done-clause-err : goal.returns-in_err-done-clause-err
+returns-in_err-done-clause-err g c =
+    writes_front _ _ _ _ _ _ _ _ _ _ _ (omega (arith, c.loop-done-test.true)) c.loop-done.invariant.front c.in_err-done.ensures.written c.loop-done.invariant.rests
+    c.in_err-done.ensures.handed
 
-pub returns-clause-rests : goal.returns-clause-rests
-returns-clause-rests g c = (c.loop-done.done, c.loop-done.invariant.rests)
+pub returns-clause-ok : goal.returns-clause-ok
+returns-clause-ok g c =
+    writes_whole _ _ _ _ _ _ c.loop-done.invariant.within (omega (arith, c.loop-done-test.false)) c.loop-done.invariant.front c.loop-done.invariant.rests

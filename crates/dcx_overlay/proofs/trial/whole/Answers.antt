@@ -8,13 +8,13 @@ use Rattle.dcx_frac.proofs.Integers.{over_unit}
 use Rattle.dcx_overlay.proofs.Wholes.{one_is_some, small_is_fraction}
 use Rattle.dcx_overlay.proofs.trial.whole.Goals as goal
 
-pub returns-in-Some : goal.returns-in-Some
-returns-in-Some c =
+pub returns : goal.returns
+returns c =
     let read : to_z w128 c.args.number ≡ pos c.args.number = to_z_pos w128 c.args.number (omega arith) in
     c.in-Some.ensures.value ∙ ap (λ z. whole z /ℚ whole (pos 1)) read ∙ over_unit (pos c.args.number)
 
-pub returns-in-None : goal.returns-in-None
-returns-in-None c =
+pub unreachable-requires : goal.unreachable-requires
+unreachable-requires c =
     let read : to_z w128 c.args.number ≡ pos c.args.number = to_z_pos w128 c.args.number (omega arith) in
     let h = subst (λ z. IsRepresentable (whole z /ℚ whole (pos 1))) (sym read) (small_is_fraction c.args.number c.ranges.number.fits) in
     let z = c.in-None.ensures.exists.1 (one_is_some, h) in absurd cc

@@ -16,8 +16,11 @@ use Rattle.dcx_top.proofs.certifying.read_all.Goals as goal
 pub returns-in-Some-clause-ends : goal.returns-in-Some-clause-ends
 returns-in-Some-clause-ends g c = let (bytes, there, gives) = c.in_ok-accepted.ensures.reads in at_whole c.in_ok-accepted.accepted bytes c.in-Some.refusal there gives c.in-Some.ensures refl
 
-pub read_sections-requires : goal.read_sections-requires
-read_sections-requires g c = let (bytes, there, spelled) = c.in-Ok.ensures.reads in items_full_in bytes c.in-Ok.lines spelled
+pub read_sections-requires-clause-full : goal.read_sections-requires-clause-full
+read_sections-requires-clause-full g c = let (bytes, there, spelled) = c.in-Ok.ensures.reads in items_full_in bytes c.in-Ok.lines spelled
+
+pub read_sections-requires-clause-few : goal.read_sections-requires-clause-few
+read_sections-requires-clause-few g c = let (bytes, there, spelled) = c.in-Ok.ensures.reads in spelled.settings_are.few
 
 pub returns-in-Ok-clause-reads : goal.returns-in-Ok-clause-reads
 returns-in-Ok-clause-reads g c =

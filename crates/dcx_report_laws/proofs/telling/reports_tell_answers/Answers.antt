@@ -1,6 +1,0 @@
--- Runs with the same report have the same answers.
-use Rattle.dcx_report_laws.proofs.Answers as holds
-use Rattle.dcx_report_laws.proofs.telling.reports_tell_answers.Goals as goal
-
-pub returns : goal.returns
-returns c = holds.reports_tell_answers
